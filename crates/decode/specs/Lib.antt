@@ -1,0 +1,6 @@
+pub mod Spans
+pub mod Nodes
+pub mod Tree
+pub mod Decode
+pub mod Agreement
+pub mod Growth

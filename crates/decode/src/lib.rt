@@ -1,0 +1,1 @@
+// From the bytes to the tables (nanovdb.rs, Decoder).

@@ -1,0 +1,1 @@
+// Float work by bits.

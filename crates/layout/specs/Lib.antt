@@ -1,0 +1,3 @@
+pub mod Bytes
+pub mod Coordinates
+pub mod Walk

@@ -1,0 +1,1 @@
+// Little-endian fields of a byte string, and the mask bits of a node.

@@ -1,0 +1,1 @@
+// Fills of lent slices.

@@ -1,0 +1,104 @@
+-- The cells that the world box is cut into: corners, the two boxes of voxels of a cell, and its figure.
+use Prim.Native.Nat.{ℕ, zero, suc, _+_, _*_, _%_, _/_}
+use mathlib.Core.List.{List, [], _∷_, _++_}
+use mathlib.Core.Path.{_≡_}
+use mathlib.Core.Bool.{true, cond, not}
+use mathlib.Core.Logic.{_⊎_}
+use lib.IntN.{ℤ, pos, sucℤ}
+use lib.Signed.{leZ}
+use lib.Ieee.{Float, binary32, binary64, add, sub, mul, div, lt, le, ofInt}
+use Rattle.refusals.specs.Results.{Result, ok, bind, need}
+use Rattle.float.specs.Fused.{trunc, floor}
+use Rattle.float.specs.Coordinate.{coordinate, floorZ}
+use Rattle.layout.specs.Coordinates.{Coord}
+use Rattle.medium.specs.Medium.{Point, Medium, Axis, ofX, ofY, ofZ, onPoint, onCoord}
+use Rattle.majorant.specs.Boxes.{Box}
+use Rattle.majorant.specs.Index.{worldToIndex, majorantIndex}
+
+-- the corner k of n on one axis: (1 - t) * low + t * high with t = k / n, each step rounded
+unfoldable pub corner : Medium → Axis → ℕ → ℕ → Float
+corner m a n k =
+    let t = div binary32 (ofInt binary32 (pos k)) (ofInt binary32 (pos n)) in
+    add binary32 (mul binary32 (sub binary32 (ofInt binary32 (pos 1)) t) (onPoint a (m .low))) (mul binary32 t (onPoint a (m .high)))
+
+-- cells on each axis
+pub record Cells : Type 0 where
+  pub x : ℕ
+  pub y : ℕ
+  pub z : ℕ
+
+-- where cell k stands on an axis: k = x + X * (y + Y * z)
+abbrev pub cellAxis : Cells → ℕ → Axis → ℕ
+cellAxis n k ofX = k % n .x
+cellAxis n k ofY = k / n .x % n .y
+cellAxis n k ofZ = k / (n .x * n .y)
+
+abbrev pub cellsOn : Cells → Axis → ℕ
+cellsOn n ofX = n .x
+cellsOn n ofY = n .y
+cellsOn n ofZ = n .z
+
+-- the corner of cell k with + 0 or + 1
+abbrev pub cellCorner : Medium → Cells → ℕ → ℕ → Point
+cellCorner m n k o = record { x = corner m ofX (n .x) (cellAxis n k ofX + o); y = corner m ofY (n .y) (cellAxis n k ofY + o); z = corner m ofZ (n .z) (cellAxis n k ofZ + o) }
+
+abbrev pub maxZ : ℤ → ℤ → ℤ
+maxZ a b = cond (leZ a b) b a
+
+abbrev pub minZ : ℤ → ℤ → ℤ
+minZ a b = cond (leZ a b) a b
+
+-- the ends of a box on one axis
+pub record Ends : Type 0 where
+  pub lo : ℤ
+  pub hi : ℤ
+
+-- the box of its three axes, or the fault of the first axis that has one
+abbrev pub boxOf : (Axis → Result Ends) → Result Box
+boxOf f =
+    bind (f ofX) (λ (x : Ends). bind (f ofY) (λ (y : Ends). bind (f ofZ) (λ (z : Ends).
+    ok (record { lo = record { x = x .lo; y = y .lo; z = z .lo }; hi = record { x = x .hi; y = y .hi; z = z .hi } }))))
+
+abbrev pub one : Float
+one = ofInt binary64 (pos 1)
+
+-- the first box on one axis: less and plus 1 in f64, truncated, clipped to the index box
+unfoldable pub firstEnds : Medium → Cells → ℕ → Axis → Result Ends
+firstEnds m n k a =
+    bind (coordinate (trunc binary64 (sub binary64 (majorantIndex m (cellCorner m n k 0) a) one))) (λ (l : ℤ).
+    bind (coordinate (trunc binary64 (add binary64 (majorantIndex m (cellCorner m n k 1) a) one))) (λ (h : ℤ).
+    ok (record { lo = maxZ l (onCoord a (m .indexLow)); hi = minZ h (onCoord a (m .indexHigh)) })))
+
+-- the second: floor, and floor + 1
+unfoldable pub secondEnds : Medium → Cells → ℕ → Axis → Result Ends
+secondEnds m n k a =
+    bind (coordinate (floor binary64 (worldToIndex m (cellCorner m n k 0) a))) (λ (l : ℤ).
+    bind (coordinate (add binary64 (floor binary64 (worldToIndex m (cellCorner m n k 1) a)) one)) (λ (h : ℤ).
+    ok (record { lo = l; hi = h })))
+
+-- the figure of cell k: the maximum of the first box; 17 where that of the second is greater
+unfoldable pub figure : (Box → Float) → Medium → Cells → ℕ → Result Float
+figure maximum m n k =
+    bind (boxOf (firstEnds m n k)) (λ (f : Box).
+    bind (boxOf (secondEnds m n k)) (λ (s : Box).
+    need (not (lt (maximum f) (maximum s))) 17 (ok (maximum f))))
+
+-- the first c figures, or the fault of the lowest cell that has one
+unfoldable pub figures : (Box → Float) → Medium → Cells → ℕ → Result (List Float)
+figures maximum m n zero = ok []
+figures maximum m n (suc c) =
+    bind (figures maximum m n c) (λ (l : List Float). bind (figure maximum m n c) (λ (v : Float). ok (l ++ (v ∷ []))))
+
+-- ---- where a point lies
+
+-- low ≤ p ≤ high on each axis, as numbers
+abbrev pub Between : Point → Point → Point → Type 0
+Between l h p = (a : Axis) → (le (onPoint a l) (onPoint a p) ≡ true) × (le (onPoint a p) (onPoint a h) ≡ true)
+
+-- cell k of n encloses the point. A cell whose corners rounding swapped encloses nothing.
+abbrev pub EnclosesIn : Medium → Cells → ℕ → Point → Type 0
+EnclosesIn m n k p = Between (cellCorner m n k 0) (cellCorner m n k 1) p
+
+-- one of the eight voxels around a point: floor or floor + 1 of world_to_index_f on each axis
+abbrev pub AroundIn : Medium → Point → Coord → Type 0
+AroundIn m p c = (a : Axis) → (onCoord a c ≡ floorZ (worldToIndex m p a)) ⊎ (onCoord a c ≡ sucℤ (floorZ (worldToIndex m p a)))

@@ -1,0 +1,4 @@
+pub mod Boxes
+pub mod Index
+pub mod Cells
+pub mod Build

@@ -1,0 +1,1 @@
+// The medium record and its checks.

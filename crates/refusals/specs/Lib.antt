@@ -1,0 +1,5 @@
+pub mod Results
+pub mod Faults
+pub mod TestLaws
+pub mod ResultLaws
+pub mod FaultLaws

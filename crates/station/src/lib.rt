@@ -1,0 +1,1 @@
+// The one claim, from the bytes to the figures.
