@@ -4,3 +4,10 @@ pub mod Tree
 pub mod Decode
 pub mod Agreement
 pub mod Growth
+pub mod Held
+pub mod HeldNodes
+pub mod Keys
+pub mod HeldTiles
+pub mod Passed
+pub mod Lookups
+pub mod Examples

@@ -4,7 +4,7 @@ use mathlib.Core.List.{List}
 use lib.ListN.{getD}
 use lib.IntN.{ℤ, pos, negsuc}
 use lib.Dec.{ltb}
-use mathlib.Core.Bool.{Bool, cond}
+use mathlib.Core.Bool.{cond}
 use lib.Ieee.{Float, ofBits, binary32, binary64}
 
 -- every number of the list is a byte

@@ -1,3 +1,5 @@
 pub mod Bytes
 pub mod Coordinates
 pub mod Walk
+pub mod Sample
+pub mod Examples

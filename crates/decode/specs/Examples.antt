@@ -1,0 +1,82 @@
+-- The decode on worked examples: what is accepted, what is refused, and with which number. Each is computed.
+use mathlib.Core.Path.{_≡_, refl, _∙_, ap}
+use mathlib.Core.List.{List, [], _∷_, _++_}
+use mathlib.Core.Bool.{Bool, false, cond}
+use Prim.Native.Nat.{ℕ, _+_, _^_}
+use lib.IntN.{pos, negsuc}
+use lib.Ieee.{ofBits, lt, eq, add, sub}
+use Rattle.refusals.specs.Results.{ok, refused, numberOf}
+use Rattle.float.specs.Fused.{narrow}
+use Rattle.layout.specs.Bytes.{le, signed}
+use Rattle.layout.specs.Coordinates.{Coord, Signed32, blockOf, sameBlock}
+use Rattle.layout.specs.Walk.{ofRoot, ofBackground, walk}
+use Rattle.layout.specs.Sample.{field, written, bytesOf, header, rootAt, sample, sampleWith}
+use Rattle.layout.specs.Examples.{sample-walk}
+use Rattle.sparse_grid.specs.declared.Entry.{Entry}
+use Rattle.sparse_grid.specs.Validate.{validate, densityFault}
+use Rattle.medium.specs.Medium.{boundsFault, indexFault, mapFault}
+use Rattle.decode.specs.Nodes.{Places, childTarget}
+use Rattle.decode.specs.Tree.{rootOf, keyPasses}
+use Rattle.decode.specs.Decode.{headerPasses, decodeDensity}
+use Rattle.decode.specs.Keys.{key-same}
+
+-- two spans (header and root), 999 roots and no nodes
+abbrev places : Places
+places = record { spans = 2; roots = 999; upper = 0; lower = 0; leaf = 0 }
+
+-- ---- keys and targets
+
+-- the block of a key
+key-block : (e : Entry) → rootOf 0x3ffffc0000000000 e ≡ record { x = negsuc 0; y = pos 0; z = pos 0; entry = e }
+unfolding signed
+key-block e = refl
+
+bit-62 : keyPasses (2 ^ 62) ≡ false
+bit-62 = refl
+
+target : childTarget 736 (pos 96) ≡ ok 832
+target = refl
+
+target-off : childTarget 736 (pos 80) ≡ refused 8
+target-off = refl
+
+-- ---- the sample
+
+-- the sample is accepted
+accepted : numberOf (decodeDensity sample places) ≡ 0
+unfolding decodeDensity headerPasses sample le signed narrow validate densityFault boundsFault indexFault mapFault ofBits lt eq sub add
+accepted = refl
+
+-- the walk reads 0.5 in the block (-1, 0, 0) and the background in every other
+reads : (c : Coord) → Signed32 c → walk sample c ≡ cond (sameBlock (record { x = negsuc 0; y = pos 0; z = pos 0 }) (blockOf c)) (record { bits = 0x3f000000; level = ofRoot }) (record { bits = 0; level = ofBackground })
+unfolding signed
+reads c s = sample-walk c ∙ ap (λ (t : Bool). cond t (record { bits = 0x3f000000; level = ofRoot }) (record { bits = 0; level = ofBackground })) (key-same 0x3ffffc0000000000 c tt s)
+
+-- bit 62 alone in the tile's key
+bit-62-refused : numberOf (decodeDensity (sampleWith (field 800 8 (2 ^ 62) ∷ [])) places) ≡ 7
+unfolding decodeDensity headerPasses written le signed narrow validate densityFault boundsFault indexFault mapFault ofBits lt eq sub add
+bit-62-refused = refl
+
+-- versions: a major of 32 passes, one of 33 does not
+version-refused : numberOf (decodeDensity (sampleWith (field 16 4 69206016 ∷ [])) places) ≡ 3
+unfolding decodeDensity headerPasses written le
+version-refused = refl
+
+-- ---- where the root may stand
+
+-- 832 bytes whose root of no tiles, its count field and its span, stands `offset` bytes behind the grid's header
+abbrev empty : ℕ → List ℕ
+empty offset = bytesOf 832 (header 832 offset ++ rootAt (672 + offset) 0)
+
+offset-63 : numberOf (decodeDensity (empty 63) places) ≡ 6
+unfolding decodeDensity headerPasses written le signed narrow validate densityFault boundsFault indexFault mapFault ofBits lt eq sub add
+offset-63 = refl
+
+offset-64 : numberOf (decodeDensity (empty 64) places) ≡ 0
+unfolding decodeDensity headerPasses written le signed narrow validate densityFault boundsFault indexFault mapFault ofBits lt eq sub add
+offset-64 = refl
+
+-- the sample itself with offset 63 reads 256 as its count, whose span passes the end
+offset-63-sample : numberOf (decodeDensity (sampleWith (field 696 8 63 ∷ [])) places) ≡ 5
+unfolding decodeDensity headerPasses written le signed narrow validate densityFault boundsFault indexFault mapFault ofBits lt eq sub add
+offset-63-sample = refl
