@@ -1,5 +1,6 @@
 pub mod Spans
 pub mod Nodes
+pub mod Inner
 pub mod Tree
 pub mod Decode
 pub mod Agreement

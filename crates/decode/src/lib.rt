@@ -1,1 +1,2 @@
 // From the bytes to the tables (nanovdb.rs, Decoder).
+mod spans;

@@ -1,0 +1,5 @@
+-- Laws of the span chains.
+pub mod Laws
+pub mod PutLaws
+pub mod ClaimLaws
+pub mod NodeLaws

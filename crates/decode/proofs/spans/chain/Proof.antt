@@ -1,0 +1,19 @@
+use native.Mathlib.Omega.{arith}
+use native.Mathlib.Nat.{mod-lt}
+use Rattle.decode.specs.Inner.WorkTable.{chainIn}
+use mathlib.Core.Path.{refl}
+use Rattle.decode.proofs.spans.chain.Statement.{statement}
+use Rattle.decode.proofs.spans.chain.Tie as tie
+
+add-result : tie.Need-add-result
+add-result c = omega arith
+
+rem-result : tie.Need-rem-result
+rem-result c = omega arith
+
+returns : tie.Need-returns
+unfolding chainIn
+returns c = (refl, mod-lt _ (c .pre .0))
+
+pub chain-spec : {M : Type 1} → statement M
+chain-spec = tie.close (tie.spec add-result rem-result returns)
