@@ -1,2 +1,3 @@
 -- What the contracts of private functions cite: the layout of the work table, and the tables while they are filled. No public contract cites it.
 pub mod WorkTable
+pub mod Packed

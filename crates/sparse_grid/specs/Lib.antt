@@ -1,3 +1,4 @@
 pub mod Tables
 pub mod Validate
 pub mod Lookup
+pub mod Count
