@@ -129,7 +129,7 @@ node-new {P} {b} {level} l es s k hl he g = record {
 
 -- ---- the values of a leaf
 
-leafValues-length : (b : List ℕ) (source n : ℕ) → length (leafValues b source n) ≡ n
+pub leafValues-length : (b : List ℕ) (source n : ℕ) → length (leafValues b source n) ≡ n
 unfolding leafValues
 leafValues-length b source zero = refl
 leafValues-length b source (suc n) = omega (arith, leafValues-length b source n, length-append (leafValues b source n) (ofBits binary32 (u32At b (source + 96 + 4 * n)) ∷ []))

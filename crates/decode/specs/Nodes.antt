@@ -50,36 +50,30 @@ abbrev pub childTarget : ℕ → ℤ → Result ℕ
 childTarget base (pos k) = need (eqb ((base + k) % 32) 0) 8 (ok (base + k))
 childTarget base (negsuc k) = need (ltb k base && eqb ((base - (k + 1)) % 32) 0) 8 (ok (base - (k + 1)))
 
+-- what is chosen by the level: leaf, lower, upper
+abbrev pub byLevel : {A : Type 0} → ℕ → A → A → A → A
+byLevel zero leaf lower upper = leaf
+byLevel (suc zero) leaf lower upper = lower
+byLevel (suc (suc n)) leaf lower upper = upper
+
 -- a node's size in bytes, its entries, and where its child mask and its table stand
 abbrev pub sizeOf : ℕ → ℕ
-sizeOf zero = 2144
-sizeOf (suc zero) = 33856
-sizeOf (suc (suc n)) = 270400
+sizeOf level = byLevel level 2144 33856 270400
 
 abbrev pub entriesOf : ℕ → ℕ
-entriesOf zero = 512
-entriesOf (suc zero) = 4096
-entriesOf (suc (suc n)) = 32768
+entriesOf level = byLevel level 512 4096 32768
 
 abbrev pub maskOf : ℕ → ℕ
-maskOf zero = 0
-maskOf (suc zero) = 544
-maskOf (suc (suc n)) = 4128
+maskOf level = byLevel level 0 544 4128
 
 abbrev pub tableOf : ℕ → ℕ
-tableOf zero = 96
-tableOf (suc zero) = 1088
-tableOf (suc (suc n)) = 8256
+tableOf level = byLevel level 96 1088 8256
 
 abbrev pub nodesAt : State → ℕ → ℕ
-nodesAt t zero = t .leafNodes
-nodesAt t (suc zero) = t .lowerNodes
-nodesAt t (suc (suc n)) = t .upperNodes
+nodesAt t level = byLevel level (t .leafNodes) (t .lowerNodes) (t .upperNodes)
 
 abbrev pub placesAt : Places → ℕ → ℕ
-placesAt p zero = p .leaf
-placesAt p (suc zero) = p .lower
-placesAt p (suc (suc n)) = p .upper
+placesAt p level = byLevel level (p .leaf) (p .lower) (p .upper)
 
 -- one node more at this level
 abbrev pub counted : State → ℕ → State

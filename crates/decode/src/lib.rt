@@ -1,2 +1,3 @@
 // From the bytes to the tables (nanovdb.rs, Decoder).
+mod nodes;
 mod spans;

@@ -1,5 +1,7 @@
 pub mod Bytes
 pub mod Coordinates
 pub mod Walk
+pub mod Reads
+pub mod FieldLaws
 pub mod Sample
 pub mod Examples

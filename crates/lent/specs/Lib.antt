@@ -1,2 +1,3 @@
+pub mod Literal
 pub mod Padded
 pub mod PaddedLaws

@@ -1,0 +1,24 @@
+-- What is chosen by the level, from the code's tests of it. Assumes nothing.
+use mathlib.Core.Path.{_≡_, refl}
+use Prim.Native.Nat.{ℕ, zero, suc, _<_}
+use native.Mathlib.Omega.{arith}
+use Rattle.decode.specs.Nodes.{byLevel}
+
+pub at-leaf : {A : Type 0} (level : ℕ) (a b c : A) → level ≡ 0 → a ≡ byLevel level a b c
+at-leaf zero a b c e = refl
+at-leaf (suc level) a b c e = absurd (omega arith)
+
+pub at-lower : {A : Type 0} (level : ℕ) (a b c : A) → level ≡ 1 → b ≡ byLevel level a b c
+at-lower zero a b c e = absurd (omega arith)
+at-lower (suc zero) a b c e = refl
+at-lower (suc (suc level)) a b c e = absurd (omega arith)
+
+pub at-upper : {A : Type 0} (level : ℕ) (a b c : A) → (level ≡ 0 → ⊥) → (level ≡ 1 → ⊥) → c ≡ byLevel level a b c
+at-upper zero a b c m n = absurd (m refl)
+at-upper (suc zero) a b c m n = absurd (n refl)
+at-upper (suc (suc level)) a b c m n = refl
+
+-- a place of an internal node's table is at no leaf
+pub room-none : (level lower upper at : ℕ) → at < byLevel level 0 lower upper → level ≡ 0 → ⊥
+room-none zero lower upper at h e = omega arith
+room-none (suc level) lower upper at h e = omega arith

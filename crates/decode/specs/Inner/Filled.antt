@@ -1,0 +1,157 @@
+-- The lent tables while nodes are read into them, beside the state of the definition: what the contracts of the node reader say.
+use Prim.Native.Nat.{ℕ, zero, suc, _+_, _*_, _/_, _<_, _≤_}
+use mathlib.Core.Path.{_≡_}
+use mathlib.Core.List.{List, [], _∷_, _++_, map}
+use lib.ListN.{length, set}
+use lib.Ieee.{Float}
+use Rattle.refusals.specs.Results.{Result, ok, refused}
+use Rattle.float.specs.Zero.{+0}
+use Rattle.lent.specs.Padded.{padded}
+use Rattle.sparse_grid.specs.declared.Entry.{Entry}
+use Rattle.decode.specs.Nodes.{byLevel, Places, State, Read, Slots, leafValues, slotRead, node}
+use Rattle.decode.specs.Decode.{linkOf, valueOf}
+use Rattle.decode.specs.HeldNodes.{Inv0, Inv1, Inv2}
+use Rattle.decode.specs.Inner.WorkTable.{Rep, nodes, spans}
+use Rattle.decode.specs.Inner.Packed.{Packed}
+use Rattle.decode.specs.declared.spans.Spans.{Spans}
+use Rattle.decode.specs.declared.nodes.State as Progress
+use Rattle.decode.specs.declared.nodes.Target as Target
+use Rattle.decode.specs.declared.nodes.Placed as Placed
+use Rattle.decode.specs.declared.nodes.Step as Step
+
+-- ---- numbers and stores that go by the level
+
+abbrev pub ofTarget : Target.Target → Result ℕ
+ofTarget (Target.the-variants.At n) = ok n
+ofTarget (Target.the-variants.Refused n) = refused n
+
+abbrev pub countIn : Progress.State → ℕ → ℕ
+countIn s level = byLevel level (s .leaves) (s .lowers) (s .uppers)
+
+abbrev pub placesIn : ℕ → ℕ → ℕ → ℕ → ℕ
+placesIn level upper lower leaf = byLevel level (leaf / 512) (lower / 4096) (upper / 32768)
+
+abbrev pub grownBy : ℕ → Progress.State → Spans → Progress.State
+grownBy level s p = byLevel level
+    (record { spans = p; uppers = s .uppers; lowers = s .lowers; leaves = s .leaves + 1 })
+    (record { spans = p; uppers = s .uppers; lowers = s .lowers + 1; leaves = s .leaves })
+    (record { spans = p; uppers = s .uppers + 1; lowers = s .lowers; leaves = s .leaves })
+
+abbrev pub roomIn : ℕ → ℕ → ℕ → ℕ
+roomIn level upper lower = byLevel level 0 lower upper
+
+-- a store to the lower table at level 1, and to the upper one at level 2
+abbrev pub atLower : {A : Type 0} → ℕ → List A → ℕ → A → List A
+atLower level l at x = byLevel level l (set l at x) l
+
+abbrev pub atUpper : {A : Type 0} → ℕ → List A → ℕ → A → List A
+atUpper level l at x = byLevel level l l (set l at x)
+
+-- the values of the leaf at source are put behind `base` values
+pub record LeafFilled (b : List ℕ) (source base : ℕ) (before after : List Float) : Type 0 where
+  pub kept : length after ≡ length before
+  pub filled : (l : List Float) → before ≡ padded (length before) +0 l → length l ≡ base → after ≡ padded (length before) +0 (l ++ leafValues b source 512)
+
+-- ---- the tables beside the definition's state
+
+pub record Tabs : Type 0 where
+  pub work : List ℕ
+  pub upperLinks : List ℕ
+  pub upperValues : List Float
+  pub lowerLinks : List ℕ
+  pub lowerValues : List Float
+  pub leafValues : List Float
+
+abbrev pub tabs : List ℕ → List ℕ → List Float → List ℕ → List Float → List Float → Tabs
+tabs work upperLinks upperValues lowerLinks lowerValues leafValues = record { work = work; upperLinks = upperLinks; upperValues = upperValues; lowerLinks = lowerLinks; lowerValues = lowerValues; leafValues = leafValues }
+
+-- what the code needs to stay inside its tables: whole chains, few nodes, paired tables
+pub record Fit (len : ℕ) (t : Tabs) (s : Progress.State) : Type 0 where
+  pub rep : Rep (t .work) (s .spans .count)
+  pub packed : Packed len (nodes (t .work) (s .spans .count))
+  pub total : s .spans .count ≡ s .uppers + s .lowers + s .leaves
+  pub upper-pair : length (t .upperValues) ≡ length (t .upperLinks)
+  pub lower-pair : length (t .lowerValues) ≡ length (t .lowerLinks)
+
+-- no table changes its length
+pub record Kept (t u : Tabs) : Type 0 where
+  pub work : length (u .work) ≡ length (t .work)
+  pub upperLinks : length (u .upperLinks) ≡ length (t .upperLinks)
+  pub upperValues : length (u .upperValues) ≡ length (t .upperValues)
+  pub lowerLinks : length (u .lowerLinks) ≡ length (t .lowerLinks)
+  pub lowerValues : length (u .lowerValues) ≡ length (t .lowerValues)
+  pub leafValues : length (u .leafValues) ≡ length (t .leafValues)
+
+-- the tables hold a state of the definition, with the entries of a lower and an upper node that are still being read behind the others
+pub record Holds (t : Tabs) (s : Progress.State) (d : State) (lower upper : List Entry) : Type 0 where
+  pub spans-are : d .spans ≡ spans (t .work) (s .spans .count) (s .spans .root) (s .spans .limit)
+  pub uppers : d .upperNodes ≡ s .uppers
+  pub lowers : d .lowerNodes ≡ s .lowers
+  pub leaves : d .leafNodes ≡ s .leaves
+  pub upperLinks : t .upperLinks ≡ padded (length (t .upperLinks)) 0 (map linkOf (d .upper ++ upper))
+  pub upperValues : t .upperValues ≡ padded (length (t .upperValues)) +0 (map valueOf (d .upper ++ upper))
+  pub lowerLinks : t .lowerLinks ≡ padded (length (t .lowerLinks)) 0 (map linkOf (d .lower ++ lower))
+  pub lowerValues : t .lowerValues ≡ padded (length (t .lowerValues)) +0 (map valueOf (d .lower ++ lower))
+  pub leafValues : t .leafValues ≡ padded (length (t .leafValues)) +0 (d .leaf)
+
+-- the places that the tables give
+pub record Lends (t : Tabs) (p : Places) : Type 0 where
+  pub spans : p .spans ≡ length (t .work) / 4
+  pub upper : p .upper ≡ length (t .upperLinks) / 32768
+  pub lower : p .lower ≡ length (t .lowerLinks) / 4096
+  pub leaf : p .leaf ≡ length (t .leafValues) / 512
+
+-- a node of this level may be read next: the nodes of the levels below are whole, and none of this level is open
+abbrev pub Ready : ℕ → List ℕ → State → Type 0
+Ready zero b d = Inv0 b d
+Ready (suc zero) b d = Inv1 b d
+Ready (suc (suc n)) b d = Inv2 b d
+
+abbrev pub Shut : ℕ → List Entry → List Entry → Type 0
+Shut zero lower upper = Unit {0}
+Shut (suc zero) lower upper = lower ≡ []
+Shut (suc (suc n)) lower upper = (lower ≡ []) × (upper ≡ [])
+
+pub record Reads (level : ℕ) (b : List ℕ) (t : Tabs) (s : Progress.State) (p : Places) (d : State) (lower upper : List Entry) : Type 0 where
+  pub holds : Holds t s d lower upper
+  pub lends : Lends t p
+  pub ready : Ready level b d
+  pub shut : Shut level lower upper
+
+-- what `node` answers is what the definition's `node` does, and the tables then hold its state
+abbrev pub NodeSays : ℕ → List ℕ → ℕ → Tabs → Progress.State → Tabs → Placed.Placed → Type 0
+NodeSays level b source t s u (Placed.the-variants.Node k v) = (p : Places) (d : State) (lower upper : List Entry) → Reads level b t s p d lower upper
+    → (e : State) × (node level b p source d ≡ ok (record { number = k; state = e })) × Holds u v e lower upper
+NodeSays level b source t s u (Placed.the-variants.Refused n) = (p : Places) (d : State) (lower upper : List Entry) → Reads level b t s p d lower upper → node level b p source d ≡ refused n
+
+abbrev pub NodeFit : ℕ → Tabs → Placed.Placed → Type 0
+NodeFit len u (Placed.the-variants.Node k v) = Fit len u v × (k < 4294967295)
+NodeFit len u (Placed.the-variants.Refused n) = Unit {0}
+
+-- ---- one slot of a node that is being read
+
+-- its entries so far are the open ones of its level; `outer` are those of the upper node around a lower one
+abbrev pub lowerOpen : ℕ → List Entry → List Entry
+lowerOpen level es = byLevel level [] es []
+
+abbrev pub upperOpen : ℕ → List Entry → List Entry → List Entry
+upperOpen level es outer = byLevel level outer outer es
+
+-- how many entries of its level stand before slot i
+abbrev pub before : ℕ → State → List Entry → ℕ
+before level d es = byLevel level 0 (length (d .lower ++ es)) (length (d .upper ++ es))
+
+pub record ReadsSlot (level : ℕ) (b : List ℕ) (at : ℕ) (t : Tabs) (s : Progress.State) (p : Places) (now : Slots) (outer : List Entry) : Type 0 where
+  pub holds : Holds t s (now .state) (lowerOpen level (now .entries)) (upperOpen level (now .entries) outer)
+  pub lends : Lends t p
+  pub ready : (l : ℕ) → level ≡ suc l → Ready l b (now .state)
+  pub place : before level (now .state) (now .entries) ≡ at
+
+abbrev pub SlotSays : ℕ → List ℕ → ℕ → ℕ → ℕ → Tabs → Progress.State → Tabs → Step.Step → Type 0
+SlotSays level b source base i t s u (Step.the-variants.Next v) = (l : ℕ) → level ≡ suc l → (p : Places) (now : Slots) (outer : List Entry) → ReadsSlot level b (base + i) t s p now outer
+    → (next : Slots) × (slotRead b (node l b p) level source i now ≡ ok next) × Holds u v (next .state) (lowerOpen level (next .entries)) (upperOpen level (next .entries) outer)
+SlotSays level b source base i t s u (Step.the-variants.Stop n) = (l : ℕ) → level ≡ suc l → (p : Places) (now : Slots) (outer : List Entry) → ReadsSlot level b (base + i) t s p now outer → slotRead b (node l b p) level source i now ≡ refused n
+
+abbrev pub SlotFit : ℕ → Tabs → Step.Step → Type 0
+SlotFit len u (Step.the-variants.Next v) = Fit len u v
+SlotFit len u (Step.the-variants.Stop n) = Unit {0}

@@ -1,0 +1,29 @@
+-- `layout::signed_u32` meets its contract: both halves of the range, by the one law over the width. Assumes nothing.
+use mathlib.Core.Path.{refl}
+use mir.Syntax.{w32}
+use borrow.Author.Needs.{needs}
+use Rattle.layout.proofs.Signs.{signed-toZ, negated-fits, negated-is}
+use Rattle.layout.proofs.signed_u32.Statement.{statement}
+use Rattle.layout.proofs.signed_u32.Tie as tie
+
+cast-result : tie.Need-cast-result
+cast-result c = search needs
+
+returns : tie.Need-returns
+returns c = signed-toZ w32 _ refl
+
+sub-below : tie.Need-sub-below
+sub-below c = search needs
+
+cast-result-2 : tie.Need-cast-result-2
+cast-result-2 c = search needs
+
+sub-result : tie.Need-sub-result
+sub-result c = negated-fits w32 (c .before .args .n) refl refl (c .before .fits .n) (c .if1 .left)
+
+returns-2 : tie.Need-returns-2
+returns-2 c = negated-is w32 (c .before .args .n) refl refl (c .before .fits .n) (c .if1 .left)
+
+pub signed-u32-spec : {M : Type 1} → statement M
+signed-u32-spec =
+    tie.close (tie.spec cast-result returns sub-below cast-result-2 sub-result returns-2)

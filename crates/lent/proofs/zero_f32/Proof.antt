@@ -1,0 +1,43 @@
+-- `lent::zero_f32` meets its contract: after i turns the first i elements are zero. Assumes nothing.
+use Prim.Native.Nat.{_-_}
+use native.Mathlib.Omega.{arith}
+use lib.ListN.{length}
+use lib.Ieee.{binary32}
+use Rattle.float.specs.Zero.{+0}
+use Rattle.lent.specs.Literal.{zero-literal}
+use Rattle.lent.proofs.Fill.{Filled, fill-none, fill-more, fill-all}
+use Rattle.lent.proofs.zero_f32.Statement.{statement}
+use Rattle.lent.proofs.zero_f32.Tie as tie
+
+abbrev Inv-loop : tie.InvT-loop
+Inv-loop values₀ i₀ values i = Filled +0 values₀ i values
+
+abbrev μ-loop : tie.MeasureT-loop
+μ-loop values₀ i₀ values i = length values₀ - i
+
+loop-holds : tie.Need-loop-holds Inv-loop μ-loop
+loop-holds c = fill-none _ _
+
+mul-values : tie.Need-mul-values Inv-loop μ-loop
+mul-values c = omega arith
+
+slice-write-values : tie.Need-slice-write-values Inv-loop μ-loop
+slice-write-values c = omega arith
+
+add-i : tie.Need-add-i Inv-loop μ-loop
+add-i c = omega arith
+
+loop-less : tie.Need-loop-less Inv-loop μ-loop
+loop-less c = omega arith
+
+loop-again : tie.Need-loop-again Inv-loop μ-loop
+loop-again c = rw (zero-literal binary32) (fill-more _ _ _ _ (c .before .loop .inv) (omega arith))
+
+same-length : tie.Need-same-length Inv-loop μ-loop
+same-length c = c .before .loop .inv .same
+
+returns : tie.Need-returns Inv-loop μ-loop
+returns c = fill-all _ _ _ _ (c .before .loop .inv) (omega arith)
+
+pub zero-f32-spec : {M : Type 1} → statement M
+zero-f32-spec = tie.close (tie.spec Inv-loop μ-loop loop-holds mul-values slice-write-values add-i loop-less loop-again same-length returns)
