@@ -6,7 +6,7 @@ ghost use Prim.Native.Nat.{ℕ, _+_, _-_, _*_, _/_, _%_, _<_, _≤_, _^_};
 ghost use lib.ListN.{length, getD};
 ghost use lib.Dec.{ltb, eqb};
 ghost use Rattle.decode.specs.Spans.{overlaps, seen};
-ghost use Rattle.decode.specs.Inner.WorkTable.{size, spans, nodes, headerSpan, rootSpan, chainIn, Rep, MetIn, MetAt, FoundIn, seenOf, putS, Pushed, ClaimOut, RootOut, EnterOut};
+ghost use Rattle.decode.specs.Inner.WorkTable.{size, spans, nodes, headerSpan, rootSpan, chainIn, Rep, MetIn, MetAt, FoundIn, seenOf, Small, putS, Pushed, ClaimOut, RootOut, EnterOut};
 
 pub enum Found {
     At(u32),
@@ -145,7 +145,7 @@ fn meets_at(work: &[u64], count: usize, level: u64, start: u64, end: u64) -> boo
 // The number of the node of this level that starts here, if it has been claimed.
 pub(crate) fn find(work: &[u64], st: Spans, start: u64, level: u64) -> Found
     requires { ⌜ Rep (now work) (st .count) × (level < 3) ⌝ }
-    ensures { λ r. ⌜ seenOf r ≡ seen (spans (now (work .entry)) (st .count) (st .root) (st .limit)) start level ⌝ }
+    ensures { λ r. ⌜ (seenOf r ≡ seen (spans (now (work .entry)) (st .count) (st .root) (st .limit)) start level) × Small r ⌝ }
 {
     let n = work.len() / 4;
     let size = size_of(level);
@@ -189,7 +189,7 @@ fn put(work: &mut [u64], h: usize, count: usize, start: u64, word: u64)
 
 // Claims a node, which no span overlaps.
 pub(crate) fn push(work: &mut [u64], st: Spans, start: u64, level: u64, number: u32) -> Spans
-    requires { ⌜ (Rep (now work) (st .count) × (st .count * 4 + 12 ≤ length (now work))) × ((level < 3) × (overlaps (spans (now work) (st .count) (st .root) (st .limit)) start (start + size level) ≡ false)) ⌝ }
+    requires { ⌜ (Rep (now work) (st .count) × (st .count * 4 + 12 ≤ length (now work))) × ((level < 3) × (number < 4294967295) × (overlaps (spans (now work) (st .count) (st .root) (st .limit)) start (start + size level) ≡ false)) ⌝ }
     ensures { λ r. ⌜ Pushed (now (work .entry)) (now (work .exit)) st r start level number ⌝ }
 {
     let n = work.len() / 4;
@@ -213,7 +213,7 @@ pub(crate) fn claim(
     level: u64,
     number: u32,
 ) -> Claimed
-    requires { ⌜ Rep (now work) (st .count) × (level < 3) ⌝ }
+    requires { ⌜ Rep (now work) (st .count) × (level < 3) × (number < 4294967295) ⌝ }
     ensures { λ r. ⌜ ClaimOut len (now (work .entry)) (now (work .exit)) st r start level number ⌝ }
 {
     let size = size_of(level);
@@ -278,7 +278,7 @@ pub(crate) fn enter(
     level: u64,
     number: u32,
 ) -> Entered
-    requires { ⌜ Rep (now work) (st .count) × (level < 3) ⌝ }
+    requires { ⌜ Rep (now work) (st .count) × (level < 3) × (number < 4294967295) ⌝ }
     ensures { λ r. ⌜ EnterOut len (now (work .entry)) (now (work .exit)) st r start level number ⌝ }
 {
     let f = find(work, st, start, level);

@@ -15,7 +15,7 @@ use Rattle.decode.specs.declared.spans.Found.{Found}
 use Rattle.decode.specs.declared.spans.Found.the-variants.{At, Nothing}
 use Rattle.decode.specs.declared.spans.Claimed.{Claimed}
 use Rattle.decode.specs.declared.spans.Claimed.the-variants.{Done, Refused}
-use Rattle.decode.specs.Inner.WorkTable.{size, spanAt, nodes, spans, nodeSpan, Says, headerSpan, rootSpan, SaysRoot, Begun, Rep, seenOf, ClaimOut}
+use Rattle.decode.specs.Inner.WorkTable.{Small, size, spanAt, nodes, spans, nodeSpan, Says, headerSpan, rootSpan, SaysRoot, Begun, Rep, seenOf, ClaimOut}
 use Rattle.decode.proofs.spans.Laws.{and-no}
 
 length-nodes : (w : List ℕ) (k : ℕ) → length (nodes w k) ≡ k
@@ -88,6 +88,9 @@ begun w w' root limit rep len = record { rep = rep; size-kept = len; list = refl
 
 pub seen-again : (r : Found) (k : ℕ) (s : Seen) → seenOf r ≡ s → r ≡ At k → s ≡ at k
 seen-again r k s e q = sym e ∙ ap seenOf q
+
+pub small-again : (r : Found) (k : ℕ) → Small r → r ≡ At k → k < 4294967295
+small-again r k h q = subst Small q h
 
 pub seen-fresh : (r : Found) (s : Seen) → seenOf r ≡ s → r ≡ Nothing → s ≡ nowhere
 seen-fresh r s e q = sym e ∙ ap seenOf q

@@ -325,5 +325,5 @@ clear-of w k root limit s l i f m a b =
     let t : over w i s (s + size l) ≡ true = sym (both _ _ (lt-ltb (nodeStart w i) (s + size l) (omega arith)) (lt-ltb s (nodeStart w i + size (nodeLevel w i)) (rw b (omega arith)))) in
     not-both _ (over-some w k i s (s + size l) m t) (or-right (overlaps (headerSpan ∷ (rootSpan root limit ∷ [])) s (s + size l)) _ (sym (overlaps-spans w k root limit s (s + size l)) ∙ f))
 
-pub number-small : (w : List ℕ) (count s l r : ℕ) → Rep w count → 0 < r → FoundIn w count s l r → nodeNumber w (r - 1) < 2 ^ 32
+pub number-small : (w : List ℕ) (count s l r : ℕ) → Rep w count → 0 < r → FoundIn w count s l r → nodeNumber w (r - 1) < 4294967295
 number-small w count s l r rep p f = rep .number (r - 1) (omega (arith, f .below))

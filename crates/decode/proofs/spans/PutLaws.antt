@@ -110,7 +110,7 @@ module _ (w : List ℕ) (h k start word : ℕ) (room : k * 4 + 4 ≤ length w) (
       let s : spanAt (putS w h k start word) k ≡ record { start = start; end = start + size level; level = level; number = number } = rw (start-new, level-new, number-new, a, b) in
       rw (add-one k, nodes-other k (omega arith), s)
 
-  pub rep-new : (root limit level : ℕ) → word % 4 ≡ level → level < 3 → word / 4 < 2 ^ 32 → k * 4 + 12 ≤ length w → h ≡ chainIn (length w / 4) level (start / size level) → overlaps (spans w k root limit) start (start + size level) ≡ false → Rep w k → Rep (putS w h k start word) (k + 1)
+  pub rep-new : (root limit level : ℕ) → word % 4 ≡ level → level < 3 → word / 4 < 4294967295 → k * 4 + 12 ≤ length w → h ≡ chainIn (length w / 4) level (start / size level) → overlaps (spans w k root limit) start (start + size level) ≡ false → Rep w k → Rep (putS w h k start word) (k + 1)
   rep-new root limit level a low num more he free rep =
       let cn : chainOf (putS w h k start word) k ≡ h = chain-new (rw a he) in
       let len = put-length in
@@ -142,7 +142,7 @@ module _ (w : List ℕ) (h k start word : ℕ) (room : k * 4 + 4 ≤ length w) (
             (same-or i k);
       }
 
-pub pushed : (w w' : List ℕ) (s : Spans) (h start level number : ℕ) → Rep w (s .count) → s .count * 4 + 12 ≤ length w → level < 3 → number < 2 ^ 32 → h < length w / 4 → h ≡ chainIn (length w / 4) level (start / size level) → overlaps (spans w (s .count) (s .root) (s .limit)) start (start + size level) ≡ false → w' ≡ putS w h (s .count) start (number * 4 + level) → Pushed w w' s (record { count = s .count + 1; root = s .root; limit = s .limit }) start level number
+pub pushed : (w w' : List ℕ) (s : Spans) (h start level number : ℕ) → Rep w (s .count) → s .count * 4 + 12 ≤ length w → level < 3 → number < 4294967295 → h < length w / 4 → h ≡ chainIn (length w / 4) level (start / size level) → overlaps (spans w (s .count) (s .root) (s .limit)) start (start + size level) ≡ false → w' ≡ putS w h (s .count) start (number * 4 + level) → Pushed w w' s (record { count = s .count + 1; root = s .root; limit = s .limit }) start level number
 pushed w w' s h start level number rep more low num hn he free e =
     let word = number * 4 + level in
     let room : s .count * 4 + 4 ≤ length w = omega arith in

@@ -70,7 +70,7 @@ pub record Last (w : List ℕ) (h k v : ℕ) : Type 0 where
 pub record Rep (w : List ℕ) (count : ℕ) : Type 0 where
   pub room : count * 4 + 8 ≤ length w
   pub level : (i : ℕ) → i < count → nodeLevel w i < 3
-  pub number : (i : ℕ) → i < count → nodeNumber w i < 2 ^ 32
+  pub number : (i : ℕ) → i < count → nodeNumber w i < 4294967295
   pub apart : (i j : ℕ) → i < j → j < count → nodeStart w i ≡ nodeStart w j → nodeLevel w i ≡ nodeLevel w j → ⊥
   pub head : (h : ℕ) → h < length w / 4 → Last w h count (chainHead w h)
   pub link : (i : ℕ) → i < count → Last w (chainOf w i) i (chainLink w i)
@@ -100,6 +100,11 @@ pub record FoundIn (w : List ℕ) (count start level r : ℕ) : Type 0 where
 abbrev pub seenOf : Found → Seen
 seenOf (At n) = at n
 seenOf Nothing = nowhere
+
+-- a number that was found is small enough for a link
+abbrev pub Small : Found → Type 0
+Small (At n) = n < 4294967295
+Small Nothing = Unit {0}
 
 unfoldable pub putS : List ℕ → ℕ → ℕ → ℕ → ℕ → List ℕ
 putS w h k start word = set (set (set (set w (k * 4) start) (k * 4 + 1) word) (k * 4 + 2) (getD w (h * 4 + 3) 0)) (h * 4 + 3) (k + 1)
@@ -137,6 +142,6 @@ RootOut len w w' (Refused e) root limit = (w' ≡ w) × SaysRoot len w root limi
 
 -- a node that has been read is used again, and any other is claimed
 abbrev pub EnterOut : ℕ → List ℕ → List ℕ → Spans → Entered → ℕ → ℕ → ℕ → Type 0
-EnterOut len w w' s (Again k) start level number = (w' ≡ w) × ((seen (spans w (s .count) (s .root) (s .limit)) start level ≡ at k) × (k < 2 ^ 32))
+EnterOut len w w' s (Again k) start level number = (w' ≡ w) × ((seen (spans w (s .count) (s .root) (s .limit)) start level ≡ at k) × (k < 4294967295))
 EnterOut len w w' s (Fresh t) start level number = (seen (spans w (s .count) (s .root) (s .limit)) start level ≡ nowhere) × ClaimOut len w w' s (Done t) start level number
 EnterOut len w w' s (Stop e) start level number = (seen (spans w (s .count) (s .root) (s .limit)) start level ≡ nowhere) × ClaimOut len w w' s (Refused e) start level number

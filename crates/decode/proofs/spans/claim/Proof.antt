@@ -36,7 +36,7 @@ returns-4 : tie.Need-returns-4
 returns-4 c = (refl, says-9 _ _ _ _ _ _ (omega (arith, c .before .before .before .before .before .before .before .size-of .ensures .0, c .before .before .before .before .before .before .if1 .left, c .before .before .before .before .before .if2 .left)) (rw (← c .before .before .before .before .before .before .before .size-of .ensures .0) (sym (c .before .before .before .meets .ensures) ∙ c .before .before .if3 .left)) (omega arith))
 
 push-requires : tie.Need-push-requires
-push-requires c κs = ((c .before .before .before .before .before .before .before .before .before .before .pre .0, omega arith), (c .before .before .before .before .before .before .before .before .before .before .pre .1, rw (← c .before .before .before .before .before .before .before .before .size-of .ensures .0) (sym (c .before .before .before .before .meets .ensures) ∙ c .before .before .before .if3 .left)))
+push-requires c κs = ((c .before .before .before .before .before .before .before .before .before .before .pre .0, omega arith), (c .before .before .before .before .before .before .before .before .before .before .pre .1, c .before .before .before .before .before .before .before .before .before .before .pre .2, rw (← c .before .before .before .before .before .before .before .before .size-of .ensures .0) (sym (c .before .before .before .before .meets .ensures) ∙ c .before .before .before .if3 .left)))
 
 same-length-3 : tie.Need-same-length-3
 same-length-3 c = search needs

@@ -1,5 +1,5 @@
 use native.Mathlib.Omega.{arith}
-use Rattle.decode.proofs.spans.ClaimLaws.{seen-again, seen-fresh, claim-done, claim-refused}
+use Rattle.decode.proofs.spans.ClaimLaws.{small-again, seen-again, seen-fresh, claim-done, claim-refused}
 use mathlib.Core.Path.{refl}
 use borrow.Author.Needs.{needs}
 use Rattle.decode.proofs.spans.enter.Statement.{statement}
@@ -15,7 +15,7 @@ same-length : tie.Need-same-length
 same-length c = search needs
 
 returns : tie.Need-returns
-returns c = (refl, (seen-again _ _ _ (c .before .before .before .find .ensures) (c .before .f .given .1), omega arith))
+returns c = (refl, (seen-again _ _ _ (c .before .before .before .find .ensures .0) (c .before .f .given .1), small-again _ _ (c .before .before .before .find .ensures .1) (c .before .f .given .1)))
 
 enum-told : tie.Need-enum-told
 enum-told c = search needs
@@ -33,13 +33,13 @@ same-length-2 : tie.Need-same-length-2
 same-length-2 c = search needs
 
 returns-2 : tie.Need-returns-2
-returns-2 c = (seen-fresh _ _ (c .before .before .before .before .before .before .before .before .before .find .ensures) (c .before .before .before .before .before .before .before .enum-told .given .1), claim-done _ _ _ _ _ _ _ _ (c .before .before .before .before .before .claim .ensures) _ (c .before .c .given .1))
+returns-2 c = (seen-fresh _ _ (c .before .before .before .before .before .before .before .before .before .find .ensures .0) (c .before .before .before .before .before .before .before .enum-told .given .1), claim-done _ _ _ _ _ _ _ _ (c .before .before .before .before .before .claim .ensures) _ (c .before .c .given .1))
 
 same-length-3 : tie.Need-same-length-3
 same-length-3 c = search needs
 
 returns-3 : tie.Need-returns-3
-returns-3 c = (seen-fresh _ _ (c .before .before .before .before .before .before .before .before .before .find .ensures) (c .before .before .before .before .before .before .before .enum-told .given .1), claim-refused _ _ _ _ _ _ _ _ (c .before .before .before .before .before .claim .ensures) _ (c .before .c2 .given .1))
+returns-3 c = (seen-fresh _ _ (c .before .before .before .before .before .before .before .before .before .find .ensures .0) (c .before .before .before .before .before .before .before .enum-told .given .1), claim-refused _ _ _ _ _ _ _ _ (c .before .before .before .before .before .claim .ensures) _ (c .before .c2 .given .1))
 
 pub enter-spec : {M : Type 1} → statement M
 enter-spec =

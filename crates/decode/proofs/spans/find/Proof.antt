@@ -20,7 +20,7 @@ find-in-requires : tie.Need-find-in-requires
 find-in-requires c κs = (c .before .before .before .pre .0, (c .chain .ensures .1, rw (← c .before .size-of .ensures .0) (c .chain .ensures .0)))
 
 returns : tie.Need-returns
-returns c = seen-no _ _ _ _ _ _ (c .before .before .before .before .before .pre .0) (c .before .before .before .before .before .pre .1) _ (c .if1 .taken) (c .before .find-in .ensures)
+returns c = (seen-no _ _ _ _ _ _ (c .before .before .before .before .before .pre .0) (c .before .before .before .before .before .pre .1) _ (c .if1 .taken) (c .before .find-in .ensures), tt)
 
 sub-j : tie.Need-sub-j
 sub-j c = omega arith
@@ -39,11 +39,11 @@ shared-slice-read-t11 c = omega arith
 
 cast-t17 : tie.Need-cast-t17
 unfolding nodeNumber
-cast-t17 c = record { fits = number-small _ _ _ _ _ (c .before .before .before .before .before .before .pre .0) (pos-of-ne-zero (c .before .if1 .left)) (c .before .before .find-in .ensures) }
+cast-t17 c = let s = number-small _ _ _ _ _ (c .before .before .before .before .before .before .pre .0) (pos-of-ne-zero (c .before .if1 .left)) (c .before .before .find-in .ensures) in record { fits = omega arith }
 
 returns-2 : tie.Need-returns-2
 unfolding nodeNumber
-returns-2 c = seen-at _ _ _ _ _ _ (c .before .before .before .before .before .before .pre .0) (c .before .before .before .before .before .before .pre .1) _ (pos-of-ne-zero (c .before .if1 .left)) (c .before .before .find-in .ensures)
+returns-2 c = (seen-at _ _ _ _ _ _ (c .before .before .before .before .before .before .pre .0) (c .before .before .before .before .before .before .pre .1) _ (pos-of-ne-zero (c .before .if1 .left)) (c .before .before .find-in .ensures), number-small _ _ _ _ _ (c .before .before .before .before .before .before .pre .0) (pos-of-ne-zero (c .before .if1 .left)) (c .before .before .find-in .ensures))
 
 pub find-spec : {M : Type 1} → statement M
 find-spec =

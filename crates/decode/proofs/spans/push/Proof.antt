@@ -30,7 +30,7 @@ same-length : tie.Need-same-length
 same-length c = search needs
 
 returns : tie.Need-returns
-returns c = pushed _ _ _ _ _ _ _ (c .before .before .before .before .before .before .before .pre .0 .0) (c .before .before .before .before .before .before .before .pre .0 .1) (c .before .before .before .before .before .before .before .pre .1 .0) (omega arith) (c .before .before .before .before .chain .ensures .1) (rw (← c .before .before .before .before .before .size-of .ensures .0) (c .before .before .before .before .chain .ensures .0)) (c .before .before .before .before .before .before .before .pre .1 .1) (c .before .before .put .ensures)
+returns c = pushed _ _ _ _ _ _ _ (c .before .before .before .before .before .before .before .pre .0 .0) (c .before .before .before .before .before .before .before .pre .0 .1) (c .before .before .before .before .before .before .before .pre .1 .0) (omega arith) (c .before .before .before .before .chain .ensures .1) (rw (← c .before .before .before .before .before .size-of .ensures .0) (c .before .before .before .before .chain .ensures .0)) (c .before .before .before .before .before .before .before .pre .1 .2) (c .before .before .put .ensures)
 
 pub push-spec : {M : Type 1} → statement M
 push-spec =
