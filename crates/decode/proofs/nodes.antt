@@ -2,3 +2,8 @@
 pub mod Levels
 pub mod Targets
 pub mod Leaves
+pub mod Steps
+pub mod Fits
+pub mod Tables
+pub mod Turns
+pub mod Answers

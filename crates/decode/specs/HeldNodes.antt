@@ -28,7 +28,7 @@ abbrev pub spanOf : ℕ → ℕ → State → Span
 spanOf level source t = record { start = source; end = source + sizeOf level; level = level; number = nodesAt t level }
 
 -- the state in which a new node's slots are read
-abbrev opening : ℕ → ℕ → State → State
+abbrev pub opening : ℕ → ℕ → State → State
 opening level source t = counted (withSpan t (spanOf level source t)) level
 
 opened-ok : (b : List ℕ) (p : Places) (level source : ℕ) (t : State) (fill : State → Result State) {r : Read} → opened b p level source t fill ≡ ok r
@@ -189,13 +189,17 @@ new-lower b source t s i f = record {
     new : LowerIn b (placed 1 s) source (t .lowerNodes)
     new = node-new (s .state .lower) (s .entries) source (t .lowerNodes) (ap length (f .grown .lower) ∙ i .full) (f .size) (f .each)
 
+-- the first n slots of a lower node that is being read
+pub lower-filled : (b : List ℕ) (p : Places) (source : ℕ) (t : State) (n : ℕ) (s : Slots) → Inv0 b t → slotsRead b (node 0 b p) 1 source n (opening 1 source t) ≡ ok s → Filled (Inv0 b) (LeafIn b) Grown0 b 1 source n (opening 1 source t) s
+lower-filled b p source t n s i e = slots-filled (Inv0 b) (LeafIn b) Grown0 same0 join0 (stable0 b) b 1 source (node 0 b p) (read-leaf b p) n (opening 1 source t) s (opening1 b source t i) e
+
 pub read-lower : (b : List ℕ) (p : Places) (source : ℕ) (t : State) (r : Read) → Inv1 b t → node 1 b p source t ≡ ok r → Step (Inv1 b) (LowerIn b) Grown1 source t r
 unfolding node
 read-lower b p source t r i e = read-node (Inv1 b) (LowerIn b) Grown1 b p 1 source t (λ (u : State). bind (slotsRead b (node 0 b p) 1 source 4096 u) place)
     (λ (k : ℕ) seen-at. record { keeps = i; reads = i .known source k seen-at; grown = same1 t })
     (λ (v : State) filled.
     let (s, slots, e₁) = bind-ok (slotsRead b (node 0 b p) 1 source 4096 (opening 1 source t)) place filled in
-    let all = slots-filled (Inv0 b) (LeafIn b) Grown0 same0 join0 (stable0 b) b 1 source (node 0 b p) (read-leaf b p) 4096 (opening 1 source t) s (opening1 b source t (i .below)) slots in
+    let all = lower-filled b p source t 4096 s (i .below) slots in
     subst (λ (z : State). Step (Inv1 b) (LowerIn b) Grown1 source t (record { number = t .lowerNodes; state = z })) (ok-injective e₁) (new-lower b source t s i all))
     r e
   where
@@ -254,13 +258,17 @@ new-upper b source t s i f = record {
     new : UpperIn b (placed 2 s) source (t .upperNodes)
     new = node-new (s .state .upper) (s .entries) source (t .upperNodes) (ap length (f .grown .upper) ∙ i .full) (f .size) (f .each)
 
+-- the first n slots of an upper node that is being read
+pub upper-filled : (b : List ℕ) (p : Places) (source : ℕ) (t : State) (n : ℕ) (s : Slots) → Inv1 b t → slotsRead b (node 1 b p) 2 source n (opening 2 source t) ≡ ok s → Filled (Inv1 b) (LowerIn b) Grown1 b 2 source n (opening 2 source t) s
+upper-filled b p source t n s i e = slots-filled (Inv1 b) (LowerIn b) Grown1 same1 join1 (stable1 b) b 2 source (node 1 b p) (read-lower b p) n (opening 2 source t) s (opening2 b source t i) e
+
 pub read-upper : (b : List ℕ) (p : Places) (source : ℕ) (t : State) (r : Read) → Inv2 b t → node 2 b p source t ≡ ok r → Step (Inv2 b) (UpperIn b) Grown2 source t r
 unfolding node
 read-upper b p source t r i e = read-node (Inv2 b) (UpperIn b) Grown2 b p 2 source t (λ (u : State). bind (slotsRead b (node 1 b p) 2 source 32768 u) place)
     (λ (k : ℕ) seen-at. record { keeps = i; reads = i .known source k seen-at; grown = same2 t })
     (λ (v : State) filled.
     let (s, slots, e₁) = bind-ok (slotsRead b (node 1 b p) 2 source 32768 (opening 2 source t)) place filled in
-    let all = slots-filled (Inv1 b) (LowerIn b) Grown1 same1 join1 (stable1 b) b 2 source (node 1 b p) (read-lower b p) 32768 (opening 2 source t) s (opening2 b source t (i .below)) slots in
+    let all = upper-filled b p source t 32768 s (i .below) slots in
     subst (λ (z : State). Step (Inv2 b) (UpperIn b) Grown2 source t (record { number = t .upperNodes; state = z })) (ok-injective e₁) (new-upper b source t s i all))
     r e
   where

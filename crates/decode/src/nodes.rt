@@ -4,7 +4,9 @@ ghost use Prim.Native.Nat.{ℕ, _+_, _-_, _*_, _/_, _<_, _≤_, _^_};
 ghost use lib.ListN.{length};
 ghost use Rattle.layout.specs.Bytes.{signed, f32At};
 ghost use Rattle.decode.specs.Nodes.{entriesOf, maskOf, tableOf, childTarget};
-ghost use Rattle.decode.specs.Inner.Filled.{ofTarget, countIn, placesIn, grownBy, roomIn, atUpper, atLower, LeafFilled};
+ghost use Rattle.decode.specs.Inner.Filled.{ofTarget, countIn, placesIn, grownBy, roomIn, atUpper, atLower, LeafFilled, tabs, Fit, NodeOut, SlotOut};
+use crate::spans;
+use crate::spans::Entered;
 use crate::spans::Spans;
 
 // How far the reader has come: the spans that it has claimed, and how many nodes of each level it has numbered.
@@ -174,5 +176,111 @@ fn leaf(bytes: &[u8], source: usize, leaves: &mut [f32], base: usize)
     while i < 512 {
         leaves[base + i] = layout::f32_at(bytes, source + 96 + 4 * i);
         i += 1;
+    }
+}
+
+// ---- the reader
+
+// The node of a level at source: one that has been read is used again; a new one is claimed, numbered and read.
+pub(crate) fn node(
+    bytes: &[u8],
+    source: usize,
+    level: u64,
+    st: State,
+    work: &mut [u64],
+    ul: &mut [u32],
+    uv: &mut [f32],
+    ll: &mut [u32],
+    lv: &mut [f32],
+    leaves: &mut [f32],
+) -> Placed
+    requires { ⌜ (length (now bytes) < 4294967296) × (level < 3) × Fit (length (now bytes)) (tabs (now work) (now ul) (now uv) (now ll) (now lv) (now leaves)) st ⌝ }
+    ensures { λ r. ⌜ NodeOut level (now (bytes .entry)) source (tabs (now (work .entry)) (now (ul .entry)) (now (uv .entry)) (now (ll .entry)) (now (lv .entry)) (now (leaves .entry))) st (tabs (now (work .exit)) (now (ul .exit)) (now (uv .exit)) (now (ll .exit)) (now (lv .exit)) (now (leaves .exit))) r ⌝ }
+{
+    let k = count_of(level, st);
+    let spans = st.spans;
+    match spans::enter(
+        bytes.len() as u64,
+        work,
+        spans,
+        source as u64,
+        level,
+        k as u32,
+    ) {
+        Entered::Again(n) => Placed::Node(n, st),
+        Entered::Stop(e) => Placed::Refused(e),
+        Entered::Fresh(next) => {
+            if places_of(level, ul.len(), ll.len(), leaves.len()) <= k {
+                return Placed::Refused(refusals::NO_PLACE);
+            }
+            let entries = entries_of(level);
+            let base = k * entries;
+            let mut now = grown(level, st, next);
+            if level == 0 {
+                leaf(bytes, source, leaves, base);
+                return Placed::Node(k as u32, now);
+            }
+            let mut i: usize = 0;
+            while i < entries {
+                match slot(
+                    bytes,
+                    source,
+                    level,
+                    base,
+                    i,
+                    now,
+                    work,
+                    ul,
+                    uv,
+                    ll,
+                    lv,
+                    leaves,
+                ) {
+                    Step::Stop(e) => return Placed::Refused(e),
+                    Step::Next(s) => now = s,
+                }
+                i += 1;
+            }
+            Placed::Node(k as u32, now)
+        }
+    }
+}
+
+// Slot i of the node at source, whose entries stand from base on in its table: a child, or a value.
+fn slot(
+    bytes: &[u8],
+    source: usize,
+    level: u64,
+    base: usize,
+    i: usize,
+    st: State,
+    work: &mut [u64],
+    ul: &mut [u32],
+    uv: &mut [f32],
+    ll: &mut [u32],
+    lv: &mut [f32],
+    leaves: &mut [f32],
+) -> Step
+    requires { ⌜ (length (now bytes) < 4294967296) × (source < 4294967296) × (0 < level) × (level < 3) × (i < entriesOf level) × (base + entriesOf level ≤ roomIn level (length (now ul)) (length (now ll))) × Fit (length (now bytes)) (tabs (now work) (now ul) (now uv) (now ll) (now lv) (now leaves)) st ⌝ }
+    ensures { λ r. ⌜ SlotOut level (now (bytes .entry)) source base i (tabs (now (work .entry)) (now (ul .entry)) (now (uv .entry)) (now (ll .entry)) (now (lv .entry)) (now (leaves .entry))) st (tabs (now (work .exit)) (now (ul .exit)) (now (uv .exit)) (now (ll .exit)) (now (lv .exit)) (now (leaves .exit))) r ⌝ }
+{
+    let at = slot_at(source, level, i);
+    if layout::mask_bit(bytes, mask_at(source, level), i) == 0 {
+        value(level, uv, lv, base + i, layout::f32_at(bytes, at));
+        return Step::Next(st);
+    }
+    let relative = layout::u64_at(bytes, at);
+    if relative == 0 {
+        return Step::Stop(refusals::CHILD_TARGET);
+    }
+    match child_target(source, relative) {
+        Target::Refused(e) => Step::Stop(e),
+        Target::At(to) => match node(bytes, to, level - 1, st, work, ul, uv, ll, lv, leaves) {
+            Placed::Refused(e) => Step::Stop(e),
+            Placed::Node(k, s) => {
+                link(level, ul, ll, base + i, k + 1);
+                Step::Next(s)
+            }
+        },
     }
 }

@@ -18,7 +18,7 @@ use Rattle.decode.specs.declared.spans.Claimed.the-variants.{Done, Refus
 use Rattle.decode.specs.Inner.WorkTable.{Small, size, spanAt, nodes, spans, nodeSpan, Says, headerSpan, rootSpan, SaysRoot, Begun, Rep, seenOf, ClaimOut}
 use Rattle.decode.proofs.spans.Laws.{and-no}
 
-length-nodes : (w : List ℕ) (k : ℕ) → length (nodes w k) ≡ k
+pub length-nodes : (w : List ℕ) (k : ℕ) → length (nodes w k) ≡ k
 unfolding nodes
 length-nodes w zero = refl
 length-nodes w (suc k) = length-append (nodes w k) (spanAt w k ∷ []) ∙ (let h = length-nodes w k in omega arith)

@@ -128,6 +128,10 @@ abbrev pub NodeFit : ℕ → Tabs → Placed.Placed → Type 0
 NodeFit len u (Placed.the-variants.Node k v) = Fit len u v × (k < 4294967295)
 NodeFit len u (Placed.the-variants.Refused n) = Unit {0}
 
+pub record NodeOut (level : ℕ) (b : List ℕ) (source : ℕ) (t : Tabs) (s : Progress.State) (u : Tabs) (r : Placed.Placed) : Type 0 where
+  pub fit : NodeFit (length b) u r
+  pub says : NodeSays level b source t s u r
+
 -- ---- one slot of a node that is being read
 
 -- its entries so far are the open ones of its level; `outer` are those of the upper node around a lower one
@@ -155,3 +159,7 @@ SlotSays level b source base i t s u (Step.the-variants.Stop n) = (l : ℕ) → 
 abbrev pub SlotFit : ℕ → Tabs → Step.Step → Type 0
 SlotFit len u (Step.the-variants.Next v) = Fit len u v
 SlotFit len u (Step.the-variants.Stop n) = Unit {0}
+
+pub record SlotOut (level : ℕ) (b : List ℕ) (source base i : ℕ) (t : Tabs) (s : Progress.State) (u : Tabs) (r : Step.Step) : Type 0 where
+  pub fit : SlotFit (length b) u r
+  pub says : SlotSays level b source base i t s u r

@@ -18,7 +18,7 @@ Packed len (s ∷ l) = (s .start + 2144 ≤ s .end) × (s .end ≤ len) × (over
 
 -- ---- one span more, at the end
 
-no-either : (a b : Bool) → (a || b) ≡ false → (a ≡ false) × (b ≡ false)
+pub no-either : (a b : Bool) → (a || b) ≡ false → (a ≡ false) × (b ≡ false)
 no-either true b e = absurd (let z : _≡_ {A = Bool} true false = e in yes z)
   where
     yes : true ≡ false → ⊥

@@ -1,0 +1,104 @@
+-- The ways of the definition's `node` and of one of its slots, each from the tests that lead there. Assumes nothing.
+use mathlib.Core.Path.{_≡_, refl, sym, ap, _∙_, subst}
+use mathlib.Core.Logic.{inl, inr}
+use mathlib.Core.List.{List, [], _∷_, _++_}
+use mathlib.Core.Bool.{Bool, true, false, not, cond}
+use Prim.Native.Nat.{ℕ, zero, suc, _+_, _*_, _≤_, _<_}
+use native.Mathlib.Nat.{eq-or-lt-of-le, le-of-suc-le-suc}
+use native.Mathlib.Omega.{arith}
+use lib.Dec.{eqb, ltb}
+use lib.Ieee.{Float}
+use borrow.Author.Tests.{lt-ltb, le-ltb, eq-eqb, ne-eqb}
+use Rattle.refusals.specs.Results.{Result, ok, refused, bind, need}
+use Rattle.layout.specs.Bytes.{u64At, i64At, f32At, maskBit}
+use Rattle.sparse_grid.specs.declared.Entry.the-variants.{Child, Tile}
+use Rattle.decode.specs.Spans.{Span, Seen, at, nowhere, seen}
+use Rattle.decode.specs.Nodes.{Places, State, Read, Slots, Reader, claim, withSpan, childTarget, entriesOf, maskOf, tableOf, nodesAt, placesAt, counted, slotRead, slotsRead, placed, leafPlaced, opened, again, node}
+use Rattle.decode.specs.HeldNodes.{spanOf, opening}
+
+-- ---- one slot
+
+module _ (b : List ℕ) (child : Reader) (level source i : ℕ) (now : Slots) where
+  pub slot-tile : (v : Float) → maskBit b (source + maskOf level) i ≡ 0 → v ≡ f32At b (source + tableOf level + 8 * i) → slotRead b child level source i now ≡ ok (record { entries = now .entries ++ (Tile v ∷ []); state = now .state })
+  slot-tile v clear e = rw (eq-eqb (maskBit b (source + maskOf level) i) 0 clear, e)
+
+  module _ (set : maskBit b (source + maskOf level) i ≡ 0 → ⊥) where
+    pub slot-zero : u64At b (source + tableOf level + 8 * i) ≡ 0 → slotRead b child level source i now ≡ refused 8
+    slot-zero e = rw (ne-eqb (maskBit b (source + maskOf level) i) 0 set, eq-eqb (u64At b (source + tableOf level + 8 * i)) 0 e)
+
+    module _ (some : u64At b (source + tableOf level + 8 * i) ≡ 0 → ⊥) where
+      pub slot-off : (e : ℕ) → refused e ≡ childTarget source (i64At b (source + tableOf level + 8 * i)) → slotRead b child level source i now ≡ refused e
+      slot-off e t = rw (ne-eqb (maskBit b (source + maskOf level) i) 0 set, ne-eqb (u64At b (source + tableOf level + 8 * i)) 0 some, sym t)
+
+      pub slot-refused : (to e : ℕ) → ok to ≡ childTarget source (i64At b (source + tableOf level + 8 * i)) → child to (now .state) ≡ refused e → slotRead b child level source i now ≡ refused e
+      slot-refused to e t c = rw (ne-eqb (maskBit b (source + maskOf level) i) 0 set, ne-eqb (u64At b (source + tableOf level + 8 * i)) 0 some, sym t, c)
+
+      pub slot-child : (to : ℕ) (r : Read) → ok to ≡ childTarget source (i64At b (source + tableOf level + 8 * i)) → child to (now .state) ≡ ok r → slotRead b child level source i now ≡ ok (record { entries = now .entries ++ (Child (r .number) ∷ []); state = r .state })
+      slot-child to r t c = rw (ne-eqb (maskBit b (source + maskOf level) i) 0 set, ne-eqb (u64At b (source + tableOf level + 8 * i)) 0 some, sym t, c)
+
+-- ---- the slots of a node
+
+module _ (b : List ℕ) (child : Reader) (level source : ℕ) (t : State) where
+  pub slots-more : (i : ℕ) (s s' : Slots) → slotsRead b child level source i t ≡ ok s → slotRead b child level source i s ≡ ok s' → slotsRead b child level source (i + 1) t ≡ ok s'
+  unfolding slotsRead
+  slots-more i s s' e f = rw (native.Mathlib.Numerals.add-one i, e) f
+
+  pub slots-stop : (i n e : ℕ) (s : Slots) → slotsRead b child level source i t ≡ ok s → slotRead b child level source i s ≡ refused e → i < n → slotsRead b child level source n t ≡ refused e
+  unfolding slotsRead
+  slots-stop i zero e s before stop h = absurd (omega arith)
+  slots-stop i (suc n) e s before stop h = elim (eq-or-lt-of-le (le-of-suc-le-suc h)) [
+    | inl q ↦ subst (λ (m : ℕ). bind (slotsRead b child level source m t) (slotRead b child level source m) ≡ refused e) q (rw before stop)
+    | inr q ↦ rw (slots-stop i n e s before stop q)
+  ]
+
+-- ---- the node
+
+-- how a new node of a level is filled
+abbrev filling : ℕ → List ℕ → Places → ℕ → State → Result State
+filling zero b p source u = ok (leafPlaced b source u)
+filling (suc l) b p source u = bind (slotsRead b (node l b p) (suc l) source (entriesOf (suc l)) u) (λ (s : Slots). ok (placed (suc l) s))
+
+module _ (level source : ℕ) (b : List ℕ) (p : Places) (d : State) where
+  node-is : node level b p source d ≡ again (seen (d .spans) source level) d (opened b p level source d (filling level b p source))
+  unfolding node
+  node-is = go level
+    where
+      go : (level : ℕ) → node level b p source d ≡ again (seen (d .spans) source level) d (opened b p level source d (filling level b p source))
+      go zero = refl
+      go (suc l) = refl
+
+  pub node-again : (k : ℕ) → seen (d .spans) source level ≡ at k → node level b p source d ≡ ok (record { number = k; state = d })
+  node-again k e = node-is ∙ rw e
+
+  module _ (new : seen (d .spans) source level ≡ nowhere) where
+    pub node-stops : (e : ℕ) → claim b p d (spanOf level source d) ≡ refused e → node level b p source d ≡ refused e
+    node-stops e c = node-is ∙ rw (new, c)
+
+    module _ (claimed : claim b p d (spanOf level source d) ≡ ok (withSpan d (spanOf level source d))) where
+      pub node-full : placesAt p level ≤ nodesAt d level → node level b p source d ≡ refused 9
+      node-full h = node-is ∙ rw (new, claimed, le-ltb (nodesAt d level) (placesAt p level) h)
+
+      filled : nodesAt d level < placesAt p level → node level b p source d ≡ bind (filling level b p source (opening level source d)) (λ (v : State). ok (record { number = nodesAt d level; state = v }))
+      filled h = node-is ∙ rw (new, claimed, lt-ltb (nodesAt d level) (placesAt p level) h)
+
+      module _ (room : nodesAt d level < placesAt p level) where
+        pub node-leaf : level ≡ 0 → node level b p source d ≡ ok (record { number = nodesAt d level; state = leafPlaced b source (opening level source d) })
+        node-leaf e = filled room ∙ ap (λ (r : Result State). bind r (λ (v : State). ok (record { number = nodesAt d level; state = v }))) (leaf level e)
+          where
+            leaf : (level : ℕ) → level ≡ 0 → filling level b p source (opening level source d) ≡ ok (leafPlaced b source (opening level source d))
+            leaf zero e = refl
+            leaf (suc l) e = absurd (omega arith)
+
+        slots : (l : ℕ) → level ≡ suc l → filling level b p source (opening level source d) ≡ bind (slotsRead b (node l b p) level source (entriesOf level) (opening level source d)) (λ (s : Slots). ok (placed level s))
+        slots l e = subst (λ (m : ℕ). filling m b p source (opening m source d) ≡ bind (slotsRead b (node l b p) m source (entriesOf m) (opening m source d)) (λ (s : Slots). ok (placed m s))) (sym e) refl
+
+        module _ (l : ℕ) (is : level ≡ suc l) where
+          pub node-broke : (i e : ℕ) (s : Slots) → slotsRead b (node l b p) level source i (opening level source d) ≡ ok s → slotRead b (node l b p) level source i s ≡ refused e → i < entriesOf level → node level b p source d ≡ refused e
+          node-broke i e s before stop h =
+              filled room ∙ ap (λ (r : Result State). bind r (λ (v : State). ok (record { number = nodesAt d level; state = v })))
+              (slots l is ∙ ap (λ (r : Result Slots). bind r (λ (s : Slots). ok (placed level s))) (slots-stop b (node l b p) level source (opening level source d) i (entriesOf level) e s before stop h))
+
+          pub node-ends : (s : Slots) → slotsRead b (node l b p) level source (entriesOf level) (opening level source d) ≡ ok s → node level b p source d ≡ ok (record { number = nodesAt d level; state = placed level s })
+          node-ends s e =
+              filled room ∙ ap (λ (r : Result State). bind r (λ (v : State). ok (record { number = nodesAt d level; state = v })))
+              (slots l is ∙ ap (λ (r : Result Slots). bind r (λ (s : Slots). ok (placed level s))) e)
