@@ -7,10 +7,11 @@ use native.Mathlib.Omega.{arith}
 use mathlib.Core.List.{List}
 use lib.Dec.{leb}
 use lib.ListN.{length, getD, List·getD-eq-default}
-use Rattle.refusals.specs.Results.{ok, refused, need}
+use Rattle.refusals.specs.Results.{ok, refused}
 use Rattle.layout.specs.Bytes.{u32At, u64At}
 use Rattle.layout.specs.FieldLaws.{u64-halves}
 use Rattle.layout.specs.Reads.{readField}
+use Rattle.layout.specs.ReadLaws.{read-inside, read-past}
 use borrow.Author.Tests.{leb-true, leb-false, le-leb, lt-leb}
 
 -- the end test in a form that forms no sum
@@ -38,9 +39,7 @@ cut-halves b at low high e f = rw u64-halves (omega (arith, rw add-zero at e))
 -- the two ways out of a read, after its end test
 module _ {A : Type 0} (field : List ℕ → ℕ → A) (width : ℕ) (b : List ℕ) (at : ℕ) {t : Bool} where
   pub read-value : (v : A) → t ≡ leb (at + width) (length b) → t ≡ true → v ≡ field b at → ok v ≡ readField field width b at
-  unfolding readField
-  read-value v e h f = ap ok f ∙ ap (λ (x : Bool). need x 5 (ok (field b at))) (sym h ∙ e)
+  read-value v e h f = ap ok f ∙ sym (read-inside field width b at (within (at + width) (length b) e h))
 
   pub read-refused : t ≡ leb (at + width) (length b) → t ≡ false → refused 5 ≡ readField field width b at
-  unfolding readField
-  read-refused e h = ap (λ (x : Bool). need x 5 (ok (field b at))) (sym h ∙ e)
+  read-refused e h = sym (read-past field width b at (leb-false (at + width) (length b) (sym e ∙ h)))

@@ -1,12 +1,14 @@
--- Laws of little-endian numbers: their bound, their parts, and bytes past the end.
-use mathlib.Core.Path.{_≡_, refl, sym, ap, _∙_}
+-- Laws of the fields: the bound, the parts and the end of a little-endian number, and the two halves of a signed one.
+use mathlib.Core.Path.{_≡_, refl, _∙_}
 use mathlib.Core.List.{List}
-use Prim.Native.Nat.{ℕ, zero, suc, _+_, _*_, _^_, _<_, _≤_}
+use Prim.Native.Nat.{ℕ, zero, suc, _+_, _-_, _*_, _^_, _<_, _≤_}
 use native.Mathlib.Nat.{add-zero, add-suc, zero-add, suc-add, add-assoc, add-right-comm, mul-assoc, pow-succ'}
 use native.Mathlib.Numerals.{add-one}
 use native.Mathlib.Omega.{arith}
 use lib.ListN.{length, getD, List·getD-eq-default}
-use Rattle.layout.specs.Bytes.{le, u32At, u64At}
+use lib.IntN.{pos, negsuc}
+use borrow.Author.Tests.{lt-ltb, le-ltb}
+use Rattle.layout.specs.Bytes.{le, signed, u32At, u64At}
 
 -- four bytes as one sum
 pub le-four : (b : List ℕ) (at : ℕ) → le 4 b at ≡ getD b at 0 + getD b (at + 1) 0 * 256 + getD b (at + 2) 0 * 65536 + getD b (at + 3) 0 * 16777216
@@ -42,3 +44,12 @@ u32-below b at h = le-below 4 b at h
 
 pub u64-below : (b : List ℕ) (at : ℕ) → ((i : ℕ) → getD b i 0 < 256) → u64At b at < 2 ^ 64
 u64-below b at h = le-below 8 b at h
+
+-- a number with its top bit clear, and with it set
+pub signed-low : (w u : ℕ) → u < 2 ^ (w - 1) → signed w u ≡ pos u
+unfolding signed
+signed-low w u h = rw (lt-ltb u (2 ^ (w - 1)) h)
+
+pub signed-high : (w u : ℕ) → 2 ^ (w - 1) ≤ u → signed w u ≡ negsuc (2 ^ w - (u + 1))
+unfolding signed
+signed-high w u h = rw (le-ltb u (2 ^ (w - 1)) h)

@@ -13,11 +13,11 @@ use Rattle.layout.specs.declared.ReadI64 as I64
 use Rattle.layout.specs.declared.ReadF32 as F32
 use Rattle.layout.specs.declared.ReadF64 as F64
 
--- the field of `width` bytes at
+-- `field`, which takes `width` bytes, at a place
 unfoldable pub readField : {A : Type 0} → (List ℕ → ℕ → A) → ℕ → List ℕ → ℕ → Result A
 readField field width b at = need (leb (at + width) (length b)) 5 (ok (field b at))
 
--- what each answer says
+-- the answers of the six reads: a value, or the number of the refusal
 abbrev pub ofReadU32 : U32.ReadU32 → Result ℕ
 ofReadU32 (U32.the-variants.Value v) = ok v
 ofReadU32 (U32.the-variants.Refused n) = refused n

@@ -12,6 +12,7 @@ const U32_BYTES: usize = 4;
 
 const U64_BYTES: usize = 8;
 
+// What a read answers: the field, or the number of its refusal.
 pub enum ReadU32 {
     Value(u32),
     Refused(u32),

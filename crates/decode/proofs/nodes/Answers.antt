@@ -11,18 +11,23 @@ use Rattle.decode.specs.Spans.{Span, Seen, at, nowhere, seen}
 use Rattle.decode.specs.Nodes.{byLevel, Places, State, Slots, claim, withSpan, entriesOf, nodesAt, placesAt, leafPlaced, placed, slotsRead, slotRead, node}
 use Rattle.decode.specs.HeldNodes.{spanOf, opening}
 use Rattle.decode.specs.Inner.WorkTable.{size, spans, nodeSpan, EnterOut, ClaimOut}
-use Rattle.decode.specs.Inner.Filled.{countIn, placesIn, grownBy, LeafFilled, tabs, Fit, Holds, Lends, Ready, Shut, Reads, NodeOut, lowerOpen, upperOpen, SlotOut}
+use Rattle.decode.specs.Inner.Filled.{countIn, placesIn, grownBy, LeafFilled, Tabs, tabs, Fit, NodeFit, Holds, Lends, Ready, Shut, Reads, NodeOut, lowerOpen, upperOpen, SlotOut}
 use Rattle.decode.specs.declared.spans.Spans.{Spans}
 use Rattle.decode.specs.declared.spans.Entered.{Entered}
 use Rattle.decode.specs.declared.spans.Entered.the-variants.{Again, Fresh, Stop}
 use Rattle.decode.specs.declared.spans.Claimed.the-variants.{Done}
 use Rattle.decode.specs.declared.nodes.State as Progress
+use Rattle.decode.specs.declared.nodes.Placed.{Placed}
 use Rattle.decode.specs.declared.nodes.Placed.the-variants.{Node, Refused}
 use Rattle.decode.specs.declared.nodes.Step as Step
 use Rattle.decode.proofs.nodes.Steps.{node-again, node-stops, node-full, node-leaf, node-broke, node-ends}
-use Rattle.decode.proofs.nodes.Fits.{fit-fresh, fit-kept, number-small}
+use Rattle.decode.proofs.nodes.Fits.{size-least, fresh-inside, fit-fresh, fit-kept, number-small}
 use Rattle.decode.proofs.nodes.Tables.{holds-opened, holds-leaf, holds-placed, holds-begun, slots-ready, leaf-base}
-use Rattle.decode.proofs.nodes.Turns.{Begins, Turn, turn-stops}
+use Rattle.decode.proofs.nodes.Turns.{Begins, Turn, turn-begins, turn-stops}
+
+-- a number that comes back is small enough for a link
+pub node-number : (len : ℕ) (u : Tabs) (r : Placed) (n : ℕ) (s : Progress.State) → r ≡ Node n s → NodeFit len u r → n < 4294967295
+node-number len u r n s e f = subst (NodeFit len u) e f .1
 
 -- the number of the next node, in the code and in the definition
 counts : (level : ℕ) (w ul : List ℕ) (uv : List Float) (ll : List ℕ) (lv lf : List Float) (st : Progress.State) (d : State) (lower upper : List Entry) → Holds (tabs w ul uv ll lv lf) st d lower upper → countIn st level ≡ nodesAt d level
@@ -78,11 +83,14 @@ module _ (b : List ℕ) (source level : ℕ) (w w' ul : List ℕ) (uv : List Flo
     claimed : (p : Places) (d : State) (lower upper : List Entry) → Reads level b (tabs w ul uv ll lv lf) st p d lower upper → claim b p d (spanOf level source d) ≡ ok (withSpan d (spanOf level source d))
     claimed p d lower upper R = subst (λ (s : Span). claim b p d s ≡ ok (withSpan d s)) (span-is d lower upper (R .holds)) (granted .1 b p d refl (R .lends .spans) (R .holds .spans-are))
 
-    pub node-granted : ClaimOut (length b) w w' (st .spans) (Done next) source level k
-    node-granted = granted
+    pub node-inside : source < 4294967296
+    node-inside = omega (arith, fresh-inside (length b) w w' (st .spans) next source level k granted, size-least level)
 
     pub node-fit : Fit (length b) (tabs w' ul uv ll lv lf) (grownBy level st next)
     node-fit = fit-fresh (length b) w ul uv ll lv lf st fit short w' next source level k granted
+
+    pub node-begins : (base entries : ℕ) (s : Progress.State) → s ≡ grownBy level st next → Turn level b source base entries w' ul uv ll lv lf s w' ul uv ll lv lf s 0
+    node-begins base entries s e = turn-begins level b source base entries w' ul uv ll lv lf s (subst (λ (x : Progress.State). Fit (length b) (tabs w' ul uv ll lv lf) x) (sym e) node-fit)
 
     opened : (d : State) (lower upper : List Entry) → Holds (tabs w ul uv ll lv lf) st d lower upper → Holds (tabs w' ul uv ll lv lf) (grownBy level st next) (opening level source d) lower upper
     opened d lower upper h = holds-opened w w' ul uv ll lv lf st next d lower upper source level h (subst (λ (n : ℕ). Rattle.decode.specs.Inner.WorkTable.Pushed w w' (st .spans) next source level n) is (granted .0))

@@ -20,7 +20,7 @@ use Rattle.decode.specs.declared.nodes.State as Progress
 use Rattle.decode.proofs.spans.Laws.{overlaps-spans}
 use Rattle.decode.proofs.spans.ClaimLaws.{length-nodes}
 
-size-least : (level : ℕ) → 2144 ≤ size level
+pub size-least : (level : ℕ) → 2144 ≤ size level
 unfolding size
 size-least zero = omega arith
 size-least (suc zero) = omega arith
@@ -99,19 +99,29 @@ fit-kept len w ul ul' uv uv' ll ll' lv lv' lf lf' st f a b c d = record { rep = 
 -- ---- room in the tables
 
 -- a node that has a place has one for each of its entries
-pub room-of : (level upper lower leaf k : ℕ) → 0 < level → k < placesIn level upper lower leaf → k * byLevel level 512 4096 32768 + byLevel level 512 4096 32768 ≤ roomIn level upper lower
-room-of zero upper lower leaf k p h = absurd (omega arith)
-room-of (suc zero) upper lower leaf k p h = omega arith
-room-of (suc (suc n)) upper lower leaf k p h = omega arith
+module _ (level upper lower leaf k entries : ℕ) (is : entries ≡ byLevel level 512 4096 32768) (room : k < placesIn level upper lower leaf) where
+  pub room-of : 0 < level → k * entries + byLevel level 512 4096 32768 ≤ roomIn level upper lower
+  room-of p = subst (λ (n : ℕ). k * n + byLevel level 512 4096 32768 ≤ roomIn level upper lower) (sym is) (go level p room)
+    where
+      go : (level : ℕ) → 0 < level → k < placesIn level upper lower leaf → k * byLevel level 512 4096 32768 + byLevel level 512 4096 32768 ≤ roomIn level upper lower
+      go zero p h = absurd (omega arith)
+      go (suc zero) p h = omega arith
+      go (suc (suc n)) p h = omega arith
 
-pub leaf-room : (level upper lower leaf k : ℕ) → level ≡ 0 → k < placesIn level upper lower leaf → k * byLevel level 512 4096 32768 + 512 ≤ leaf
-leaf-room zero upper lower leaf k e h = omega arith
-leaf-room (suc n) upper lower leaf k e h = absurd (omega arith)
+  pub leaf-room : level ≡ 0 → k * entries + 512 ≤ leaf
+  leaf-room e = subst (λ (n : ℕ). k * n + 512 ≤ leaf) (sym is) (go level e room)
+    where
+      go : (level : ℕ) → level ≡ 0 → k < placesIn level upper lower leaf → k * byLevel level 512 4096 32768 + 512 ≤ leaf
+      go zero e h = omega arith
+      go (suc n) e h = absurd (omega arith)
 
-pub base-fits : (level upper lower leaf k : ℕ) → upper < 18446744073709551616 → lower < 18446744073709551616 → leaf < 18446744073709551616 → k < placesIn level upper lower leaf → k * byLevel level 512 4096 32768 < 18446744073709551616
-base-fits zero upper lower leaf k u l f h = omega arith
-base-fits (suc zero) upper lower leaf k u l f h = omega arith
-base-fits (suc (suc n)) upper lower leaf k u l f h = omega arith
+  pub base-fits : upper < 18446744073709551616 → lower < 18446744073709551616 → leaf < 18446744073709551616 → k * entries < 18446744073709551616
+  base-fits u l f = subst (λ (n : ℕ). k * n < 18446744073709551616) (sym is) (go level room)
+    where
+      go : (level : ℕ) → k < placesIn level upper lower leaf → k * byLevel level 512 4096 32768 < 18446744073709551616
+      go zero h = omega arith
+      go (suc zero) h = omega arith
+      go (suc (suc n)) h = omega arith
 
 pub room-fits : (level upper lower at : ℕ) → upper < 18446744073709551616 → lower < 18446744073709551616 → at < roomIn level upper lower → at < 18446744073709551616
 room-fits zero upper lower at u l h = omega arith
@@ -123,8 +133,13 @@ entries-most zero = omega arith
 entries-most (suc zero) = omega arith
 entries-most (suc (suc n)) = omega arith
 
--- the room of the values is the room of the links
-pub room-paired : (level ul uv ll lv at : ℕ) → uv ≡ ul → lv ≡ ll → at < roomIn level ul ll → at < roomIn level uv lv
-room-paired zero ul uv ll lv at p q h = h
-room-paired (suc zero) ul uv ll lv at p q h = omega arith
-room-paired (suc (suc n)) ul uv ll lv at p q h = omega arith
+-- the room of tables of the same lengths
+pub room-kept : (level ul ul' ll ll' at : ℕ) → ul' ≡ ul → ll' ≡ ll → at < roomIn level ul ll → at < roomIn level ul' ll'
+room-kept zero ul ul' ll ll' at p q h = h
+room-kept (suc zero) ul ul' ll ll' at p q h = omega arith
+room-kept (suc (suc n)) ul ul' ll ll' at p q h = omega arith
+
+pub all-kept : (level ul ul' ll ll' base : ℕ) → ul' ≡ ul → ll' ≡ ll → base + byLevel level 512 4096 32768 ≤ roomIn level ul ll → base + byLevel level 512 4096 32768 ≤ roomIn level ul' ll'
+all-kept zero ul ul' ll ll' base p q h = h
+all-kept (suc zero) ul ul' ll ll' base p q h = omega arith
+all-kept (suc (suc n)) ul ul' ll ll' base p q h = omega arith

@@ -1,6 +1,6 @@
 -- What is chosen by the level, from the code's tests of it. Assumes nothing.
 use mathlib.Core.Path.{_≡_, refl}
-use Prim.Native.Nat.{ℕ, zero, suc, _<_}
+use Prim.Native.Nat.{ℕ, zero, suc, _-_, _<_}
 use native.Mathlib.Omega.{arith}
 use Rattle.decode.specs.Nodes.{byLevel}
 
@@ -22,3 +22,14 @@ at-upper (suc (suc level)) a b c m n = refl
 pub room-none : (level lower upper at : ℕ) → at < byLevel level 0 lower upper → level ≡ 0 → ⊥
 room-none zero lower upper at h e = omega arith
 room-none (suc level) lower upper at h e = omega arith
+
+-- the level below
+abbrev pub below : ℕ → ℕ
+below level = level - 1
+
+pub below-is : (level : ℕ) → (level ≡ 0 → ⊥) → level ≡ suc (below level)
+below-is zero n = absurd (n refl)
+below-is (suc level) n = omega arith
+
+pub less-one : (level : ℕ) → 0 < level → level ≡ suc (level - 1)
+less-one level h = omega arith

@@ -1,0 +1,17 @@
+-- `replay_reads::bits_of_f32` meets its contract: what is not a NaN has a pattern. Assumes nothing.
+use borrow.Author.Needs.{needs}
+use Rattle.replay_reads.proofs.Numbers.{equal-is-no-nan}
+use Rattle.replay_reads.proofs.bits_of_f32.Statement.{statement}
+use Rattle.replay_reads.proofs.bits_of_f32.Tie as tie
+
+float-to-bits-result : tie.Need-float-to-bits-result
+float-to-bits-result c = equal-is-no-nan (c .before .args .x) (c .if1 .left)
+
+returns : tie.Need-returns
+returns c = search needs
+
+returns-2 : tie.Need-returns-2
+returns-2 c = search needs
+
+pub bits-of-f32-spec : {M : Type 1} → statement M
+bits-of-f32-spec = tie.close (tie.spec float-to-bits-result returns returns-2)
