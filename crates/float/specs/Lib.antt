@@ -1,3 +1,25 @@
+-- Definitions that the public contracts cite.
 pub mod Zero
+pub mod Literal
 pub mod Fused
 pub mod Coordinate
+pub mod Answers
+pub mod Integer
+-- Definitions that only contracts within the crate cite.
+pub mod Fields
+pub mod Shifts
+-- Worked examples.
+pub mod Examples
+-- Laws.
+pub mod Tests
+pub mod Patterns
+pub mod Sums
+pub mod Rising
+pub mod Ordered
+pub mod Zeros
+pub mod Exactly
+pub mod Numbers
+pub mod Plain
+pub mod Middle
+pub mod Blend
+pub mod Floors

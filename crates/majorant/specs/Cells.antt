@@ -9,9 +9,10 @@ use lib.Signed.{leZ}
 use lib.Ieee.{Float, binary32, binary64, add, sub, mul, div, lt, le, ofInt}
 use Rattle.refusals.specs.Results.{Result, ok, bind, need}
 use Rattle.float.specs.Fused.{trunc, floor}
-use Rattle.float.specs.Coordinate.{coordinate, floorZ}
+use Rattle.float.specs.Coordinate.{coordinate}
+use Rattle.float.specs.Integer.{floorZ}
 use Rattle.layout.specs.Coordinates.{Coord}
-use Rattle.medium.specs.Medium.{Point, Medium, Axis, ofX, ofY, ofZ, onPoint, onCoord}
+use Rattle.medium.specs.Medium.{Point, Medium, Axis, xAxis, yAxis, zAxis, onPoint, onCoord}
 use Rattle.majorant.specs.Boxes.{Box}
 use Rattle.majorant.specs.Index.{worldToIndex, majorantIndex}
 
@@ -29,18 +30,18 @@ pub record Cells : Type 0 where
 
 -- where cell k stands on an axis: k = x + X * (y + Y * z)
 abbrev pub cellAxis : Cells → ℕ → Axis → ℕ
-cellAxis n k ofX = k % n .x
-cellAxis n k ofY = k / n .x % n .y
-cellAxis n k ofZ = k / (n .x * n .y)
+cellAxis n k xAxis = k % n .x
+cellAxis n k yAxis = k / n .x % n .y
+cellAxis n k zAxis = k / (n .x * n .y)
 
 abbrev pub cellsOn : Cells → Axis → ℕ
-cellsOn n ofX = n .x
-cellsOn n ofY = n .y
-cellsOn n ofZ = n .z
+cellsOn n xAxis = n .x
+cellsOn n yAxis = n .y
+cellsOn n zAxis = n .z
 
 -- the corner of cell k with + 0 or + 1
 abbrev pub cellCorner : Medium → Cells → ℕ → ℕ → Point
-cellCorner m n k o = record { x = corner m ofX (n .x) (cellAxis n k ofX + o); y = corner m ofY (n .y) (cellAxis n k ofY + o); z = corner m ofZ (n .z) (cellAxis n k ofZ + o) }
+cellCorner m n k o = record { x = corner m xAxis (n .x) (cellAxis n k xAxis + o); y = corner m yAxis (n .y) (cellAxis n k yAxis + o); z = corner m zAxis (n .z) (cellAxis n k zAxis + o) }
 
 abbrev pub maxZ : ℤ → ℤ → ℤ
 maxZ a b = cond (leZ a b) b a
@@ -56,7 +57,7 @@ pub record Ends : Type 0 where
 -- the box of its three axes, or the fault of the first axis that has one
 abbrev pub boxOf : (Axis → Result Ends) → Result Box
 boxOf f =
-    bind (f ofX) (λ (x : Ends). bind (f ofY) (λ (y : Ends). bind (f ofZ) (λ (z : Ends).
+    bind (f xAxis) (λ (x : Ends). bind (f yAxis) (λ (y : Ends). bind (f zAxis) (λ (z : Ends).
     ok (record { lo = record { x = x .lo; y = y .lo; z = z .lo }; hi = record { x = x .hi; y = y .hi; z = z .hi } }))))
 
 abbrev pub one : Float

@@ -1,1 +1,2 @@
 pub mod Medium
+pub mod Record

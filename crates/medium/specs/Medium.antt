@@ -27,23 +27,23 @@ pub record Medium : Type 0 where
 
 -- the three axes
 pub data Axis : Type 0 where
-  ofX ofY ofZ : Axis
+  xAxis yAxis zAxis : Axis
 
 abbrev pub onPoint : Axis → Point → Float
-onPoint ofX p = p .x
-onPoint ofY p = p .y
-onPoint ofZ p = p .z
+onPoint xAxis p = p .x
+onPoint yAxis p = p .y
+onPoint zAxis p = p .z
 
 abbrev pub onCoord : Axis → Coord → ℤ
-onCoord ofX c = c .x
-onCoord ofY c = c .y
-onCoord ofZ c = c .z
+onCoord xAxis c = c .x
+onCoord yAxis c = c .y
+onCoord zAxis c = c .z
 
 -- where the row of an axis begins in the map
 abbrev pub row : Axis → ℕ
-row ofX = 0
-row ofY = 3
-row ofZ = 6
+row xAxis = 0
+row yAxis = 3
+row zAxis = 6
 
 abbrev pub mapAt : Medium → Axis → ℕ → Float
 mapAt m a col = getD (m .map) (row a + col) +0
@@ -52,7 +52,7 @@ mapAt m a col = getD (m .map) (row a + col) +0
 
 -- the fault of the first axis that has one
 abbrev pub each : (Axis → ℕ) → ℕ
-each f = f ofX then f ofY then f ofZ
+each f = f xAxis then f yAxis then f zAxis
 
 -- 4: a corner that is not finite, a minimum that is not below its maximum, or an infinite width
 unfoldable pub boundsFault : Medium → Axis → ℕ

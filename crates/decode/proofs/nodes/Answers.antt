@@ -1,17 +1,17 @@
 -- The answers of `node`, one for each way out. Assumes nothing.
 use mathlib.Core.Path.{_≡_, refl, sym, ap, _∙_, subst}
-use mathlib.Core.List.{List, [], _∷_, _++_}
+use mathlib.Core.List.{List}
 use Prim.Native.Nat.{ℕ, zero, suc, _+_, _*_, _/_, _≤_, _<_}
 use native.Mathlib.Omega.{arith}
 use lib.ListN.{length}
 use lib.Ieee.{Float}
-use Rattle.refusals.specs.Results.{ok, refused}
+use Rattle.refusals.specs.Results.{ok}
 use Rattle.sparse_grid.specs.declared.Entry.{Entry}
-use Rattle.decode.specs.Spans.{Span, Seen, at, nowhere, seen}
-use Rattle.decode.specs.Nodes.{byLevel, Places, State, Slots, claim, withSpan, entriesOf, nodesAt, placesAt, leafPlaced, placed, slotsRead, slotRead, node}
+use Rattle.decode.specs.Spans.{Span, nowhere, seen}
+use Rattle.decode.specs.Nodes.{byLevel, Places, State, claim, withSpan, entriesOf, nodesAt, placesAt, leafPlaced, placed, slotsRead, node}
 use Rattle.decode.specs.HeldNodes.{spanOf, opening}
 use Rattle.decode.specs.Inner.WorkTable.{size, spans, nodeSpan, EnterOut, ClaimOut}
-use Rattle.decode.specs.Inner.Filled.{countIn, placesIn, grownBy, LeafFilled, Tabs, tabs, Fit, NodeFit, Holds, Lends, Ready, Shut, Reads, NodeOut, lowerOpen, upperOpen, SlotOut}
+use Rattle.decode.specs.Inner.Filled.{countIn, placesIn, grownBy, LeafFilled, Tabs, tabs, Fit, NodeFit, Holds, Lends, Reads, NodeOut, SlotOut}
 use Rattle.decode.specs.declared.spans.Spans.{Spans}
 use Rattle.decode.specs.declared.spans.Entered.{Entered}
 use Rattle.decode.specs.declared.spans.Entered.the-variants.{Again, Fresh, Stop}
@@ -163,7 +163,7 @@ module _ (b : List ℕ) (source level : ℕ) (w w' ul : List ℕ) (uv : List Flo
                 let last : i ≡ entriesOf level = omega (arith, t .turn) in (
                   placed level now,
                   subst (λ (n : ℕ). node level b p source d ≡ ok (record { number = n; state = placed level now })) (number d lower upper (R .holds))
-                  (node-ends level source b p d (new d lower upper (R .holds)) (claimed p d lower upper R) (has-room p d lower upper R) l down now (subst (λ (n : ℕ). slotsRead b (node l b p) level source n (opening level source d) ≡ ok now) last read)),
+                      (node-ends level source b p d (new d lower upper (R .holds)) (claimed p d lower upper R) (has-room p d lower upper R) l down now (subst (λ (n : ℕ). slotsRead b (node l b p) level source n (opening level source d) ≡ ok now) last read)),
                   holds-placed w₂ ul₂ uv₂ ll₂ lv₂ lf₂ s level now lower upper (omega arith) (R .shut) holds,
                 );
           }

@@ -4,14 +4,14 @@ use mathlib.Core.List.{List, [], _∷_, _++_}
 use mathlib.Core.Bool.{Bool, true, false, not}
 use Prim.Native.Nat.{ℕ, zero, suc, _+_, _*_, _/_, _≤_, _<_}
 use native.Mathlib.Omega.{arith}
-use lib.Dec.{T, leb, leb→le, ltb}
+use lib.Dec.{T, leb, ltb}
 use lib.ListN.{length, drop, replicate, length-replicate}
 use lib.Ieee.{Float}
 use Rattle.refusals.specs.Results.{ok, need}
 use Rattle.refusals.specs.ResultLaws.{need-ok}
-use Rattle.decode.specs.Spans.{Span, overlaps}
+use Rattle.decode.specs.Spans.{overlaps}
 use Rattle.decode.specs.Nodes.{byLevel, Places, State, claim, withSpan}
-use Rattle.decode.specs.Inner.WorkTable.{Rep, nodes, spans, size, headerSpan, rootSpan, nodeSpan, Pushed, Says, ClaimOut}
+use Rattle.decode.specs.Inner.WorkTable.{nodes, spans, size, headerSpan, rootSpan, nodeSpan, ClaimOut}
 use Rattle.decode.specs.Inner.Packed.{Packed, packed-more, packed-few, no-either}
 use Rattle.decode.specs.Inner.Filled.{tabs, Fit, countIn, grownBy, placesIn, roomIn}
 use Rattle.decode.specs.declared.spans.Spans.{Spans}

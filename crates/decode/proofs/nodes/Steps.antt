@@ -2,18 +2,16 @@
 use mathlib.Core.Path.{_≡_, refl, sym, ap, _∙_, subst}
 use mathlib.Core.Logic.{inl, inr}
 use mathlib.Core.List.{List, [], _∷_, _++_}
-use mathlib.Core.Bool.{Bool, true, false, not, cond}
 use Prim.Native.Nat.{ℕ, zero, suc, _+_, _*_, _≤_, _<_}
 use native.Mathlib.Nat.{eq-or-lt-of-le, le-of-suc-le-suc}
 use native.Mathlib.Omega.{arith}
-use lib.Dec.{eqb, ltb}
 use lib.Ieee.{Float}
 use borrow.Author.Tests.{lt-ltb, le-ltb, eq-eqb, ne-eqb}
-use Rattle.refusals.specs.Results.{Result, ok, refused, bind, need}
+use Rattle.refusals.specs.Results.{Result, ok, refused, bind}
 use Rattle.layout.specs.Bytes.{u64At, i64At, f32At, maskBit}
 use Rattle.sparse_grid.specs.declared.Entry.the-variants.{Child, Tile}
-use Rattle.decode.specs.Spans.{Span, Seen, at, nowhere, seen}
-use Rattle.decode.specs.Nodes.{Places, State, Read, Slots, Reader, claim, withSpan, childTarget, entriesOf, maskOf, tableOf, nodesAt, placesAt, counted, slotRead, slotsRead, placed, leafPlaced, opened, again, node}
+use Rattle.decode.specs.Spans.{at, nowhere, seen}
+use Rattle.decode.specs.Nodes.{Places, State, Read, Slots, Reader, claim, withSpan, childTarget, entriesOf, maskOf, tableOf, nodesAt, placesAt, slotRead, slotsRead, placed, leafPlaced, opened, again, node}
 use Rattle.decode.specs.HeldNodes.{spanOf, opening}
 
 -- ---- one slot

@@ -1,8 +1,7 @@
 -- The tables hold the definition's state after each step of the reader. Assumes nothing.
 use mathlib.Core.Path.{_≡_, refl, sym, ap, _∙_, subst}
 use mathlib.Core.List.{List, [], _∷_, _++_, map, append-assoc, append-nil}
-use Prim.Native.Nat.{ℕ, zero, suc, _+_, _*_, _/_, _≤_, _<_}
-use native.Mathlib.Nat.{mul-comm}
+use Prim.Native.Nat.{ℕ, zero, suc, _+_, _*_, _<_}
 use native.Mathlib.Omega.{arith}
 use lib.ListN.{length, set, length-append, length-map, length-set}
 use lib.Ieee.{Float}
@@ -12,11 +11,11 @@ use Rattle.lent.specs.Padded.{padded}
 use Rattle.lent.specs.PaddedLaws.{padded-push, padded-zero}
 use Rattle.sparse_grid.specs.declared.Entry.{Entry}
 use Rattle.sparse_grid.specs.declared.Entry.the-variants.{Child, Tile}
-use Rattle.decode.specs.Nodes.{byLevel, Places, State, Read, Slots, withSpan, counted, entriesOf, nodesAt, leafValues, leafPlaced, placed, slotsRead, node}
+use Rattle.decode.specs.Nodes.{byLevel, Places, State, Read, Slots, entriesOf, nodesAt, leafValues, leafPlaced, placed, slotsRead, node}
 use Rattle.decode.specs.Decode.{linkOf, valueOf}
-use Rattle.decode.specs.HeldNodes.{Inv0, Inv1, Inv2, spanOf, opening, lower-filled, upper-filled, read-leaf, read-lower}
-use Rattle.decode.specs.Inner.WorkTable.{spans, size, nodeSpan, Pushed}
-use Rattle.decode.specs.Inner.Filled.{countIn, grownBy, roomIn, atLower, atUpper, LeafFilled, Tabs, tabs, Holds, Lends, Ready, Shut, Reads, lowerOpen, upperOpen, before}
+use Rattle.decode.specs.HeldNodes.{spanOf, opening, lower-filled, upper-filled, read-leaf, read-lower}
+use Rattle.decode.specs.Inner.WorkTable.{spans, size, Pushed}
+use Rattle.decode.specs.Inner.Filled.{countIn, grownBy, roomIn, atLower, atUpper, LeafFilled, tabs, Holds, Ready, Shut, lowerOpen, upperOpen, before}
 use Rattle.decode.specs.declared.spans.Spans.{Spans}
 use Rattle.decode.specs.declared.nodes.State as Progress
 
@@ -58,18 +57,36 @@ module _ (w w' ul : List ℕ) (uv : List Float) (ll : List ℕ) (lv lf : List Fl
   pub holds-opened : (level : ℕ) → Holds (tabs w ul uv ll lv lf) st d lower upper → Pushed w w' (st .spans) next source level (countIn st level) → Holds (tabs w' ul uv ll lv lf) (grownBy level st next) (opening level source d) lower upper
   holds-opened zero h p = record {
     spans-are = span-more 0 (st .leaves) (h .spans-are) (sym (h .leaves)) p;
-    uppers = h .uppers; lowers = h .lowers; leaves = ap (λ (k : ℕ). k + 1) (h .leaves);
-    upperLinks = h .upperLinks; upperValues = h .upperValues; lowerLinks = h .lowerLinks; lowerValues = h .lowerValues; leafValues = h .leafValues;
+    uppers = h .uppers;
+    lowers = h .lowers;
+    leaves = ap (λ (k : ℕ). k + 1) (h .leaves);
+    upperLinks = h .upperLinks;
+    upperValues = h .upperValues;
+    lowerLinks = h .lowerLinks;
+    lowerValues = h .lowerValues;
+    leafValues = h .leafValues;
   }
   holds-opened (suc zero) h p = record {
     spans-are = span-more 1 (st .lowers) (h .spans-are) (sym (h .lowers)) p;
-    uppers = h .uppers; lowers = ap (λ (k : ℕ). k + 1) (h .lowers); leaves = h .leaves;
-    upperLinks = h .upperLinks; upperValues = h .upperValues; lowerLinks = h .lowerLinks; lowerValues = h .lowerValues; leafValues = h .leafValues;
+    uppers = h .uppers;
+    lowers = ap (λ (k : ℕ). k + 1) (h .lowers);
+    leaves = h .leaves;
+    upperLinks = h .upperLinks;
+    upperValues = h .upperValues;
+    lowerLinks = h .lowerLinks;
+    lowerValues = h .lowerValues;
+    leafValues = h .leafValues;
   }
   holds-opened (suc (suc n)) h p = record {
     spans-are = span-more (suc (suc n)) (st .uppers) (h .spans-are) (sym (h .uppers)) p;
-    uppers = ap (λ (k : ℕ). k + 1) (h .uppers); lowers = h .lowers; leaves = h .leaves;
-    upperLinks = h .upperLinks; upperValues = h .upperValues; lowerLinks = h .lowerLinks; lowerValues = h .lowerValues; leafValues = h .leafValues;
+    uppers = ap (λ (k : ℕ). k + 1) (h .uppers);
+    lowers = h .lowers;
+    leaves = h .leaves;
+    upperLinks = h .upperLinks;
+    upperValues = h .upperValues;
+    lowerLinks = h .lowerLinks;
+    lowerValues = h .lowerValues;
+    leafValues = h .leafValues;
   }
 
 -- ---- a leaf, and a node whose slots have all been read
@@ -77,8 +94,14 @@ module _ (w w' ul : List ℕ) (uv : List Float) (ll : List ℕ) (lv lf : List Fl
 module _ (w ul : List ℕ) (uv : List Float) (ll : List ℕ) (lv lf : List Float) (s : Progress.State) where
   pub holds-leaf : (lf' : List Float) (b : List ℕ) (source base : ℕ) (d : State) (lower upper : List Entry) → Holds (tabs w ul uv ll lv lf) s d lower upper → length (d .leaf) ≡ base → LeafFilled b source base lf lf' → Holds (tabs w ul uv ll lv lf') s (leafPlaced b source d) lower upper
   holds-leaf lf' b source base d lower upper h size f = record {
-    spans-are = h .spans-are; uppers = h .uppers; lowers = h .lowers; leaves = h .leaves;
-    upperLinks = h .upperLinks; upperValues = h .upperValues; lowerLinks = h .lowerLinks; lowerValues = h .lowerValues;
+    spans-are = h .spans-are;
+    uppers = h .uppers;
+    lowers = h .lowers;
+    leaves = h .leaves;
+    upperLinks = h .upperLinks;
+    upperValues = h .upperValues;
+    lowerLinks = h .lowerLinks;
+    lowerValues = h .lowerValues;
     leafValues = f .filled (d .leaf) (h .leafValues) size ∙ ap (λ (k : ℕ). padded k +0 (d .leaf ++ leafValues b source 512)) (sym (f .kept));
   }
 
@@ -91,14 +114,21 @@ module _ (w ul : List ℕ) (uv : List Float) (ll : List ℕ) (lv lf : List Float
   pub holds-placed : (level : ℕ) (now : Slots) (lower upper : List Entry) → 0 < level → Shut level lower upper → Holds (tabs w ul uv ll lv lf) s (now .state) (lowerOpen level (now .entries)) (upperOpen level (now .entries) upper) → Holds (tabs w ul uv ll lv lf) s (placed level now) lower upper
   holds-placed zero now lower upper p c h = absurd (omega arith)
   holds-placed (suc zero) now lower upper p c h = record {
-    spans-are = h .spans-are; uppers = h .uppers; lowers = h .lowers; leaves = h .leaves;
-    upperLinks = h .upperLinks; upperValues = h .upperValues;
+    spans-are = h .spans-are;
+    uppers = h .uppers;
+    lowers = h .lowers;
+    leaves = h .leaves;
+    upperLinks = h .upperLinks;
+    upperValues = h .upperValues;
     lowerLinks = h .lowerLinks ∙ nothing (length ll) 0 linkOf (now .state .lower) (now .entries) lower c;
     lowerValues = h .lowerValues ∙ nothing (length lv) +0 valueOf (now .state .lower) (now .entries) lower c;
     leafValues = h .leafValues;
   }
   holds-placed (suc (suc n)) now lower upper p c h = record {
-    spans-are = h .spans-are; uppers = h .uppers; lowers = h .lowers; leaves = h .leaves;
+    spans-are = h .spans-are;
+    uppers = h .uppers;
+    lowers = h .lowers;
+    leaves = h .leaves;
     upperLinks = h .upperLinks ∙ nothing (length ul) 0 linkOf (now .state .upper) (now .entries) upper (c .1);
     upperValues = h .upperValues ∙ nothing (length uv) +0 valueOf (now .state .upper) (now .entries) upper (c .1);
     lowerLinks = h .lowerLinks ∙ closed (length ll) 0 linkOf (now .state .lower) lower (c .0);
@@ -119,7 +149,10 @@ module _ (w ul ul' : List ℕ) (uv uv' : List Float) (ll ll' : List ℕ) (lv lv'
       → uv' ≡ atUpper level uv at v → lv' ≡ atLower level lv at v → Holds (tabs w ul uv' ll lv' lf) s d (lowerOpen level (es ++ (Tile v ∷ []))) (upperOpen level (es ++ (Tile v ∷ [])) outer)
   holds-tile zero at v small h pu pl b room u l = absurd (omega arith)
   holds-tile (suc zero) at v small h pu pl b room u l = record {
-    spans-are = h .spans-are; uppers = h .uppers; lowers = h .lowers; leaves = h .leaves;
+    spans-are = h .spans-are;
+    uppers = h .uppers;
+    lowers = h .lowers;
+    leaves = h .leaves;
     upperLinks = h .upperLinks;
     upperValues = subst (λ (t : List Float). t ≡ padded (length t) +0 (map valueOf (d .upper ++ outer))) (sym u) (h .upperValues);
     lowerLinks = entry-none 0 linkOf (d .lower) es (Tile v) ll (h .lowerLinks) at b room refl;
@@ -127,7 +160,10 @@ module _ (w ul ul' : List ℕ) (uv uv' : List Float) (ll ll' : List ℕ) (lv lv'
     leafValues = h .leafValues;
   }
   holds-tile (suc (suc n)) at v small h pu pl b room u l = record {
-    spans-are = h .spans-are; uppers = h .uppers; lowers = h .lowers; leaves = h .leaves;
+    spans-are = h .spans-are;
+    uppers = h .uppers;
+    lowers = h .lowers;
+    leaves = h .leaves;
     upperLinks = entry-none 0 linkOf (d .upper) es (Tile v) ul (h .upperLinks) at b room refl;
     upperValues = subst (λ (t : List Float). t ≡ padded (length t) +0 (map valueOf (d .upper ++ (es ++ (Tile v ∷ []))))) (sym u) (entry-put +0 valueOf (d .upper) es (Tile v) uv (h .upperValues) at v b (omega arith) refl);
     lowerLinks = h .lowerLinks;
@@ -139,7 +175,10 @@ module _ (w ul ul' : List ℕ) (uv uv' : List Float) (ll ll' : List ℕ) (lv lv'
       → x ≡ k + 1 → ul' ≡ atUpper level ul at x → ll' ≡ atLower level ll at x → Holds (tabs w ul' uv ll' lv lf) s d (lowerOpen level (es ++ (Child k ∷ []))) (upperOpen level (es ++ (Child k ∷ [])) outer)
   holds-child zero at k x small h pu pl b room is u l = absurd (omega arith)
   holds-child (suc zero) at k x small h pu pl b room is u l = record {
-    spans-are = h .spans-are; uppers = h .uppers; lowers = h .lowers; leaves = h .leaves;
+    spans-are = h .spans-are;
+    uppers = h .uppers;
+    lowers = h .lowers;
+    leaves = h .leaves;
     upperLinks = subst (λ (t : List ℕ). t ≡ padded (length t) 0 (map linkOf (d .upper ++ outer))) (sym u) (h .upperLinks);
     upperValues = h .upperValues;
     lowerLinks = subst (λ (t : List ℕ). t ≡ padded (length t) 0 (map linkOf (d .lower ++ (es ++ (Child k ∷ []))))) (sym l) (entry-put 0 linkOf (d .lower) es (Child k) ll (h .lowerLinks) at x b room is);
@@ -147,7 +186,10 @@ module _ (w ul ul' : List ℕ) (uv uv' : List Float) (ll ll' : List ℕ) (lv lv'
     leafValues = h .leafValues;
   }
   holds-child (suc (suc n)) at k x small h pu pl b room is u l = record {
-    spans-are = h .spans-are; uppers = h .uppers; lowers = h .lowers; leaves = h .leaves;
+    spans-are = h .spans-are;
+    uppers = h .uppers;
+    lowers = h .lowers;
+    leaves = h .leaves;
     upperLinks = subst (λ (t : List ℕ). t ≡ padded (length t) 0 (map linkOf (d .upper ++ (es ++ (Child k ∷ []))))) (sym u) (entry-put 0 linkOf (d .upper) es (Child k) ul (h .upperLinks) at x b room is);
     upperValues = entry-none +0 valueOf (d .upper) es (Child k) uv (h .upperValues) at b (omega arith) refl;
     lowerLinks = subst (λ (t : List ℕ). t ≡ padded (length t) 0 (map linkOf (d .lower ++ []))) (sym l) (h .lowerLinks);

@@ -1,27 +1,24 @@
 -- The answers of `slot` and `node`, and the loop over a node's slots. Assumes nothing.
 use mathlib.Core.Path.{_≡_, refl, sym, ap, _∙_, subst}
-use mathlib.Core.List.{List, [], _∷_, _++_}
+use mathlib.Core.List.{List, []}
 use Prim.Native.Nat.{ℕ, zero, suc, _+_, _*_, _/_, _≤_, _<_}
 use native.Mathlib.Omega.{arith}
-use lib.ListN.{length, length-set}
+use lib.ListN.{length}
 use lib.Ieee.{Float}
 use Rattle.refusals.specs.Results.{ok, refused}
 use Rattle.layout.specs.Bytes.{u64At, i64At, f32At, maskBit}
 use Rattle.sparse_grid.specs.declared.Entry.{Entry}
-
-use Rattle.decode.specs.Nodes.{byLevel, Places, State, Read, Slots, claim, withSpan, childTarget, entriesOf, maskOf, tableOf, nodesAt, placesAt, slotRead, slotsRead, leafPlaced, placed, node}
-use Rattle.decode.specs.HeldNodes.{spanOf, opening}
-use Rattle.decode.specs.Inner.WorkTable.{size, spans, nodeSpan, EnterOut, ClaimOut}
-use Rattle.decode.specs.Inner.Filled.{ofTarget, countIn, placesIn, grownBy, roomIn, atLower, atUpper, LeafFilled, tabs, Fit, Kept, Holds, Lends, Ready, Reads, NodeOut, lowerOpen, upperOpen, before, ReadsSlot, SlotOut}
-use Rattle.decode.specs.declared.spans.Spans.{Spans}
-use Rattle.decode.specs.declared.spans.Entered.the-variants.{Again, Fresh, Stop}
+use Rattle.decode.specs.Nodes.{Places, State, Slots, childTarget, maskOf, tableOf, slotRead, slotsRead, node}
+use Rattle.decode.specs.Inner.WorkTable.{spans}
+use Rattle.decode.specs.Inner.Filled.{ofTarget, roomIn, atLower, atUpper, tabs, Fit, Kept, Holds, Lends, Ready, Reads, NodeOut, lowerOpen, upperOpen, before, ReadsSlot, SlotOut}
+use Rattle.decode.specs.declared.spans.Entered.the-variants.{Stop}
 use Rattle.decode.specs.declared.nodes.State as Progress
 use Rattle.decode.specs.declared.nodes.Target as Target
 use Rattle.decode.specs.declared.nodes.Placed as Placed
 use Rattle.decode.specs.declared.nodes.Step as Step
-use Rattle.decode.proofs.nodes.Steps.{slot-tile, slot-zero, slot-off, slot-refused, slot-child, slots-more, node-again, node-stops, node-full, node-leaf, node-broke, node-ends}
-use Rattle.decode.proofs.nodes.Fits.{fit-fresh, fit-kept, number-small}
-use Rattle.decode.proofs.nodes.Tables.{holds-opened, holds-leaf, holds-placed, holds-begun, holds-tile, holds-child, slots-ready, child-before, leaf-base}
+use Rattle.decode.proofs.nodes.Steps.{slot-tile, slot-zero, slot-off, slot-refused, slot-child, slots-more}
+use Rattle.decode.proofs.nodes.Fits.{fit-kept}
+use Rattle.decode.proofs.nodes.Tables.{holds-tile, holds-child, child-before}
 
 -- ---- the answers of `slot`
 

@@ -1,14 +1,14 @@
 -- The lent tables while nodes are read into them, beside the state of the definition: what the contracts of the node reader say.
-use Prim.Native.Nat.{ℕ, zero, suc, _+_, _*_, _/_, _<_, _≤_}
+use Prim.Native.Nat.{ℕ, zero, suc, _+_, _/_, _<_}
 use mathlib.Core.Path.{_≡_}
-use mathlib.Core.List.{List, [], _∷_, _++_, map}
+use mathlib.Core.List.{List, [], _++_, map}
 use lib.ListN.{length, set}
 use lib.Ieee.{Float}
 use Rattle.refusals.specs.Results.{Result, ok, refused}
 use Rattle.float.specs.Zero.{+0}
 use Rattle.lent.specs.Padded.{padded}
 use Rattle.sparse_grid.specs.declared.Entry.{Entry}
-use Rattle.decode.specs.Nodes.{byLevel, Places, State, Read, Slots, leafValues, slotRead, node}
+use Rattle.decode.specs.Nodes.{byLevel, Places, State, Slots, leafValues, slotRead, node}
 use Rattle.decode.specs.Decode.{linkOf, valueOf}
 use Rattle.decode.specs.HeldNodes.{Inv0, Inv1, Inv2}
 use Rattle.decode.specs.Inner.WorkTable.{Rep, nodes, spans}

@@ -4,7 +4,7 @@ use native.Mathlib.Omega.{arith}
 use lib.ListN.{length}
 use lib.Ieee.{binary32}
 use Rattle.float.specs.Zero.{+0}
-use Rattle.lent.specs.Literal.{zero-literal}
+use Rattle.float.specs.Literal.{zero-literal}
 use Rattle.lent.proofs.Fill.{Filled, fill-none, fill-more, fill-all}
 use Rattle.lent.proofs.zero_f32.Statement.{statement}
 use Rattle.lent.proofs.zero_f32.Tie as tie

@@ -1,7 +1,7 @@
 use native.Mathlib.Omega.{arith}
 use borrow.Author.Needs.{needs}
-use Prim.Native.Nat.{ℕ, _<_, _+_, _-_, _*_}
-use mathlib.Core.Path.{_≡_, refl, ap, _∙_}
+use Prim.Native.Nat.{ℕ, _+_, _-_, _*_}
+use mathlib.Core.Path.{refl, ap, _∙_}
 use lib.ListN.{length}
 use native.Mathlib.Nat.{pos-of-ne-zero}
 use Rattle.decode.proofs.nodes.Levels.{below, below-is, less-one}
@@ -99,319 +99,240 @@ node-Inv-loop bytes source level work₀ ul₀ uv₀ ll₀ lv₀ leaves₀ k ent
 abbrev node-μ-loop : node-lts.MeasureT-loop
 node-μ-loop bytes source level work₀ ul₀ uv₀ ll₀ lv₀ leaves₀ k entries base now₀ i₀ work ul uv ll lv leaves now i = entries - i
 
--- src/nodes.rt:200:9
 node-count-of-requires : (t : ℕ) → node-lts.Need-count-of-requires (node-C t) (node-at t) node.Post node-Inv-loop node-μ-loop
 node-count-of-requires t c κs = search needs
 
--- src/nodes.rt:208:9
 node-cast-enter : (t : ℕ) → node-lts.Need-cast-enter (node-C t) (node-at t) node.Post node-Inv-loop node-μ-loop
 node-cast-enter t c = omega (arith, number-small _ _ _ _ _ _ _ _ (c .before .before .before .before .before .before .before .before .before .before .pre .1 .2) (c .before .before .before .before .before .before .before .before .before .before .pre .1 .0) (c .before .before .before .before .before .before .before .before .before .before .args .level), c .before .before .count-of .ensures)
 
--- src/nodes.rt:202:11
 node-enter-requires : (t : ℕ) → node-lts.Need-enter-requires (node-C t) (node-at t) node.Post node-Inv-loop node-μ-loop
 node-enter-requires t c κs = (c .before .before .before .before .before .before .before .before .before .before .pre .1 .2 .rep, c .before .before .before .before .before .before .before .before .before .before .pre .1 .1, omega (arith, number-small _ _ _ _ _ _ _ _ (c .before .before .before .before .before .before .before .before .before .before .pre .1 .2) (c .before .before .before .before .before .before .before .before .before .before .pre .1 .0) (c .before .before .before .before .before .before .before .before .before .before .args .level), c .before .before .count-of .ensures))
 
--- src/nodes.rt:210:24
 node-enum-known-n : (t : ℕ) → node-lts.Need-enum-known-n (node-C t) (node-at t) node.Post node-Inv-loop node-μ-loop
 node-enum-known-n t c = search needs
 
--- src/nodes.rt:211:23
 node-enum-known-e : (t : ℕ) → node-lts.Need-enum-known-e (node-C t) (node-at t) node.Post node-Inv-loop node-μ-loop
 node-enum-known-e t c = search needs
 
--- src/nodes.rt:212:24
 node-enum-known-next : (t : ℕ) → node-lts.Need-enum-known-next (node-C t) (node-at t) node.Post node-Inv-loop node-μ-loop
 node-enum-known-next t c = search needs
 
--- src/nodes.rt:213:16
 node-places-of-requires : (t : ℕ) → node-lts.Need-places-of-requires (node-C t) (node-at t) node.Post node-Inv-loop node-μ-loop
 node-places-of-requires t c κs = search needs
 
--- src/nodes.rt:214:17
 node-same-length : (t : ℕ) → node-lts.Need-same-length (node-C t) (node-at t) node.Post node-Inv-loop node-μ-loop
 node-same-length t c = search needs
 
--- src/nodes.rt:214:17
 node-returns : (t : ℕ) → node-lts.Need-returns (node-C t) (node-at t) node.Post node-Inv-loop node-μ-loop
 node-returns t c = node-out-full _ _ _ _ _ _ _ _ _ _ _ _ (c .before .before .before .before .before .before .before .before .before .before .count-of .ensures) (c .before .before .before .before .before .before .before .before .before .before .before .before .before .before .before .before .before .before .pre .1 .2) (c .before .before .before .before .before .before .before .before .before .before .before .before .before .before .before .before .before .before .pre .1 .0) _ (c .before .before .before .before .before .before .before .enter .ensures) _ (c .before .before .before .next .given .1) (omega (arith, c .before .places-of .ensures, c .if1 .taken))
 
--- src/nodes.rt:216:17
 node-entries-of-requires : (t : ℕ) → node-lts.Need-entries-of-requires (node-C t) (node-at t) node.Post node-Inv-loop node-μ-loop
 node-entries-of-requires t c κs = search needs
 
--- src/nodes.rt:217:24
 node-mul-base : (t : ℕ) → node-lts.Need-mul-base (node-C t) (node-at t) node.Post node-Inv-loop node-μ-loop
 node-mul-base t c = record { fits = base-fits (c .before .before .before .before .before .before .before .before .before .before .before .before .before .before .before .before .before .before .before .args .level) (length (c .before .before .before .before .before .before .before .before .before .before .before .before .before .before .before .before .before .before .before .args .ul .now)) (length (c .before .before .before .before .before .before .before .before .before .before .before .before .before .before .before .before .before .before .before .args .ll .now)) (length (c .before .before .before .before .before .before .before .before .before .before .before .before .before .before .before .before .before .before .before .args .leaves .now)) _ _ (c .entries-of .ensures .0) (omega (arith, c .before .before .places-of .ensures, c .before .if1 .left)) (c .before .before .before .before .before .before .before .before .before .before .before .before .before .before .before .before .before .before .before .good .1 .1 .1 .1 .1 .0 .0) (c .before .before .before .before .before .before .before .before .before .before .before .before .before .before .before .before .before .before .before .good .1 .1 .1 .1 .1 .1 .1 .0 .0) (c .before .before .before .before .before .before .before .before .before .before .before .before .before .before .before .before .before .before .before .good .1 .1 .1 .1 .1 .1 .1 .1 .1 .0 .0) }
 
--- src/nodes.rt:218:17
 node-grown-requires : (t : ℕ) → node-lts.Need-grown-requires (node-C t) (node-at t) node.Post node-Inv-loop node-μ-loop
 node-grown-requires t c κs = (let s = count-small _ _ _ _ _ _ _ _ (c .before .before .before .before .before .before .before .before .before .before .before .before .before .before .before .before .before .before .before .pre .1 .2) (c .before .before .before .before .before .before .before .before .before .before .before .before .before .before .before .before .before .before .before .pre .1 .0) in (omega arith, omega arith, omega arith))
 
--- src/nodes.rt:220:17
 node-leaf-requires : (t : ℕ) → node-lts.Need-leaf-requires (node-C t) (node-at t) node.Post node-Inv-loop node-μ-loop
 node-leaf-requires t c κs = (node-inside (c .before .before .before .before .before .before .before .before .before .before .before .before .before .before .before .before .before .before .before .before .before .before .args .bytes .now) (c .before .before .before .before .before .before .before .before .before .before .before .before .before .before .before .before .before .before .before .before .before .before .args .source) (c .before .before .before .before .before .before .before .before .before .before .before .before .before .before .before .before .before .before .before .before .before .before .args .level) (c .before .before .before .before .before .before .before .before .before .before .before .before .before .before .before .before .before .before .before .before .before .before .args .work .now) (c .before .before .before .before .before .before .before .before .before .before .before .enter .last .1 .0) (c .before .before .before .before .before .before .before .before .before .before .before .before .before .before .before .before .before .before .before .before .before .before .args .ul .now) (c .before .before .before .before .before .before .before .before .before .before .before .before .before .before .before .before .before .before .before .before .before .before .args .uv .now) (c .before .before .before .before .before .before .before .before .before .before .before .before .before .before .before .before .before .before .before .before .before .before .args .ll .now) (c .before .before .before .before .before .before .before .before .before .before .before .before .before .before .before .before .before .before .before .before .before .before .args .lv .now) (c .before .before .before .before .before .before .before .before .before .before .before .before .before .before .before .before .before .before .before .before .before .before .args .leaves .now) (c .before .before .before .before .before .before .before .before .before .before .before .before .before .before .before .before .before .before .before .before .before .before .args .st) (c .before .before .before .before .before .before .before .before .before .before .before .before .before .before .count-of .result) (c .before .before .before .before .before .before .before .before .before .before .before .before .before .before .count-of .ensures) (c .before .before .before .before .before .before .before .before .before .before .before .before .before .before .before .before .before .before .before .before .before .before .pre .1 .2) (c .before .before .before .before .before .before .before .before .before .before .before .before .before .before .before .before .before .before .before .before .before .before .pre .1 .0) _ (c .before .before .before .before .before .before .before .before .before .before .before .enter .ensures) _ (c .before .before .before .before .before .before .before .next .given .1), leaf-room (c .before .before .before .before .before .before .before .before .before .before .before .before .before .before .before .before .before .before .before .before .before .before .args .level) (length (c .before .before .before .before .before .before .before .before .before .before .before .before .before .before .before .before .before .before .before .before .before .before .args .ul .now)) (length (c .before .before .before .before .before .before .before .before .before .before .before .before .before .before .before .before .before .before .before .before .before .before .args .ll .now)) (length (c .before .before .before .before .before .before .before .before .before .before .before .before .before .before .before .before .before .before .before .before .before .before .args .leaves .now)) _ _ (c .before .before .before .entries-of .ensures .0) (omega (arith, c .before .before .before .before .before .places-of .ensures, c .before .before .before .before .if1 .left)) (c .before .if2 .taken))
 
--- src/nodes.rt:221:37
 node-cast-t38 : (t : ℕ) → node-lts.Need-cast-t38 (node-C t) (node-at t) node.Post node-Inv-loop node-μ-loop
 node-cast-t38 t c = omega (arith, number-small _ _ _ _ _ _ _ _ (c .before .before .before .before .before .before .before .before .before .before .before .before .before .before .before .before .before .before .before .before .before .before .before .before .before .pre .1 .2) (c .before .before .before .before .before .before .before .before .before .before .before .before .before .before .before .before .before .before .before .before .before .before .before .before .before .pre .1 .0) (c .before .before .before .before .before .before .before .before .before .before .before .before .before .before .before .before .before .before .before .before .before .before .before .before .before .args .level), c .before .before .before .before .before .before .before .before .before .before .before .before .before .before .before .before .before .count-of .ensures)
 
--- src/nodes.rt:221:17
 node-same-length-2 : (t : ℕ) → node-lts.Need-same-length-2 (node-C t) (node-at t) node.Post node-Inv-loop node-μ-loop
 node-same-length-2 t c = search needs
 
--- src/nodes.rt:221:17
 node-same-length-3 : (t : ℕ) → node-lts.Need-same-length-3 (node-C t) (node-at t) node.Post node-Inv-loop node-μ-loop
 node-same-length-3 t c = search needs
 
--- src/nodes.rt:221:17
 node-returns-2 : (t : ℕ) → node-lts.Need-returns-2 (node-C t) (node-at t) node.Post node-Inv-loop node-μ-loop
 node-returns-2 t c = node-out-leaf _ _ _ _ _ _ _ _ _ _ _ _ (c .before .before .before .before .before .before .before .before .before .before .before .before .before .before .before .before .before .count-of .ensures) (c .before .before .before .before .before .before .before .before .before .before .before .before .before .before .before .before .before .before .before .before .before .before .before .before .before .pre .1 .2) (c .before .before .before .before .before .before .before .before .before .before .before .before .before .before .before .before .before .before .before .before .before .before .before .before .before .pre .1 .0) _ (c .before .before .before .before .before .before .before .before .before .before .before .before .before .before .enter .ensures) _ (c .before .before .before .before .before .before .before .before .before .before .next .given .1) (omega (arith, c .before .before .before .before .before .before .before .before .places-of .ensures, c .before .before .before .before .before .before .before .if1 .left)) _ _ _ (c .before .before .before .before .if2 .taken) (ap (λ (n : ℕ). c .before .before .before .before .before .before .before .before .before .before .before .before .before .before .before .before .before .count-of .result * n) (c .before .before .before .before .before .before .entries-of .ensures .0)) (c .before .before .before .before .before .grown .ensures) (c .before .before .leaf .ensures)
 
--- src/nodes.rt:224:13
 node-loop-holds : (t : ℕ) → node-lts.Need-loop-holds (node-C t) (node-at t) node.Post node-Inv-loop node-μ-loop
 node-loop-holds t c = node-begins _ _ _ _ _ _ _ _ _ _ _ _ (c .before .before .before .before .before .before .before .before .before .before .before .before .before .count-of .ensures) (c .before .before .before .before .before .before .before .before .before .before .before .before .before .before .before .before .before .before .before .before .before .pre .1 .2) (c .before .before .before .before .before .before .before .before .before .before .before .before .before .before .before .before .before .before .before .before .before .pre .1 .0) _ (c .before .before .before .before .before .before .before .before .before .before .enter .ensures) _ (c .before .before .before .before .before .before .next .given .1) _ _ _ (c .before .grown .ensures)
 
--- src/nodes.rt:225:23
 node-slot-requires : (t : ℕ) → node-lts.Need-slot-requires (node-C t) (node-at t) node.Post node-Inv-loop node-μ-loop
 node-slot-requires t c κs = (omega (arith, c .before .before .before .before .before .before .before .before .before .before .before .before .before .before .before .before .before .before .before .before .before .before .before .before .before .before .before .before .before), (c .before .before .before .before .before .before .before .before .before .before .before .before .before .before .before .before .before .before .before .before .before .before .before .before .before .before .before .before .before .pre .1 .0, (node-inside (c .before .before .before .before .before .before .before .before .before .before .before .before .before .before .before .before .before .before .before .before .before .before .before .before .before .before .before .before .before .args .bytes .now) (c .before .before .before .before .before .before .before .before .before .before .before .before .before .before .before .before .before .before .before .before .before .before .before .before .before .before .before .before .before .args .source) (c .before .before .before .before .before .before .before .before .before .before .before .before .before .before .before .before .before .before .before .before .before .before .before .before .before .before .before .before .before .args .level) (c .before .before .before .before .before .before .before .before .before .before .before .before .before .before .before .before .before .before .before .before .before .before .before .before .before .before .before .before .before .args .work .now) (c .before .before .before .before .before .before .before .before .before .before .before .before .before .before .before .before .before .before .enter .last .1 .0) (c .before .before .before .before .before .before .before .before .before .before .before .before .before .before .before .before .before .before .before .before .before .before .before .before .before .before .before .before .before .args .ul .now) (c .before .before .before .before .before .before .before .before .before .before .before .before .before .before .before .before .before .before .before .before .before .before .before .before .before .before .before .before .before .args .uv .now) (c .before .before .before .before .before .before .before .before .before .before .before .before .before .before .before .before .before .before .before .before .before .before .before .before .before .before .before .before .before .args .ll .now) (c .before .before .before .before .before .before .before .before .before .before .before .before .before .before .before .before .before .before .before .before .before .before .before .before .before .before .before .before .before .args .lv .now) (c .before .before .before .before .before .before .before .before .before .before .before .before .before .before .before .before .before .before .before .before .before .before .before .before .before .before .before .before .before .args .leaves .now) (c .before .before .before .before .before .before .before .before .before .before .before .before .before .before .before .before .before .before .before .before .before .before .before .before .before .before .before .before .before .args .st) (c .before .before .before .before .before .before .before .before .before .before .before .before .before .before .before .before .before .before .before .before .before .count-of .result) (c .before .before .before .before .before .before .before .before .before .before .before .before .before .before .before .before .before .before .before .before .before .count-of .ensures) (c .before .before .before .before .before .before .before .before .before .before .before .before .before .before .before .before .before .before .before .before .before .before .before .before .before .before .before .before .before .pre .1 .2) (c .before .before .before .before .before .before .before .before .before .before .before .before .before .before .before .before .before .before .before .before .before .before .before .before .before .before .before .before .before .pre .1 .0) _ (c .before .before .before .before .before .before .before .before .before .before .before .before .before .before .before .before .before .before .enter .ensures) _ (c .before .before .before .before .before .before .before .before .before .before .before .before .before .before .next .given .1)), pos-of-ne-zero (c .before .before .before .before .before .before .before .before .if2 .left), c .before .before .before .before .before .before .before .before .before .before .before .before .before .before .before .before .before .before .before .before .before .before .before .before .before .before .before .before .before .pre .1 .1, omega (arith, c .before .before .before .before .before .before .loop-test .taken, c .before .before .before .before .before .before .before .before .before .before .entries-of .ensures .0), all-kept (c .before .before .before .before .before .before .before .before .before .before .before .before .before .before .before .before .before .before .before .before .before .before .before .before .before .before .before .before .before .args .level) _ _ _ _ _ (c .before .before .before .before .before .before .before .loop .inv .kept .upperLinks) (c .before .before .before .before .before .before .before .loop .inv .kept .lowerLinks) (room-of (c .before .before .before .before .before .before .before .before .before .before .before .before .before .before .before .before .before .before .before .before .before .before .before .before .before .before .before .before .before .args .level) (length (c .before .before .before .before .before .before .before .before .before .before .before .before .before .before .before .before .before .before .before .before .before .before .before .before .before .before .before .before .before .args .ul .now)) (length (c .before .before .before .before .before .before .before .before .before .before .before .before .before .before .before .before .before .before .before .before .before .before .before .before .before .before .before .before .before .args .ll .now)) (length (c .before .before .before .before .before .before .before .before .before .before .before .before .before .before .before .before .before .before .before .before .before .before .before .before .before .before .before .before .before .args .leaves .now)) _ _ (c .before .before .before .before .before .before .before .before .before .before .entries-of .ensures .0) (omega (arith, c .before .before .before .before .before .before .before .before .before .before .before .before .places-of .ensures, c .before .before .before .before .before .before .before .before .before .before .before .if1 .left)) (pos-of-ne-zero (c .before .before .before .before .before .before .before .before .if2 .left))), c .before .before .before .before .before .before .before .loop .inv .fit))
 
--- src/nodes.rt:239:32
 node-enum-known-e-2 : (t : ℕ) → node-lts.Need-enum-known-e-2 (node-C t) (node-at t) node.Post node-Inv-loop node-μ-loop
 node-enum-known-e-2 t c = search needs
 
--- src/nodes.rt:239:38
 node-same-length-4 : (t : ℕ) → node-lts.Need-same-length-4 (node-C t) (node-at t) node.Post node-Inv-loop node-μ-loop
 node-same-length-4 t c = c .before .before .before .before .before .before .before .before .before .before .before .before .before .before .before .slot .kept .1 .1 .1 .1 .1 .1 .0 ∙ c .before .before .before .before .before .before .before .before .before .before .before .before .before .before .before .before .before .before .before .before .before .before .before .loop .inv .kept .work ∙ c .before .before .before .before .before .before .before .before .before .before .before .before .before .before .before .before .before .before .before .before .before .before .before .before .before .before .before .before .before .before .before .before .before .before .enter .kept .1 .0
 
--- src/nodes.rt:239:38
 node-same-length-5 : (t : ℕ) → node-lts.Need-same-length-5 (node-C t) (node-at t) node.Post node-Inv-loop node-μ-loop
 node-same-length-5 t c = search needs
 
--- src/nodes.rt:239:38
 node-same-length-6 : (t : ℕ) → node-lts.Need-same-length-6 (node-C t) (node-at t) node.Post node-Inv-loop node-μ-loop
 node-same-length-6 t c = search needs
 
--- src/nodes.rt:239:38
 node-same-length-7 : (t : ℕ) → node-lts.Need-same-length-7 (node-C t) (node-at t) node.Post node-Inv-loop node-μ-loop
 node-same-length-7 t c = search needs
 
--- src/nodes.rt:239:38
 node-same-length-8 : (t : ℕ) → node-lts.Need-same-length-8 (node-C t) (node-at t) node.Post node-Inv-loop node-μ-loop
 node-same-length-8 t c = search needs
 
--- src/nodes.rt:239:38
 node-same-length-9 : (t : ℕ) → node-lts.Need-same-length-9 (node-C t) (node-at t) node.Post node-Inv-loop node-μ-loop
 node-same-length-9 t c = search needs
 
--- src/nodes.rt:239:38
 node-returns-3 : (t : ℕ) → node-lts.Need-returns-3 (node-C t) (node-at t) node.Post node-Inv-loop node-μ-loop
 node-returns-3 t c = node-out-broke _ _ _ _ _ _ _ _ _ _ _ _ (c .before .before .before .before .before .before .before .before .before .before .before .before .before .before .before .before .before .before .before .before .before .before .before .before .before .before .before .before .before .before .before .before .before .before .before .before .before .count-of .ensures) (c .before .before .before .before .before .before .before .before .before .before .before .before .before .before .before .before .before .before .before .before .before .before .before .before .before .before .before .before .before .before .before .before .before .before .before .before .before .before .before .before .before .before .before .before .before .pre .1 .2) (c .before .before .before .before .before .before .before .before .before .before .before .before .before .before .before .before .before .before .before .before .before .before .before .before .before .before .before .before .before .before .before .before .before .before .before .before .before .before .before .before .before .before .before .before .before .pre .1 .0) _ (c .before .before .before .before .before .before .before .before .before .before .before .before .before .before .before .before .before .before .before .before .before .before .before .before .before .before .before .before .before .before .before .before .before .before .enter .ensures) _ (c .before .before .before .before .before .before .before .before .before .before .before .before .before .before .before .before .before .before .before .before .before .before .before .before .before .before .before .before .before .before .next .given .1) (omega (arith, c .before .before .before .before .before .before .before .before .before .before .before .before .before .before .before .before .before .before .before .before .before .before .before .before .before .before .before .before .places-of .ensures, c .before .before .before .before .before .before .before .before .before .before .before .before .before .before .before .before .before .before .before .before .before .before .before .before .before .before .before .if1 .left)) _ (ap (λ (n : ℕ). c .before .before .before .before .before .before .before .before .before .before .before .before .before .before .before .before .before .before .before .before .before .before .before .before .before .before .before .before .before .before .before .before .before .before .before .before .before .count-of .result * n) (c .before .before .before .before .before .before .before .before .before .before .before .before .before .before .before .before .before .before .before .before .before .before .before .before .before .before .entries-of .ensures .0)) (below (c .before .before .before .before .before .before .before .before .before .before .before .before .before .before .before .before .before .before .before .before .before .before .before .before .before .before .before .before .before .before .before .before .before .before .before .before .before .before .before .before .before .before .before .before .before .args .level)) (below-is _ (c .before .before .before .before .before .before .before .before .before .before .before .before .before .before .before .before .before .before .before .before .before .before .before .before .if2 .left)) (c .before .before .before .before .before .before .before .before .before .before .before .before .before .before .before .before .before .before .before .before .before .before .before .before .before .before .before .before .before .before .before .before .before .before .before .before .before .before .before .before .before .before .before .before .before .pre .1 .1) _ (c .before .before .before .before .before .before .before .before .before .before .before .before .before .before .before .before .before .before .before .before .before .before .before .before .before .grown .ensures) (c .before .before .before .before .before .before .before .before .before .before .before .before .before .before .before .before .before .before .before .before .before .before .before .before .before .before .before .before .before .before .before .before .before .before .enter .kept .1 .0) _ (c .before .before .before .before .before .before .before .before .before .before .before .before .before .before .before .before .before .before .before .before .before .before .before .before .before .before .entries-of .ensures .0) _ _ _ _ _ _ _ _ (c .before .before .before .before .before .before .before .before .before .before .before .before .before .before .before .before .before .before .before .before .before .before .before .loop .inv) _ _ _ _ _ _ _ _ (c .before .before .before .before .before .before .before .before .before .before .before .before .before .before .before .before .before .before .before .before .before .before .loop-test .taken) (c .before .before .before .before .before .before .before .before .before .before .before .before .before .before .before .slot .ensures) (c .before .e2 .given .1)
 
--- src/nodes.rt:240:32
 node-enum-known-s : (t : ℕ) → node-lts.Need-enum-known-s (node-C t) (node-at t) node.Post node-Inv-loop node-μ-loop
 node-enum-known-s t c = search needs
 
--- src/nodes.rt:242:17
 node-add-i : (t : ℕ) → node-lts.Need-add-i (node-C t) (node-at t) node.Post node-Inv-loop node-μ-loop
 node-add-i t c = omega arith
 
--- src/nodes.rt:224:13
 node-loop-less : (t : ℕ) → node-lts.Need-loop-less (node-C t) (node-at t) node.Post node-Inv-loop node-μ-loop
 node-loop-less t c = omega arith
 
--- src/nodes.rt:224:13
 node-loop-again : (t : ℕ) → node-lts.Need-loop-again (node-C t) (node-at t) node.Post node-Inv-loop node-μ-loop
 node-loop-again t c = turn-more _ _ _ _ _ _ _ _ _ _ _ _ _ _ _ _ _ _ _ _ (c .before .before .before .before .before .before .before .before .before .before .before .before .before .before .before .before .before .before .before .before .before .before .before .loop .inv) _ _ _ _ _ _ _ _ (c .before .before .before .before .before .before .before .before .before .before .before .before .before .before .before .before .before .before .before .before .before .before .loop-test .taken) (c .before .before .before .before .before .before .before .before .before .before .before .before .before .before .before .slot .ensures) (c .before .s .given .1) (record { work = c .before .before .before .before .before .before .before .before .before .before .before .before .before .before .before .slot .kept .1 .1 .1 .1 .1 .1 .0; upperLinks = c .before .before .before .before .before .before .before .before .before .before .before .before .before .before .before .slot .kept .1 .1 .1 .1 .1 .1 .1 .0; upperValues = c .before .before .before .before .before .before .before .before .before .before .before .before .before .before .before .slot .kept .1 .1 .1 .1 .1 .1 .1 .1 .0; lowerLinks = c .before .before .before .before .before .before .before .before .before .before .before .before .before .before .before .slot .kept .1 .1 .1 .1 .1 .1 .1 .1 .1 .0; lowerValues = c .before .before .before .before .before .before .before .before .before .before .before .before .before .before .before .slot .kept .1 .1 .1 .1 .1 .1 .1 .1 .1 .1 .0; leafValues = c .before .before .before .before .before .before .before .before .before .before .before .before .before .before .before .slot .kept .1 .1 .1 .1 .1 .1 .1 .1 .1 .1 .1 .0 })
 
--- src/nodes.rt:244:26
 node-cast-t53 : (t : ℕ) → node-lts.Need-cast-t53 (node-C t) (node-at t) node.Post node-Inv-loop node-μ-loop
 node-cast-t53 t c = omega (arith, number-small _ _ _ _ _ _ _ _ (c .before .before .before .before .before .before .before .before .before .before .before .before .before .before .before .before .before .before .before .before .before .before .before .pre .1 .2) (c .before .before .before .before .before .before .before .before .before .before .before .before .before .before .before .before .before .before .before .before .before .before .before .pre .1 .0) (c .before .before .before .before .before .before .before .before .before .before .before .before .before .before .before .before .before .before .before .before .before .before .before .args .level), c .before .before .before .before .before .before .before .before .before .before .before .before .before .before .before .count-of .ensures)
 
--- src/nodes.rt:185:1
 node-same-length-10 : (t : ℕ) → node-lts.Need-same-length-10 (node-C t) (node-at t) node.Post node-Inv-loop node-μ-loop
 node-same-length-10 t c = search needs
 
--- src/nodes.rt:185:1
 node-returns-4 : (t : ℕ) → node-lts.Need-returns-4 (node-C t) (node-at t) node.Post node-Inv-loop node-μ-loop
 node-returns-4 t c = node-out-again _ _ _ _ _ _ _ _ _ _ _ _ (c .before .before .before .before .before .before .before .before .count-of .ensures) (c .before .before .before .before .before .before .before .before .before .before .before .before .before .before .before .before .pre .1 .2) (c .before .before .before .before .before .before .before .before .before .before .before .before .before .before .before .before .pre .1 .0) _ (c .before .before .before .before .before .enter .ensures) _ (c .before .n .given .1)
 
--- src/nodes.rt:185:1
 node-same-length-11 : (t : ℕ) → node-lts.Need-same-length-11 (node-C t) (node-at t) node.Post node-Inv-loop node-μ-loop
 node-same-length-11 t c = search needs
 
--- src/nodes.rt:185:1
 node-returns-5 : (t : ℕ) → node-lts.Need-returns-5 (node-C t) (node-at t) node.Post node-Inv-loop node-μ-loop
 node-returns-5 t c = node-out-stop _ _ _ _ _ _ _ _ _ _ _ _ (c .before .before .before .before .before .before .before .before .count-of .ensures) (c .before .before .before .before .before .before .before .before .before .before .before .before .before .before .before .before .pre .1 .2) (c .before .before .before .before .before .before .before .before .before .before .before .before .before .before .before .before .pre .1 .0) _ (c .before .before .before .before .before .enter .ensures) _ (c .before .e .given .1)
 
--- src/nodes.rt:185:1
 node-same-length-12 : (t : ℕ) → node-lts.Need-same-length-12 (node-C t) (node-at t) node.Post node-Inv-loop node-μ-loop
 node-same-length-12 t c = search needs
 
--- src/nodes.rt:185:1
 node-same-length-13 : (t : ℕ) → node-lts.Need-same-length-13 (node-C t) (node-at t) node.Post node-Inv-loop node-μ-loop
 node-same-length-13 t c = search needs
 
--- src/nodes.rt:185:1
 node-same-length-14 : (t : ℕ) → node-lts.Need-same-length-14 (node-C t) (node-at t) node.Post node-Inv-loop node-μ-loop
 node-same-length-14 t c = search needs
 
--- src/nodes.rt:185:1
 node-same-length-15 : (t : ℕ) → node-lts.Need-same-length-15 (node-C t) (node-at t) node.Post node-Inv-loop node-μ-loop
 node-same-length-15 t c = search needs
 
--- src/nodes.rt:185:1
 node-same-length-16 : (t : ℕ) → node-lts.Need-same-length-16 (node-C t) (node-at t) node.Post node-Inv-loop node-μ-loop
 node-same-length-16 t c = search needs
 
--- src/nodes.rt:185:1
 node-same-length-17 : (t : ℕ) → node-lts.Need-same-length-17 (node-C t) (node-at t) node.Post node-Inv-loop node-μ-loop
 node-same-length-17 t c = search needs
 
--- src/nodes.rt:185:1
 node-returns-6 : (t : ℕ) → node-lts.Need-returns-6 (node-C t) (node-at t) node.Post node-Inv-loop node-μ-loop
 node-returns-6 t c = node-out-ends _ _ _ _ _ _ _ _ _ _ _ _ (c .before .before .before .before .before .before .before .before .before .before .before .before .before .before .before .count-of .ensures) (c .before .before .before .before .before .before .before .before .before .before .before .before .before .before .before .before .before .before .before .before .before .before .before .pre .1 .2) (c .before .before .before .before .before .before .before .before .before .before .before .before .before .before .before .before .before .before .before .before .before .before .before .pre .1 .0) _ (c .before .before .before .before .before .before .before .before .before .before .before .before .enter .ensures) _ (c .before .before .before .before .before .before .before .before .next .given .1) (omega (arith, c .before .before .before .before .before .before .places-of .ensures, c .before .before .before .before .before .if1 .left)) _ (ap (λ (n : ℕ). c .before .before .before .before .before .before .before .before .before .before .before .before .before .before .before .count-of .result * n) (c .before .before .before .before .entries-of .ensures .0)) (below (c .before .before .before .before .before .before .before .before .before .before .before .before .before .before .before .before .before .before .before .before .before .before .before .args .level)) (below-is _ (c .before .before .if2 .left)) (c .before .before .before .before .before .before .before .before .before .before .before .before .before .before .before .before .before .before .before .before .before .before .before .pre .1 .1) _ (c .before .before .before .grown .ensures) (c .before .before .before .before .before .before .before .before .before .before .before .before .enter .kept .1 .0) _ (c .before .before .before .before .entries-of .ensures .0) _ _ _ _ _ _ _ _ (c .before .loop .inv) (c .loop-test .left)
 
--- src/nodes.rt:267:9
 slot-slot-at-requires : (t : ℕ) → slot-lts.Need-slot-at-requires (slot-C t) (slot-at t) slot.Post
 slot-slot-at-requires t c κs = (c .before .before .before .before .before .before .before .pre .1 .2, c .before .before .before .before .before .before .before .pre .1 .1, omega (arith, c .before .before .before .before .before .before .before .pre .1 .4, entries-most (c .before .before .before .before .before .before .before .args .level)))
 
--- src/nodes.rt:268:32
 slot-mask-at-requires : (t : ℕ) → slot-lts.Need-mask-at-requires (slot-C t) (slot-at t) slot.Post
 slot-mask-at-requires t c κs = (c .before .before .before .before .before .before .before .before .pre .1 .2, c .before .before .before .before .before .before .before .before .pre .1 .1)
 
--- src/nodes.rt:268:8
 slot-mask-bit-requires : (t : ℕ) → slot-lts.Need-mask-bit-requires (slot-C t) (slot-at t) slot.Post
 slot-mask-bit-requires t c κs = search needs
 
--- src/nodes.rt:269:30
 slot-add-value : (t : ℕ) → slot-lts.Need-add-value (slot-C t) (slot-at t) slot.Post
 slot-add-value t c = record { fits = room-fits (c .before .before .before .before .before .before .before .before .before .before .before .before .before .args .level) (length (c .before .before .before .before .before .before .before .before .before .before .before .before .before .args .ul .now)) (length (c .before .before .before .before .before .before .before .before .before .before .before .before .before .args .ll .now)) _ (c .before .before .before .before .before .before .before .before .before .before .before .before .before .good .1 .1 .1 .1 .1 .1 .1 .0 .0) (c .before .before .before .before .before .before .before .before .before .before .before .before .before .good .1 .1 .1 .1 .1 .1 .1 .1 .1 .0 .0) (omega (arith, c .before .before .before .before .before .before .before .before .before .before .before .before .before .pre .1 .4, c .before .before .before .before .before .before .before .before .before .before .before .before .before .pre .1 .5)) }
 
--- src/nodes.rt:269:40
 slot-f32-at-requires : (t : ℕ) → slot-lts.Need-f32-at-requires (slot-C t) (slot-at t) slot.Post
 slot-f32-at-requires t c κs = search needs
 
--- src/nodes.rt:269:9
 slot-value-requires : (t : ℕ) → slot-lts.Need-value-requires (slot-C t) (slot-at t) slot.Post
 slot-value-requires t c κs = room-kept (c .before .before .before .before .before .before .before .before .before .before .before .before .before .before .args .level) (length (c .before .before .before .before .before .before .before .before .before .before .before .before .before .before .args .ul .now)) _ (length (c .before .before .before .before .before .before .before .before .before .before .before .before .before .before .args .ll .now)) _ _ (c .before .before .before .before .before .before .before .before .before .before .before .before .before .before .pre .1 .6 .upper-pair) (c .before .before .before .before .before .before .before .before .before .before .before .before .before .before .pre .1 .6 .lower-pair) (omega (arith, c .before .before .before .before .before .before .before .before .before .before .before .before .before .before .pre .1 .4, c .before .before .before .before .before .before .before .before .before .before .before .before .before .before .pre .1 .5))
 
--- src/nodes.rt:270:9
 slot-same-length : (t : ℕ) → slot-lts.Need-same-length (slot-C t) (slot-at t) slot.Post
 slot-same-length t c = search needs
 
--- src/nodes.rt:270:9
 slot-same-length-2 : (t : ℕ) → slot-lts.Need-same-length-2 (slot-C t) (slot-at t) slot.Post
 slot-same-length-2 t c = search needs
 
--- src/nodes.rt:270:9
 slot-returns : (t : ℕ) → slot-lts.Need-returns (slot-C t) (slot-at t) slot.Post
 slot-returns t c = slot-out-tile _ _ _ _ _ _ _ _ _ _ _ _ (c .before .before .before .before .before .before .before .before .before .before .before .before .before .before .before .before .before .before .before .pre .1 .3) (c .before .before .before .before .before .before .before .before .before .before .before .before .before .before .before .before .before .before .before .pre .1 .6) (omega (arith, c .before .before .before .before .before .before .before .before .before .before .before .before .before .before .before .before .before .before .before .pre .1 .4, c .before .before .before .before .before .before .before .before .before .before .before .before .before .before .before .before .before .before .before .pre .1 .5)) _ _ _ _ _ _ (c .before .before .before .before .before .before .before .before .before .mask-bit .ensures) (c .before .before .before .before .before .before .before .before .before .before .mask-at .ensures) (c .before .before .before .before .before .before .before .before .if1 .taken) (c .before .before .before .before .before .before .before .before .before .before .before .slot-at .ensures) (c .before .before .before .before .before .f32-at .ensures) (c .before .before .before .before .value .ensures .0) (c .before .before .before .before .value .ensures .1) (c .before .before .before .before .value .kept .1 .0) (c .before .before .before .before .value .kept .1 .1 .0)
 
--- src/nodes.rt:272:9
 slot-u64-at-requires : (t : ℕ) → slot-lts.Need-u64-at-requires (slot-C t) (slot-at t) slot.Post
 slot-u64-at-requires t c κs = search needs
 
--- src/nodes.rt:274:9
 slot-returns-2 : (t : ℕ) → slot-lts.Need-returns-2 (slot-C t) (slot-at t) slot.Post
 slot-returns-2 t c = slot-out-zero _ _ _ _ _ _ _ _ _ _ _ _ (c .before .before .before .before .before .before .before .before .before .before .before .before .before .pre .1 .3) (c .before .before .before .before .before .before .before .before .before .before .before .before .before .pre .1 .6) (omega (arith, c .before .before .before .before .before .before .before .before .before .before .before .before .before .pre .1 .4, c .before .before .before .before .before .before .before .before .before .before .before .before .before .pre .1 .5)) _ _ _ _ (c .before .before .before .mask-bit .ensures) (c .before .before .before .before .mask-at .ensures) (c .before .before .if1 .left) (c .before .before .before .before .before .slot-at .ensures) (c .before .u64-at .ensures) _ _ _ _ _ _ (c .if2 .taken)
 
--- src/nodes.rt:276:11
 slot-child-target-requires : (t : ℕ) → slot-lts.Need-child-target-requires (slot-C t) (slot-at t) slot.Post
 slot-child-target-requires t c κs = c .before .before .before .before .before .before .before .before .before .before .before .before .before .pre .1 .1
 
--- src/nodes.rt:277:25
 slot-enum-known-e : (t : ℕ) → slot-lts.Need-enum-known-e (slot-C t) (slot-at t) slot.Post
 slot-enum-known-e t c = search needs
 
--- src/nodes.rt:278:20
 slot-enum-known-to : (t : ℕ) → slot-lts.Need-enum-known-to (slot-C t) (slot-at t) slot.Post
 slot-enum-known-to t c = search needs
 
--- src/nodes.rt:278:49
 slot-sub-node : (t : ℕ) → slot-lts.Need-sub-node (slot-C t) (slot-at t) slot.Post
 slot-sub-node t c = omega arith
 
--- src/nodes.rt:278:33
 slot-node-requires : (t : ℕ) → slot-lts.Need-node-requires (slot-C t) (slot-at t) slot.Post
 slot-node-requires t c κs = (omega (arith, c .before .before .before .before .before .before .before .before .before .before .before .before .before .before .before .before .before .before .before .before .before .before .before), (c .before .before .before .before .before .before .before .before .before .before .before .before .before .before .before .before .before .before .before .before .before .before .before .pre .1 .0, omega (arith, c .before .before .before .before .before .before .before .before .before .before .before .before .before .before .before .before .before .before .before .before .before .before .before), c .before .before .before .before .before .before .before .before .before .before .before .before .before .before .before .before .before .before .before .before .before .before .before .pre .1 .6))
 
--- src/nodes.rt:279:29
 slot-enum-known-e-2 : (t : ℕ) → slot-lts.Need-enum-known-e-2 (slot-C t) (slot-at t) slot.Post
 slot-enum-known-e-2 t c = search needs
 
--- src/nodes.rt:280:26
 slot-enum-known-k : (t : ℕ) → slot-lts.Need-enum-known-k (slot-C t) (slot-at t) slot.Post
 slot-enum-known-k t c = search needs
 
--- src/nodes.rt:281:37
 slot-add-link : (t : ℕ) → slot-lts.Need-add-link (slot-C t) (slot-at t) slot.Post
 slot-add-link t c = record { fits = room-fits (c .before .before .before .before .before .before .before .before .before .before .before .before .before .before .before .before .before .before .before .before .before .before .before .before .before .before .before .before .before .before .before .before .before .before .before .before .before .before .before .before .before .args .level) (length (c .before .before .before .before .before .before .before .before .before .before .before .before .before .before .before .before .before .before .before .before .before .before .before .before .before .before .before .before .before .before .before .before .before .before .before .before .before .before .before .before .before .args .ul .now)) (length (c .before .before .before .before .before .before .before .before .before .before .before .before .before .before .before .before .before .before .before .before .before .before .before .before .before .before .before .before .before .before .before .before .before .before .before .before .before .before .before .before .before .args .ll .now)) _ (c .before .before .before .before .before .before .before .before .before .before .before .before .before .before .before .before .before .before .before .before .before .before .before .before .before .before .before .before .before .before .before .before .before .before .before .before .before .before .before .before .before .good .1 .1 .1 .1 .1 .1 .1 .0 .0) (c .before .before .before .before .before .before .before .before .before .before .before .before .before .before .before .before .before .before .before .before .before .before .before .before .before .before .before .before .before .before .before .before .before .before .before .before .before .before .before .before .before .good .1 .1 .1 .1 .1 .1 .1 .1 .1 .0 .0) (omega (arith, c .before .before .before .before .before .before .before .before .before .before .before .before .before .before .before .before .before .before .before .before .before .before .before .before .before .before .before .before .before .before .before .before .before .before .before .before .before .before .before .before .before .pre .1 .4, c .before .before .before .before .before .before .before .before .before .before .before .before .before .before .before .before .before .before .before .before .before .before .before .before .before .before .before .before .before .before .before .before .before .before .before .before .before .before .before .before .before .pre .1 .5)) }
 
--- src/nodes.rt:281:47
 slot-add-link-2 : (t : ℕ) → slot-lts.Need-add-link-2 (slot-C t) (slot-at t) slot.Post
 slot-add-link-2 t c = omega (arith, node-number _ _ _ _ _ (c .before .before .before .k .given .1) (c .before .before .before .before .before .before .before .before .before .before .before .before .before .before .before .before .before .node .ensures .fit))
 
--- src/nodes.rt:281:17
 slot-link-requires : (t : ℕ) → slot-lts.Need-link-requires (slot-C t) (slot-at t) slot.Post
 slot-link-requires t c κs = room-kept (c .before .before .before .before .before .before .before .before .before .before .before .before .before .before .before .before .before .before .before .before .before .before .before .before .before .before .before .before .before .before .before .before .before .before .before .before .before .before .before .before .before .args .level) (length (c .before .before .before .before .before .before .before .before .before .before .before .before .before .before .before .before .before .before .before .before .before .before .before .before .before .before .before .before .before .before .before .before .before .before .before .before .before .before .before .before .before .args .ul .now)) _ (length (c .before .before .before .before .before .before .before .before .before .before .before .before .before .before .before .before .before .before .before .before .before .before .before .before .before .before .before .before .before .before .before .before .before .before .before .before .before .before .before .before .before .args .ll .now)) _ _ (c .before .before .before .before .before .before .before .before .before .before .before .before .before .before .before .before .before .node .kept .1 .1 .1 .1 .1 .0) (c .before .before .before .before .before .before .before .before .before .before .before .before .before .before .before .before .before .node .kept .1 .1 .1 .1 .1 .1 .1 .0) (omega (arith, c .before .before .before .before .before .before .before .before .before .before .before .before .before .before .before .before .before .before .before .before .before .before .before .before .before .before .before .before .before .before .before .before .before .before .before .before .before .before .before .before .before .pre .1 .4, c .before .before .before .before .before .before .before .before .before .before .before .before .before .before .before .before .before .before .before .before .before .before .before .before .before .before .before .before .before .before .before .before .before .before .before .before .before .before .before .before .before .pre .1 .5))
 
--- src/nodes.rt:250:1
 slot-returns-3 : (t : ℕ) → slot-lts.Need-returns-3 (slot-C t) (slot-at t) slot.Post
 slot-returns-3 t c = slot-out-off _ _ _ _ _ _ _ _ _ _ _ _ (c .before .before .before .before .before .before .before .before .before .before .before .before .before .before .before .before .before .pre .1 .3) (c .before .before .before .before .before .before .before .before .before .before .before .before .before .before .before .before .before .pre .1 .6) (omega (arith, c .before .before .before .before .before .before .before .before .before .before .before .before .before .before .before .before .before .pre .1 .4, c .before .before .before .before .before .before .before .before .before .before .before .before .before .before .before .before .before .pre .1 .5)) _ _ _ _ (c .before .before .before .before .before .before .before .mask-bit .ensures) (c .before .before .before .before .before .before .before .before .mask-at .ensures) (c .before .before .before .before .before .before .if1 .left) (c .before .before .before .before .before .before .before .before .before .slot-at .ensures) (c .before .before .before .before .before .u64-at .ensures) _ _ _ _ _ _ (c .before .before .before .before .if2 .left) _ (c .before .before .before .child-target .ensures) _ (c .before .e .given .1)
 
--- src/nodes.rt:250:1
 slot-same-length-3 : (t : ℕ) → slot-lts.Need-same-length-3 (slot-C t) (slot-at t) slot.Post
 slot-same-length-3 t c = search needs
 
--- src/nodes.rt:250:1
 slot-same-length-4 : (t : ℕ) → slot-lts.Need-same-length-4 (slot-C t) (slot-at t) slot.Post
 slot-same-length-4 t c = search needs
 
--- src/nodes.rt:250:1
 slot-same-length-5 : (t : ℕ) → slot-lts.Need-same-length-5 (slot-C t) (slot-at t) slot.Post
 slot-same-length-5 t c = search needs
 
--- src/nodes.rt:250:1
 slot-same-length-6 : (t : ℕ) → slot-lts.Need-same-length-6 (slot-C t) (slot-at t) slot.Post
 slot-same-length-6 t c = search needs
 
--- src/nodes.rt:250:1
 slot-same-length-7 : (t : ℕ) → slot-lts.Need-same-length-7 (slot-C t) (slot-at t) slot.Post
 slot-same-length-7 t c = search needs
 
--- src/nodes.rt:250:1
 slot-same-length-8 : (t : ℕ) → slot-lts.Need-same-length-8 (slot-C t) (slot-at t) slot.Post
 slot-same-length-8 t c = search needs
 
--- src/nodes.rt:250:1
 slot-returns-4 : (t : ℕ) → slot-lts.Need-returns-4 (slot-C t) (slot-at t) slot.Post
 slot-returns-4 t c = slot-out-refused _ _ _ _ _ _ _ _ _ _ _ _ (c .before .before .before .before .before .before .before .before .before .before .before .before .before .before .before .before .before .before .before .before .before .before .before .before .before .before .before .before .before .before .before .before .before .before .before .before .before .before .before .pre .1 .3) (c .before .before .before .before .before .before .before .before .before .before .before .before .before .before .before .before .before .before .before .before .before .before .before .before .before .before .before .before .before .before .before .before .before .before .before .before .before .before .before .pre .1 .6) (omega (arith, c .before .before .before .before .before .before .before .before .before .before .before .before .before .before .before .before .before .before .before .before .before .before .before .before .before .before .before .before .before .before .before .before .before .before .before .before .before .before .before .pre .1 .4, c .before .before .before .before .before .before .before .before .before .before .before .before .before .before .before .before .before .before .before .before .before .before .before .before .before .before .before .before .before .before .before .before .before .before .before .before .before .before .before .pre .1 .5)) _ _ _ _ (c .before .before .before .before .before .before .before .before .before .before .before .before .before .before .before .before .before .before .before .before .before .before .before .before .before .before .before .before .before .mask-bit .ensures) (c .before .before .before .before .before .before .before .before .before .before .before .before .before .before .before .before .before .before .before .before .before .before .before .before .before .before .before .before .before .before .mask-at .ensures) (c .before .before .before .before .before .before .before .before .before .before .before .before .before .before .before .before .before .before .before .before .before .before .before .before .before .before .before .before .if1 .left) (c .before .before .before .before .before .before .before .before .before .before .before .before .before .before .before .before .before .before .before .before .before .before .before .before .before .before .before .before .before .before .before .slot-at .ensures) (c .before .before .before .before .before .before .before .before .before .before .before .before .before .before .before .before .before .before .before .before .before .before .before .before .before .before .before .u64-at .ensures) _ _ _ _ _ _ (c .before .before .before .before .before .before .before .before .before .before .before .before .before .before .before .before .before .before .before .before .before .before .before .before .before .before .if2 .left) _ (c .before .before .before .before .before .before .before .before .before .before .before .before .before .before .before .before .before .before .before .before .before .before .before .before .before .child-target .ensures) _ (c .before .before .before .before .before .before .before .before .before .before .before .before .before .before .before .before .before .before .before .before .before .before .before .before .before .before .before .before .before .before .before .before .before .before .before .before .before .before .before .args .level - 1) (c .before .before .before .before .before .before .before .before .before .before .before .before .before .before .before .before .before .before .before .before .before .before .before .to .given .1) (less-one _ (c .before .before .before .before .before .before .before .before .before .before .before .before .before .before .before .before .before .before .before .before .before .before .before .before .before .before .before .before .before .before .before .before .before .before .before .before .before .before .before .pre .1 .2)) _ (c .before .before .before .before .before .before .before .before .before .before .before .before .before .before .before .node .ensures) _ (c .before .e2 .given .1)
 
--- src/nodes.rt:250:1
 slot-same-length-9 : (t : ℕ) → slot-lts.Need-same-length-9 (slot-C t) (slot-at t) slot.Post
 slot-same-length-9 t c = search needs
 
--- src/nodes.rt:250:1
 slot-same-length-10 : (t : ℕ) → slot-lts.Need-same-length-10 (slot-C t) (slot-at t) slot.Post
 slot-same-length-10 t c = search needs
 
--- src/nodes.rt:250:1
 slot-same-length-11 : (t : ℕ) → slot-lts.Need-same-length-11 (slot-C t) (slot-at t) slot.Post
 slot-same-length-11 t c = search needs
 
--- src/nodes.rt:250:1
 slot-same-length-12 : (t : ℕ) → slot-lts.Need-same-length-12 (slot-C t) (slot-at t) slot.Post
 slot-same-length-12 t c = search needs
 
--- src/nodes.rt:250:1
 slot-same-length-13 : (t : ℕ) → slot-lts.Need-same-length-13 (slot-C t) (slot-at t) slot.Post
 slot-same-length-13 t c = search needs
 
--- src/nodes.rt:250:1
 slot-same-length-14 : (t : ℕ) → slot-lts.Need-same-length-14 (slot-C t) (slot-at t) slot.Post
 slot-same-length-14 t c = search needs
 
--- src/nodes.rt:250:1
 slot-returns-5 : (t : ℕ) → slot-lts.Need-returns-5 (slot-C t) (slot-at t) slot.Post
 slot-returns-5 t c = slot-out-child _ _ _ _ _ _ _ _ _ _ _ _ (c .before .before .before .before .before .before .before .before .before .before .before .before .before .before .before .before .before .before .before .before .before .before .before .before .before .before .before .before .before .before .before .before .before .before .before .before .before .before .before .before .before .before .before .before .before .before .pre .1 .3) (c .before .before .before .before .before .before .before .before .before .before .before .before .before .before .before .before .before .before .before .before .before .before .before .before .before .before .before .before .before .before .before .before .before .before .before .before .before .before .before .before .before .before .before .before .before .before .pre .1 .6) (omega (arith, c .before .before .before .before .before .before .before .before .before .before .before .before .before .before .before .before .before .before .before .before .before .before .before .before .before .before .before .before .before .before .before .before .before .before .before .before .before .before .before .before .before .before .before .before .before .before .pre .1 .4, c .before .before .before .before .before .before .before .before .before .before .before .before .before .before .before .before .before .before .before .before .before .before .before .before .before .before .before .before .before .before .before .before .before .before .before .before .before .before .before .before .before .before .before .before .before .before .pre .1 .5)) _ _ _ _ (c .before .before .before .before .before .before .before .before .before .before .before .before .before .before .before .before .before .before .before .before .before .before .before .before .before .before .before .before .before .before .before .before .before .before .before .before .mask-bit .ensures) (c .before .before .before .before .before .before .before .before .before .before .before .before .before .before .before .before .before .before .before .before .before .before .before .before .before .before .before .before .before .before .before .before .before .before .before .before .before .mask-at .ensures) (c .before .before .before .before .before .before .before .before .before .before .before .before .before .before .before .before .before .before .before .before .before .before .before .before .before .before .before .before .before .before .before .before .before .before .before .if1 .left) (c .before .before .before .before .before .before .before .before .before .before .before .before .before .before .before .before .before .before .before .before .before .before .before .before .before .before .before .before .before .before .before .before .before .before .before .before .before .before .slot-at .ensures) (c .before .before .before .before .before .before .before .before .before .before .before .before .before .before .before .before .before .before .before .before .before .before .before .before .before .before .before .before .before .before .before .before .before .before .u64-at .ensures) _ _ _ _ _ _ (c .before .before .before .before .before .before .before .before .before .before .before .before .before .before .before .before .before .before .before .before .before .before .before .before .before .before .before .before .before .before .before .before .before .if2 .left) _ (c .before .before .before .before .before .before .before .before .before .before .before .before .before .before .before .before .before .before .before .before .before .before .before .before .before .before .before .before .before .before .before .before .child-target .ensures) _ (c .before .before .before .before .before .before .before .before .before .before .before .before .before .before .before .before .before .before .before .before .before .before .before .before .before .before .before .before .before .before .before .before .before .before .before .before .before .before .before .before .before .before .before .before .before .before .args .level - 1) (c .before .before .before .before .before .before .before .before .before .before .before .before .before .before .before .before .before .before .before .before .before .before .before .before .before .before .before .before .before .before .to .given .1) (less-one _ (c .before .before .before .before .before .before .before .before .before .before .before .before .before .before .before .before .before .before .before .before .before .before .before .before .before .before .before .before .before .before .before .before .before .before .before .before .before .before .before .before .before .before .before .before .before .before .pre .1 .2)) _ (c .before .before .before .before .before .before .before .before .before .before .before .before .before .before .before .before .before .before .before .before .before .before .node .ensures) _ _ _ _ _ (c .before .before .before .before .before .before .before .before .k .given .1) refl (c .before .before .before .before .link .ensures .0) (c .before .before .before .before .link .ensures .1) (c .before .before .before .before .before .before .before .before .before .before .before .before .before .before .before .before .before .before .before .before .before .before .node .kept .1 .1 .1 .1 .1 .0) (c .before .before .before .before .before .before .before .before .before .before .before .before .before .before .before .before .before .before .before .before .before .before .node .kept .1 .1 .1 .1 .1 .1 .1 .0) (c .before .before .before .before .link .kept .1 .0) (c .before .before .before .before .link .kept .1 .1 .0)
 

@@ -1,44 +1,32 @@
 use native.Mathlib.Omega.{arith}
 use Rattle.decode.proofs.nodes.Targets.{up-off, up-on, down-below, down-off, down-on}
-use borrow.Author.Needs.{needs}
 use Rattle.decode.proofs.nodes.child_target.Statement.{statement}
 use Rattle.decode.proofs.nodes.child_target.Tie as tie
-use Rattle.decode.proofs.nodes.child_target.Reads as reads
-use Rattle.decode.proofs.nodes.child_target.Lts as lts
 
--- src/nodes.rt:75:18
 add-up : tie.Need-add-up
 add-up c = omega arith
 
--- src/nodes.rt:77:13
 returns : tie.Need-returns
 returns c = up-off _ _ (c .before .if1 .taken) (c .if2 .taken)
 
--- src/nodes.rt:79:9
 returns-2 : tie.Need-returns-2
 returns-2 c = up-on _ _ (c .before .if1 .taken) (c .if2 .left)
 
--- src/nodes.rt:81:17
 sub-back : tie.Need-sub-back
 sub-back c = omega arith
 
--- src/nodes.rt:83:9
 returns-3 : tie.Need-returns-3
 returns-3 c = down-below _ _ (c .before .if1 .left) (omega arith) (c .if3 .taken)
 
--- src/nodes.rt:85:16
 sub-down : tie.Need-sub-down
 sub-down c = omega arith
 
--- src/nodes.rt:85:16
 sub-down-2 : tie.Need-sub-down-2
 sub-down-2 c = omega arith
 
--- src/nodes.rt:87:9
 returns-4 : tie.Need-returns-4
 returns-4 c = down-off _ _ (c .before .before .if1 .left) (omega arith) (c .before .if3 .left) (c .if4 .taken)
 
--- src/nodes.rt:70:1
 returns-5 : tie.Need-returns-5
 returns-5 c = down-on _ _ (c .before .before .if1 .left) (omega arith) (c .before .if3 .left) (c .if4 .left)
 

@@ -1,20 +1,14 @@
-use native.Mathlib.Omega.{arith}
 use Rattle.decode.proofs.nodes.Levels.{at-leaf, at-lower, at-upper}
 use borrow.Author.Needs.{needs}
 use Rattle.decode.proofs.nodes.entries_of.Statement.{statement}
 use Rattle.decode.proofs.nodes.entries_of.Tie as tie
-use Rattle.decode.proofs.nodes.entries_of.Reads as reads
-use Rattle.decode.proofs.nodes.entries_of.Lts as lts
 
--- src/nodes.rt:40:9
 returns : tie.Need-returns
 returns c = (at-leaf _ _ _ _ (c .if1 .taken), search needs)
 
--- src/nodes.rt:36:1
 returns-2 : tie.Need-returns-2
 returns-2 c = (at-lower _ _ _ _ (c .if2 .taken), search needs)
 
--- src/nodes.rt:36:1
 returns-3 : tie.Need-returns-3
 returns-3 c = (at-upper _ _ _ _ (c .before .if1 .left) (c .if2 .left), search needs)
 

@@ -1,32 +1,23 @@
 use native.Mathlib.Omega.{arith}
 use Rattle.decode.proofs.nodes.Levels.{at-leaf, at-lower, at-upper}
-use borrow.Author.Needs.{needs}
 use Rattle.decode.proofs.nodes.grown.Statement.{statement}
 use Rattle.decode.proofs.nodes.grown.Tie as tie
-use Rattle.decode.proofs.nodes.grown.Reads as reads
-use Rattle.decode.proofs.nodes.grown.Lts as lts
 
--- src/nodes.rt:127:21
 add-t5 : tie.Need-add-t5
 add-t5 c = omega arith
 
--- src/nodes.rt:123:9
 returns : tie.Need-returns
 returns c = at-leaf _ _ _ _ (c .before .if1 .taken)
 
--- src/nodes.rt:134:21
 add-t6 : tie.Need-add-t6
 add-t6 c = omega arith
 
--- src/nodes.rt:131:9
 returns-2 : tie.Need-returns-2
 returns-2 c = at-lower _ _ _ _ (c .before .if2 .taken)
 
--- src/nodes.rt:140:17
 add-t7 : tie.Need-add-t7
 add-t7 c = omega arith
 
--- src/nodes.rt:118:1
 returns-3 : tie.Need-returns-3
 returns-3 c = at-upper _ _ _ _ (c .before .before .if1 .left) (c .before .if2 .left)
 

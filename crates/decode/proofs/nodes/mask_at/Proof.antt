@@ -1,26 +1,19 @@
 use native.Mathlib.Omega.{arith}
-use Rattle.decode.proofs.nodes.Levels.{at-leaf, at-lower, at-upper}
+use Rattle.decode.proofs.nodes.Levels.{at-lower, at-upper}
 use mathlib.Core.Path.{ap}
 use Prim.Native.Nat.{ℕ, _+_}
-use borrow.Author.Needs.{needs}
 use Rattle.decode.proofs.nodes.mask_at.Statement.{statement}
 use Rattle.decode.proofs.nodes.mask_at.Tie as tie
-use Rattle.decode.proofs.nodes.mask_at.Reads as reads
-use Rattle.decode.proofs.nodes.mask_at.Lts as lts
 
--- src/nodes.rt:51:9
 add-result : tie.Need-add-result
 add-result c = omega arith
 
--- src/nodes.rt:53:9
 add-result-2 : tie.Need-add-result-2
 add-result-2 c = omega arith
 
--- src/nodes.rt:46:1
 returns : tie.Need-returns
 returns c = ap (λ (k : ℕ). c .before .args .source + k) (at-lower _ 0 544 4128 (c .if1 .taken))
 
--- src/nodes.rt:46:1
 returns-2 : tie.Need-returns-2
 returns-2 c = ap (λ (k : ℕ). c .before .args .source + k) (at-upper _ 0 544 4128 (λ e. omega arith) (c .if1 .left))
 

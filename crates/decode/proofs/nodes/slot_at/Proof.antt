@@ -1,42 +1,31 @@
 use native.Mathlib.Omega.{arith}
-use Rattle.decode.proofs.nodes.Levels.{at-leaf, at-lower, at-upper}
+use Rattle.decode.proofs.nodes.Levels.{at-lower, at-upper}
 use mathlib.Core.Path.{ap}
 use Prim.Native.Nat.{ℕ, _+_, _*_}
-use borrow.Author.Needs.{needs}
 use Rattle.decode.proofs.nodes.slot_at.Statement.{statement}
 use Rattle.decode.proofs.nodes.slot_at.Tie as tie
-use Rattle.decode.proofs.nodes.slot_at.Reads as reads
-use Rattle.decode.proofs.nodes.slot_at.Lts as lts
 
--- src/nodes.rt:63:9
 add-result : tie.Need-add-result
 add-result c = omega arith
 
--- src/nodes.rt:63:25
 mul-result : tie.Need-mul-result
 mul-result c = omega arith
 
--- src/nodes.rt:63:9
 add-result-2 : tie.Need-add-result-2
 add-result-2 c = omega arith
 
--- src/nodes.rt:65:9
 add-result-3 : tie.Need-add-result-3
 add-result-3 c = omega arith
 
--- src/nodes.rt:65:25
 mul-result-2 : tie.Need-mul-result-2
 mul-result-2 c = omega arith
 
--- src/nodes.rt:65:9
 add-result-4 : tie.Need-add-result-4
 add-result-4 c = omega arith
 
--- src/nodes.rt:58:1
 returns : tie.Need-returns
 returns c = ap (λ (k : ℕ). c .before .args .source + k + 8 * c .before .args .i) (at-lower _ 96 1088 8256 (c .if1 .taken))
 
--- src/nodes.rt:58:1
 returns-2 : tie.Need-returns-2
 returns-2 c = ap (λ (k : ℕ). c .before .args .source + k + 8 * c .before .args .i) (at-upper _ 96 1088 8256 (λ e. omega arith) (c .if1 .left))
 

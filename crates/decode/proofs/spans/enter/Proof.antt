@@ -1,4 +1,3 @@
-use native.Mathlib.Omega.{arith}
 use Rattle.decode.proofs.spans.ClaimLaws.{small-again, seen-again, seen-fresh, claim-done, claim-refused}
 use mathlib.Core.Path.{refl}
 use borrow.Author.Needs.{needs}

@@ -1,0 +1,74 @@
+// Whole parts: trunc, floor, and the checked coordinate.
+ghost use mathlib.Core.Path.{_≡_};
+ghost use lib.Ieee.{binary64, ofBits, toBits};
+ghost use Rattle.float.specs.Fused.{trunc, floor};
+ghost use Rattle.float.specs.Coordinate.{coordinate};
+ghost use Rattle.float.specs.Answers.{coordinateOf};
+use crate::Coordinate;
+use crate::pattern::INFINITY_64;
+use crate::pattern::LEADING_64;
+use crate::pattern::NAN_64;
+use crate::pattern::SIGN_64;
+use crate::pattern::excess;
+use crate::pattern::f64_bits;
+use crate::pattern::f64_of;
+use crate::round::power;
+use refusals::COORDINATE;
+
+// A binary64 pattern without its fraction: Rust's `trunc`.
+pub fn trunc_bits(b: u64) -> u64
+    ensures { λ r. ⌜ r ≡ toBits binary64 (trunc binary64 (ofBits binary64 b)) ⌝ }
+{
+    let x = b % SIGN_64 / LEADING_64;
+    if b % SIGN_64 > INFINITY_64 {
+        NAN_64
+    } else if x < 1023 {
+        b - b % SIGN_64
+    } else {
+        b - b % power(excess(1075, x))
+    }
+}
+
+// x without its fraction.
+pub fn trunc(x: f64) -> f64
+    ensures { λ r. ⌜ r ≡ trunc binary64 x ⌝ }
+{
+    f64_of(trunc_bits(f64_bits(x)))
+}
+
+// The largest whole number that is not above x: Rust's `floor`.
+pub fn floor(x: f64) -> f64
+    ensures { λ r. ⌜ r ≡ floor binary64 x ⌝ }
+{
+    let t = trunc(x);
+    if x < t { t - 1.0 } else { t }
+}
+
+// The same of a binary64 pattern.
+pub fn floor_bits(b: u64) -> u64
+    ensures { λ r. ⌜ r ≡ toBits binary64 (floor binary64 (ofBits binary64 b)) ⌝ }
+{
+    f64_bits(floor(f64_of(b)))
+}
+
+// The whole part of v as an i32, or 16 where v is not finite or lies outside i32.
+pub fn checked_coordinate(v: f64) -> Coordinate
+    ensures { λ r. ⌜ coordinateOf r ≡ coordinate v ⌝ }
+{
+    if v >= -2147483648.0 {
+        if v <= 2147483647.0 {
+            Coordinate::At(std::num::truncating_f64_to_i64(v) as i32)
+        } else {
+            Coordinate::Refused(COORDINATE)
+        }
+    } else {
+        Coordinate::Refused(COORDINATE)
+    }
+}
+
+// The same of a binary64 pattern.
+pub fn checked_coordinate_bits(b: u64) -> Coordinate
+    ensures { λ r. ⌜ coordinateOf r ≡ coordinate (ofBits binary64 b) ⌝ }
+{
+    checked_coordinate(f64_of(b))
+}

@@ -1,0 +1,27 @@
+-- The medium that the code's record stands for. Its arrays have every place that is read, so the defaults are never met.
+use mathlib.Core.List.{List, [], _∷_}
+use lib.IntN.{ℤ, pos}
+use lib.ListN.{getD}
+use lib.Ieee.{Float, nan}
+use Rattle.layout.specs.Coordinates.{Coord}
+use Rattle.medium.specs.Medium.{Point, Medium}
+use Rattle.medium.specs.declared.Medium as Code
+
+abbrev pub pointOf : List Float → Point
+pointOf l = record { x = getD l 0 nan; y = getD l 1 nan; z = getD l 2 nan }
+
+abbrev pub coordOf : List ℤ → Coord
+coordOf l = record { x = getD l 0 (pos 0); y = getD l 1 (pos 0); z = getD l 2 (pos 0) }
+
+abbrev pub nineOf : List Float → List Float
+nineOf l = getD l 0 nan ∷ getD l 1 nan ∷ getD l 2 nan ∷ getD l 3 nan ∷ getD l 4 nan ∷ getD l 5 nan ∷ getD l 6 nan ∷ getD l 7 nan ∷ getD l 8 nan ∷ []
+
+abbrev pub mediumOf : Code.Medium → Medium
+mediumOf m = record {
+  low = pointOf (m .low);
+  high = pointOf (m .high);
+  indexLow = coordOf (m .«index_low»);
+  indexHigh = coordOf (m .«index_high»);
+  map = nineOf (m .map);
+  translation = pointOf (m .translation);
+}
