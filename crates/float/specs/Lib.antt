@@ -1,4 +1,4 @@
--- Definitions that the public contracts cite.
+-- Definitions that the public contracts cite, and the floor as an integer.
 pub mod Zero
 pub mod Literal
 pub mod Fused
