@@ -2,3 +2,4 @@
 pub mod WorkTable
 pub mod Packed
 pub mod Filled
+pub mod Rooted

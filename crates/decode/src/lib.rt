@@ -1,3 +1,4 @@
 // From the bytes to the tables (nanovdb.rs, Decoder).
 mod nodes;
 mod spans;
+mod tiles;

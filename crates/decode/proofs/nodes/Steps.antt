@@ -8,6 +8,7 @@ use native.Mathlib.Omega.{arith}
 use lib.Ieee.{Float}
 use borrow.Author.Tests.{lt-ltb, le-ltb, eq-eqb, ne-eqb}
 use Rattle.refusals.specs.Results.{Result, ok, refused, bind}
+use Rattle.refusals.specs.ResultLaws.{run-more, run-stop}
 use Rattle.layout.specs.Bytes.{u64At, i64At, f32At, maskBit}
 use Rattle.sparse_grid.specs.declared.Entry.the-variants.{Child, Tile}
 use Rattle.decode.specs.Spans.{at, nowhere, seen}
@@ -37,17 +38,15 @@ module _ (b : List ℕ) (child : Reader) (level source i : ℕ) (now : Slots) wh
 -- ---- the slots of a node
 
 module _ (b : List ℕ) (child : Reader) (level source : ℕ) (t : State) where
-  pub slots-more : (i : ℕ) (s s' : Slots) → slotsRead b child level source i t ≡ ok s → slotRead b child level source i s ≡ ok s' → slotsRead b child level source (i + 1) t ≡ ok s'
+  next : (n : ℕ) → slotsRead b child level source (suc n) t ≡ bind (slotsRead b child level source n t) (slotRead b child level source n)
   unfolding slotsRead
-  slots-more i s s' e f = rw (native.Mathlib.Numerals.add-one i, e) f
+  next n = refl
 
-  pub slots-stop : (i n e : ℕ) (s : Slots) → slotsRead b child level source i t ≡ ok s → slotRead b child level source i s ≡ refused e → i < n → slotsRead b child level source n t ≡ refused e
-  unfolding slotsRead
-  slots-stop i zero e s before stop h = absurd (omega arith)
-  slots-stop i (suc n) e s before stop h = elim (eq-or-lt-of-le (le-of-suc-le-suc h)) [
-    | inl q ↦ subst (λ (m : ℕ). bind (slotsRead b child level source m t) (slotRead b child level source m) ≡ refused e) q (rw before stop)
-    | inr q ↦ rw (slots-stop i n e s before stop q)
-  ]
+  pub slots-more : (i : ℕ) (s s' : Slots) → slotsRead b child level source i t ≡ ok s → slotRead b child level source i s ≡ ok s' → slotsRead b child level source (i + 1) t ≡ ok s'
+  slots-more = run-more (λ (n : ℕ). slotsRead b child level source n t) (slotRead b child level source) next
+
+  slots-stop : (i n e : ℕ) (s : Slots) → slotsRead b child level source i t ≡ ok s → slotRead b child level source i s ≡ refused e → i < n → slotsRead b child level source n t ≡ refused e
+  slots-stop = run-stop (λ (n : ℕ). slotsRead b child level source n t) (slotRead b child level source) next
 
 -- ---- the node
 

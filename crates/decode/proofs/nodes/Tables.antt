@@ -21,7 +21,7 @@ use Rattle.decode.specs.declared.nodes.State as Progress
 
 -- ---- one entry more in a pair of tables
 
-map-snoc : {A B : Type 0} (f : A → B) (l : List A) (x : A) → map f (l ++ (x ∷ [])) ≡ map f l ++ (f x ∷ [])
+pub map-snoc : {A B : Type 0} (f : A → B) (l : List A) (x : A) → map f (l ++ (x ∷ [])) ≡ map f l ++ (f x ∷ [])
 map-snoc f [] x = refl
 map-snoc f (y ∷ l) x = ap (λ (t : List _). f y ∷ t) (map-snoc f l x)
 

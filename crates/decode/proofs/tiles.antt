@@ -1,0 +1,4 @@
+-- Laws of the tile reader.
+pub mod Fields
+pub mod Roots
+pub mod Turns
