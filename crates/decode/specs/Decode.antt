@@ -6,8 +6,8 @@ use lib.IntN.{ℤ}
 use lib.Dec.{eqb, ltb, leb}
 use lib.ListN.{length}
 use lib.Ieee.{Float}
-use Rattle.refusals.specs.Results.{Result, ok, bind, need}
-use Rattle.refusals.specs.Faults.{_then_, passing}
+use Rattle.refusals.specs.Results.{Result, ok, bind}
+use Rattle.refusals.specs.Faults.{_then_, unless, passing}
 use Rattle.float.specs.Zero.{+0}
 use Rattle.float.specs.Fused.{narrow}
 use Rattle.layout.specs.Bytes.{u32At, u64At, i32At, f32At, f64At}
@@ -23,10 +23,9 @@ use Rattle.decode.specs.Tree.{Root, Roots, tree}
 abbrev pub boundAt : List ℕ → ℕ → Float
 boundAt b at = narrow (f64At b at)
 
--- what the header, the map and the root's index box say of the medium
-unfoldable pub mediumOf : List ℕ → Medium
-mediumOf b =
-    let root = 672 + u64At b 696 in
+-- what the header, the map and the index box of a root at `root` say of the medium
+unfoldable pub mediumAt : List ℕ → ℕ → Medium
+mediumAt b root =
     record {
       low = record { x = boundAt b 560; y = boundAt b 568; z = boundAt b 576 };
       high = record { x = boundAt b 584; y = boundAt b 592; z = boundAt b 600 };
@@ -35,6 +34,14 @@ mediumOf b =
       map = f32At b 332 ∷ f32At b 336 ∷ f32At b 340 ∷ f32At b 344 ∷ f32At b 348 ∷ f32At b 352 ∷ f32At b 356 ∷ f32At b 360 ∷ f32At b 364 ∷ [];
       translation = record { x = f32At b 368; y = f32At b 372; z = f32At b 376 };
     }
+
+-- the root stands at 672 plus the u64 at 696
+abbrev pub rootPlace : List ℕ → ℕ
+rootPlace b = 672 + u64At b 696
+
+unfoldable pub mediumOf : List ℕ → Medium
+unfolding mediumAt
+mediumOf b = mediumAt b (rootPlace b)
 
 -- the mark that a grid begins with: "NanoVDB0"
 abbrev pub markPasses : ℕ → Bool
@@ -63,7 +70,7 @@ blocksOf (r ∷ rs) = r .x ∷ r .y ∷ r .z ∷ blocksOf rs
 unfoldable pub tablesOf : List ℕ → Roots → Grid
 unfolding blocksOf
 tablesOf b r = record {
-  background = f32At b (672 + u64At b 696 + 28);
+  background = f32At b (rootPlace b + 28);
   blocks = blocksOf (r .roots);
   rootLinks = map (λ (e : Root). linkOf (e .entry)) (r .roots);
   rootValues = map (λ (e : Root). valueOf (e .entry)) (r .roots);
@@ -79,17 +86,23 @@ pub record Accepted : Type 0 where
   pub grid : Grid
   pub medium : Medium
 
--- everything but 15, after 18, which looks at the lent tables: 1, 2, 3, 4, the tree, validate, 13, 14
+-- what is tested before the tree is read: 1, 2, 3, 4
+unfoldable pub bytesFault : List ℕ → ℕ
+unfolding headerPasses mediumOf
+bytesFault b = unless (ltb (length b) (2 ^ 32)) 1 then unless (leb 672 (length b)) 2 then unless (headerPasses b) 3 then each (boundsFault (mediumOf b))
+
+-- what is tested of the tree that has been read: validate, 13, 14
+unfoldable pub treeFault : Accepted → ℕ
+treeFault t = validate (t .grid) then mapFault (t .medium) then each (indexFault (t .medium))
+
+-- everything but 15, after 18, which looks at the lent tables
 unfoldable pub decodeScalar : List ℕ → Places → Result Accepted
-unfolding tree headerPasses tablesOf mediumOf
+unfolding tree tablesOf mediumOf bytesFault treeFault
 decodeScalar b p =
-    need (ltb (length b) (2 ^ 32)) 1 (need (leb 672 (length b)) 2 (need (headerPasses b) 3
-    (let m = mediumOf b in
-    passing (each (boundsFault m))
+    passing (bytesFault b)
     (bind (tree b p) (λ (r : Roots).
-    let g = tablesOf b r in
-    passing (validate g then mapFault m then each (indexFault m))
-    (ok (record { grid = g; medium = m })))))))
+    let t : Accepted = record { grid = tablesOf b r; medium = mediumOf b } in
+    passing (treeFault t) (ok t)))
 
 -- and then 15
 unfoldable pub decodeDensity : List ℕ → Places → Result Accepted

@@ -17,7 +17,7 @@ use Rattle.sparse_grid.specs.Validate.{validate, densityFault}
 use Rattle.medium.specs.Medium.{boundsFault, indexFault, mapFault}
 use Rattle.decode.specs.Nodes.{Places, childTarget}
 use Rattle.decode.specs.Tree.{rootOf, keyPasses}
-use Rattle.decode.specs.Decode.{headerPasses, decodeDensity}
+use Rattle.decode.specs.Decode.{decodeDensity}
 use Rattle.decode.specs.Keys.{key-same}
 
 -- two spans (header and root), 999 roots and no nodes
@@ -44,7 +44,7 @@ target-off = refl
 
 -- the sample is accepted
 accepted : numberOf (decodeDensity sample places) ≡ 0
-unfolding decodeDensity headerPasses sample le signed narrow validate densityFault boundsFault indexFault mapFault ofBits lt eq sub add
+unfolding decodeDensity sample le signed narrow validate densityFault boundsFault indexFault mapFault ofBits lt eq sub add
 accepted = refl
 
 -- the walk reads 0.5 in the block (-1, 0, 0) and the background in every other
@@ -54,12 +54,12 @@ reads c s = sample-walk c ∙ ap (λ (t : Bool). cond t (record { bits = 0x3f000
 
 -- bit 62 alone in the tile's key
 bit-62-refused : numberOf (decodeDensity (sampleWith (field 800 8 (2 ^ 62) ∷ [])) places) ≡ 7
-unfolding decodeDensity headerPasses written le signed narrow validate densityFault boundsFault indexFault mapFault ofBits lt eq sub add
+unfolding decodeDensity written le signed narrow validate densityFault boundsFault indexFault mapFault ofBits lt eq sub add
 bit-62-refused = refl
 
 -- versions: a major of 32 passes, one of 33 does not
 version-refused : numberOf (decodeDensity (sampleWith (field 16 4 69206016 ∷ [])) places) ≡ 3
-unfolding decodeDensity headerPasses written le
+unfolding decodeDensity written le
 version-refused = refl
 
 -- ---- where the root may stand
@@ -69,14 +69,14 @@ abbrev empty : ℕ → List ℕ
 empty offset = bytesOf 832 (header 832 offset ++ rootAt (672 + offset) 0)
 
 offset-63 : numberOf (decodeDensity (empty 63) places) ≡ 6
-unfolding decodeDensity headerPasses written le signed narrow validate densityFault boundsFault indexFault mapFault ofBits lt eq sub add
+unfolding decodeDensity written le signed narrow validate densityFault boundsFault indexFault mapFault ofBits lt eq sub add
 offset-63 = refl
 
 offset-64 : numberOf (decodeDensity (empty 64) places) ≡ 0
-unfolding decodeDensity headerPasses written le signed narrow validate densityFault boundsFault indexFault mapFault ofBits lt eq sub add
+unfolding decodeDensity written le signed narrow validate densityFault boundsFault indexFault mapFault ofBits lt eq sub add
 offset-64 = refl
 
 -- the sample itself with offset 63 reads 256 as its count, whose span passes the end
 offset-63-sample : numberOf (decodeDensity (sampleWith (field 696 8 63 ∷ [])) places) ≡ 5
-unfolding decodeDensity headerPasses written le signed narrow validate densityFault boundsFault indexFault mapFault ofBits lt eq sub add
+unfolding decodeDensity written le signed narrow validate densityFault boundsFault indexFault mapFault ofBits lt eq sub add
 offset-63-sample = refl

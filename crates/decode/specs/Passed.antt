@@ -4,16 +4,16 @@ use mathlib.Core.List.{List}
 use Prim.Native.Nat.{ℕ, _^_}
 use lib.Dec.{ltb, leb}
 use lib.ListN.{length}
-use Rattle.refusals.specs.Results.{Result, ok, bind, need}
-use Rattle.refusals.specs.ResultLaws.{ok-injective, bind-ok, need-ok}
-use Rattle.refusals.specs.Faults.{_then_, passing}
+use Rattle.refusals.specs.Results.{Result, ok, bind}
+use Rattle.refusals.specs.ResultLaws.{ok-injective, bind-ok}
+use Rattle.refusals.specs.Faults.{_then_, unless, passing}
 use Rattle.refusals.specs.FaultLaws.{passing-ok, then-zero}
 use Rattle.sparse_grid.specs.Tables.{Grid}
 use Rattle.sparse_grid.specs.Validate.{validate, densityFault, validateDensity}
-use Rattle.medium.specs.Medium.{Medium, each, boundsFault, indexFault, mapFault}
+use Rattle.medium.specs.Medium.{each, boundsFault, indexFault, mapFault}
 use Rattle.decode.specs.Nodes.{Places}
 use Rattle.decode.specs.Tree.{Roots, tree}
-use Rattle.decode.specs.Decode.{tablesOf, Accepted, mediumOf, headerPasses, decodeScalar, decodeDensity}
+use Rattle.decode.specs.Decode.{tablesOf, Accepted, mediumOf, headerPasses, bytesFault, treeFault, decodeScalar, decodeDensity}
 
 pub record Passed (b : List ℕ) (p : Places) (t : Accepted) : Type 0 where
   pub roots : Roots
@@ -26,34 +26,23 @@ pub record Passed (b : List ℕ) (p : Places) (t : Accepted) : Type 0 where
   pub index : each (indexFault (mediumOf b)) ≡ 0
 
 pub scalar-passed : (b : List ℕ) (p : Places) (t : Accepted) → decodeScalar b p ≡ ok t → Passed b p t
-unfolding decodeScalar
+unfolding decodeScalar bytesFault treeFault
 scalar-passed b p t e =
-    let (a₁, e₁) = need-ok (ltb (length b) (2 ^ 32)) 1 two e in
-    let (a₂, e₂) = need-ok (leb 672 (length b)) 2 three e₁ in
-    let (a₃, e₃) = need-ok (headerPasses b) 3 four e₂ in
-    let (bounds, e₄) = passing-ok (each (boundsFault m)) (bind (tree b p) last) e₃ in
-    let (r, read, e₅) = bind-ok (tree b p) last e₄ in
-    let (faults, e₆) = passing-ok (validate (tablesOf b r) then mapFault m then each (indexFault m)) (ok (record { grid = tablesOf b r; medium = m })) e₅ in
-    let (valid, f₁) = then-zero (validate (tablesOf b r)) (mapFault m then each (indexFault m)) faults in
-    let (mapped, index) = then-zero (mapFault m) (each (indexFault m)) f₁ in
-    let is = sym (ok-injective e₆) in
+    let m = mediumOf b in
+    let (start, e₁) = passing-ok (bytesFault b) (bind (tree b p) last) e in
+    let (f₁, g₁) = then-zero (unless (ltb (length b) (2 ^ 32)) 1) (unless (leb 672 (length b)) 2 then unless (headerPasses b) 3 then each (boundsFault m)) start in
+    let (f₂, g₂) = then-zero (unless (leb 672 (length b)) 2) (unless (headerPasses b) 3 then each (boundsFault m)) g₁ in
+    let (f₃, bounds) = then-zero (unless (headerPasses b) 3) (each (boundsFault m)) g₂ in
+    let (r, read, e₂) = bind-ok (tree b p) last e₁ in
+    let (faults, e₃) = passing-ok (validate (tablesOf b r) then mapFault m then each (indexFault m)) (ok (record { grid = tablesOf b r; medium = m })) e₂ in
+    let (valid, g₃) = then-zero (validate (tablesOf b r)) (mapFault m then each (indexFault m)) faults in
+    let (mapped, index) = then-zero (mapFault m) (each (indexFault m)) g₃ in
+    let is = sym (ok-injective e₃) in
     let grid : t .grid ≡ tablesOf b r = ap (λ (a : Accepted). a .grid) is in
     record { roots = r; read = read; grid = grid; medium = ap (λ (a : Accepted). a .medium) is; valid = subst (λ (g : Grid). validate g ≡ 0) (sym grid) valid; bounds = bounds; mapped = mapped; index = index }
   where
-    m : Medium
-    m = mediumOf b
-
     last : Roots → Result Accepted
-    last = λ (r : Roots). passing (validate (tablesOf b r) then mapFault m then each (indexFault m)) (ok (record { grid = tablesOf b r; medium = m }))
-
-    four : Result Accepted
-    four = passing (each (boundsFault m)) (bind (tree b p) last)
-
-    three : Result Accepted
-    three = need (headerPasses b) 3 four
-
-    two : Result Accepted
-    two = need (leb 672 (length b)) 2 three
+    last = λ (r : Roots). let t : Accepted = record { grid = tablesOf b r; medium = mediumOf b } in passing (treeFault t) (ok t)
 
 pub density-passed : (b : List ℕ) (p : Places) (t : Accepted) → decodeDensity b p ≡ ok t → Passed b p t × (densityFault (t .grid) ≡ 0)
 unfolding decodeDensity

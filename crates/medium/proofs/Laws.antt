@@ -1,6 +1,6 @@
 -- A test and the fault that it stands for. Assumes nothing.
 use mathlib.Core.Path.{_≡_, sym, ap, _∙_}
-use mathlib.Core.Bool.{Bool, true, false, _&&_}
+use mathlib.Core.Bool.{Bool, true, false}
 use Prim.Native.Nat.{ℕ, _^_, _<_}
 use lib.IntN.{ℤ}
 use lib.Signed.{mag, leZ}
@@ -19,9 +19,6 @@ fails r t n e y = ap (λ (b : Bool). unless b n) (sym y ∙ e)
 -- the first fault of three axes
 pub each-is : (f : Axis → ℕ) (x y z yz r : ℕ) → x ≡ f xAxis → y ≡ f yAxis → z ≡ f zAxis → yz ≡ (y then z) → r ≡ (x then yz) → r ≡ each f
 each-is f x y z yz r p q s t u = u ∙ ap (λ (n : ℕ). x then n) (t ∙ ap (λ (n : ℕ). n then z) q ∙ ap (λ (n : ℕ). f yAxis then n) s) ∙ ap (λ (n : ℕ). n then (f yAxis then f zAxis)) p
-
-pub and-same : {a b x y : Bool} → a ≡ x → b ≡ y → (a && b) ≡ (x && y)
-and-same p q = λ i. p i && q i
 
 pub then-same : {a b x y : ℕ} → a ≡ x → b ≡ y → (a then b) ≡ (x then y)
 then-same p q = λ i. p i then q i

@@ -16,8 +16,8 @@ coordOf l = record { x = getD l 0 (pos 0); y = getD l 1 (pos 0); z = getD l 2 (p
 abbrev pub nineOf : List Float → List Float
 nineOf l = getD l 0 nan ∷ getD l 1 nan ∷ getD l 2 nan ∷ getD l 3 nan ∷ getD l 4 nan ∷ getD l 5 nan ∷ getD l 6 nan ∷ getD l 7 nan ∷ getD l 8 nan ∷ []
 
-abbrev pub mediumOf : Code.Medium → Medium
-mediumOf m = record {
+abbrev pub asMedium : Code.Medium → Medium
+asMedium m = record {
   low = pointOf (m .low);
   high = pointOf (m .high);
   indexLow = coordOf (m .«index_low»);

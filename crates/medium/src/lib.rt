@@ -5,9 +5,11 @@ ghost use mathlib.Core.Bool.{_&&_};
 ghost use lib.Signed.{leZ};
 ghost use lib.Ieee.{binary32, sub, lt};
 ghost use lib.Ieee.Scale.{finite};
-ghost use Rattle.refusals.specs.Faults.{_then_, unless};
+ghost use Rattle.refusals.specs.Faults.{unless};
 ghost use Rattle.medium.specs.Medium.{boundsFault, indexFault, mapFault, mediumFault, each, diagonal, zeroes};
-ghost use Rattle.medium.specs.Record.{mediumOf};
+ghost use Rattle.medium.specs.Record.{asMedium};
+use refusals::both;
+use refusals::first_fault;
 
 pub struct Medium {
     pub low: [f32; 3],
@@ -16,19 +18,6 @@ pub struct Medium {
     pub index_high: [i32; 3],
     pub map: [f32; 9],
     pub translation: [f32; 3],
-}
-
-// The first of two faults.
-fn first(a: u32, b: u32) -> u32
-    ensures { λ r. ⌜ r ≡ (a then b) ⌝ }
-{
-    if a == 0 { b } else { a }
-}
-
-fn both(a: bool, b: bool) -> bool
-    ensures { λ r. ⌜ r ≡ (a && b) ⌝ }
-{
-    if a { b } else { false }
 }
 
 // One axis of the world box.
@@ -49,22 +38,22 @@ fn index_on(low: i32, high: i32) -> u32
 
 // 4 where the world box does not pass.
 pub fn bounds_fault(m: Medium) -> u32
-    ensures { λ r. ⌜ r ≡ each (boundsFault (mediumOf m)) ⌝ }
+    ensures { λ r. ⌜ r ≡ each (boundsFault (asMedium m)) ⌝ }
 {
     let x = bounds_on(m.low[0], m.high[0]);
     let y = bounds_on(m.low[1], m.high[1]);
     let z = bounds_on(m.low[2], m.high[2]);
-    first(x, first(y, z))
+    first_fault(x, first_fault(y, z))
 }
 
 // 14 where the index box is empty on some axis.
 pub fn index_fault(m: Medium) -> u32
-    ensures { λ r. ⌜ r ≡ each (indexFault (mediumOf m)) ⌝ }
+    ensures { λ r. ⌜ r ≡ each (indexFault (asMedium m)) ⌝ }
 {
     let x = index_on(m.index_low[0], m.index_high[0]);
     let y = index_on(m.index_low[1], m.index_high[1]);
     let z = index_on(m.index_low[2], m.index_high[2]);
-    first(x, first(y, z))
+    first_fault(x, first_fault(y, z))
 }
 
 // A place of the map's diagonal.
@@ -83,7 +72,7 @@ fn off_diagonal(v: f32) -> bool
 
 // 13 where the map or the translation does not pass.
 pub fn map_fault(m: Medium) -> u32
-    ensures { λ r. ⌜ r ≡ mapFault (mediumOf m) ⌝ }
+    ensures { λ r. ⌜ r ≡ mapFault (asMedium m) ⌝ }
 {
     let x = both(
         both(on_diagonal(m.map[0]), off_diagonal(m.map[1])),
@@ -108,7 +97,7 @@ pub fn map_fault(m: Medium) -> u32
 
 // 4, 14, 13: the checks of a build.
 pub fn medium_fault(m: Medium) -> u32
-    ensures { λ r. ⌜ r ≡ mediumFault (mediumOf m) ⌝ }
+    ensures { λ r. ⌜ r ≡ mediumFault (asMedium m) ⌝ }
 {
-    first(bounds_fault(m), first(index_fault(m), map_fault(m)))
+    first_fault(bounds_fault(m), first_fault(index_fault(m), map_fault(m)))
 }

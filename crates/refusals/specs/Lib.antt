@@ -3,3 +3,4 @@ pub mod Faults
 pub mod TestLaws
 pub mod ResultLaws
 pub mod FaultLaws
+pub mod FaultSteps

@@ -31,3 +31,7 @@ ne→eqb {m} {n} h = go (eqb m n) (λ t. h (eqb→eq m n t))
     go : (b : Bool) → (T b → ⊥) → b ≡ false
     go true k = absurd (k tt)
     go false k = refl
+
+-- two pairs of tests that are the same
+pub and-same : {a b x y : Bool} → a ≡ x → b ≡ y → (a && b) ≡ (x && y)
+and-same p q = λ i. p i && q i

@@ -1,4 +1,8 @@
-// The numbers of the refusals. README.md says in words what each one means.
+// The numbers of the refusals, and how tests are joined. README.md says in words what each number means.
+ghost use mathlib.Core.Path.{_≡_};
+ghost use mathlib.Core.Bool.{_&&_};
+ghost use Rattle.refusals.specs.Faults.{_then_};
+
 pub const TOO_LONG: u32 = 1;
 
 pub const TOO_SHORT: u32 = 2;
@@ -34,3 +38,16 @@ pub const COORDINATE: u32 = 16;
 pub const SECOND_BOX: u32 = 17;
 
 pub const TABLES: u32 = 18;
+
+// The first of two faults, of which 0 is none.
+pub fn first_fault(a: u32, b: u32) -> u32
+    ensures { λ r. ⌜ r ≡ (a then b) ⌝ }
+{
+    if a == 0 { b } else { a }
+}
+
+pub fn both(a: bool, b: bool) -> bool
+    ensures { λ r. ⌜ r ≡ (a && b) ⌝ }
+{
+    if a { b } else { false }
+}

@@ -2,3 +2,8 @@ pub mod Tables
 pub mod Validate
 pub mod Lookup
 pub mod Count
+pub mod Answers
+pub mod Biased
+pub mod Sound
+pub mod Inner
+pub mod Examples

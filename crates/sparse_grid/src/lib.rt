@@ -1,7 +1,190 @@
 // A sparse grid of lent tables: entries, validate, validate_density, get_value (sparse_grid.rs).
+// A grid is its background and eight tables side by side, always in this order. A root's block is three numbers of `blocks`.
+ghost use mathlib.Core.Path.{_≡_};
+ghost use Prim.Native.Nat.{_<_};
+ghost use lib.ListN.{length};
+ghost use Rattle.sparse_grid.specs.Tables.{gridOf, entryAt};
+ghost use Rattle.sparse_grid.specs.Validate.{validate as validateS, validateDensity};
+ghost use Rattle.sparse_grid.specs.Lookup.{lookup as lookupS};
+ghost use Rattle.sparse_grid.specs.Answers.{answer, valueOnly, at};
+ghost use Rattle.sparse_grid.specs.Inner.{rootOf, Has};
+
+mod faults;
+mod lookup;
+
+use faults::contents_fault;
+use faults::density_fault;
+use faults::pair_fault;
+use faults::roots_fault;
+use faults::tables_fault;
+use lookup::below;
+use lookup::place_of;
+use lookup::root_entry;
 
 // What stands at a slot of a node or beside a root's block: the number of a child, or a value for every coordinate below it.
 pub enum Entry {
     Child(u32),
     Tile(f32),
+}
+
+// A root record: a block of 4,096 coordinates a side, and what stands there.
+pub struct Root {
+    pub x: i32,
+    pub y: i32,
+    pub z: i32,
+    pub entry: Entry,
+}
+
+// What a lookup reads, or the number of its refusal.
+pub enum Answer {
+    Value(f32),
+    Refused(u32),
+}
+
+// Link 0 is a tile, k + 1 is child k.
+pub(crate) fn entry_at(links: &[u32], values: &[f32], i: usize) -> Entry
+    requires { ⌜ (i < length (now links)) × (i < length (now values)) ⌝ }
+    ensures { λ r. ⌜ r ≡ entryAt (now (links .entry)) (now (values .entry)) i ⌝ }
+{
+    let link = links[i];
+    if link == 0 {
+        Entry::Tile(values[i])
+    } else {
+        Entry::Child(link - 1)
+    }
+}
+
+pub(crate) fn root_at(blocks: &[i32], links: &[u32], values: &[f32], i: usize) -> Root
+    requires { ⌜ Has (now blocks) (now links) (now values) i ⌝ }
+    ensures { λ r. ⌜ r ≡ rootOf (now (blocks .entry)) (now (links .entry)) (now (values .entry)) i ⌝ }
+{
+    let x = blocks[3 * i];
+    let y = blocks[3 * i + 1];
+    let z = blocks[3 * i + 2];
+    let entry = entry_at(links, values, i);
+    Root {
+        x: x,
+        y: y,
+        z: z,
+        entry: entry,
+    }
+}
+
+// The number of the first fault, and 0 for none: the tables' lengths, roots in order, upper and lower entries, background, leaves.
+pub fn validate(
+    background: f32,
+    blocks: &[i32],
+    root_links: &[u32],
+    root_values: &[f32],
+    upper_links: &[u32],
+    upper_values: &[f32],
+    lower_links: &[u32],
+    lower_values: &[f32],
+    leaf_values: &[f32],
+) -> u32
+    ensures { λ r. ⌜ r ≡ validateS (gridOf background (now (blocks .entry)) (now («root_links» .entry)) (now («root_values» .entry)) (now («upper_links» .entry)) (now («upper_values» .entry)) (now («lower_links» .entry)) (now («lower_values» .entry)) (now («leaf_values» .entry))) ⌝ }
+{
+    let tables = tables_fault(
+        blocks,
+        root_links,
+        root_values,
+        upper_links,
+        upper_values,
+        lower_links,
+        lower_values,
+        leaf_values,
+    );
+    if tables != 0 {
+        return tables;
+    }
+    let roots = roots_fault(blocks, root_links, root_values, upper_links.len() / 32768);
+    if roots != 0 {
+        return roots;
+    }
+    contents_fault(
+        background,
+        upper_links,
+        upper_values,
+        lower_links,
+        lower_values,
+        leaf_values,
+    )
+}
+
+// `validate`, and then 15 for a value below zero.
+pub fn validate_density(
+    background: f32,
+    blocks: &[i32],
+    root_links: &[u32],
+    root_values: &[f32],
+    upper_links: &[u32],
+    upper_values: &[f32],
+    lower_links: &[u32],
+    lower_values: &[f32],
+    leaf_values: &[f32],
+) -> u32
+    ensures { λ r. ⌜ r ≡ validateDensity (gridOf background (now (blocks .entry)) (now («root_links» .entry)) (now («root_values» .entry)) (now («upper_links» .entry)) (now («upper_values» .entry)) (now («lower_links» .entry)) (now («lower_values» .entry)) (now («leaf_values» .entry))) ⌝ }
+{
+    let fault = validate(
+        background,
+        blocks,
+        root_links,
+        root_values,
+        upper_links,
+        upper_values,
+        lower_links,
+        lower_values,
+        leaf_values,
+    );
+    if fault != 0 {
+        return fault;
+    }
+    density_fault(
+        background,
+        root_values,
+        upper_values,
+        lower_values,
+        leaf_values,
+    )
+}
+
+// What stands at a coordinate, whatever the tables: 18 where they are not paired, 11 for a link that is met and has no whole node.
+pub fn get_value(
+    background: f32,
+    blocks: &[i32],
+    root_links: &[u32],
+    root_values: &[f32],
+    upper_links: &[u32],
+    upper_values: &[f32],
+    lower_links: &[u32],
+    lower_values: &[f32],
+    leaf_values: &[f32],
+    x: i32,
+    y: i32,
+    z: i32,
+) -> Answer
+    ensures { λ r. ⌜ answer r ≡ valueOnly (lookupS (gridOf background (now (blocks .entry)) (now («root_links» .entry)) (now («root_values» .entry)) (now («upper_links» .entry)) (now («upper_values» .entry)) (now («lower_links» .entry)) (now («lower_values» .entry)) (now («leaf_values» .entry))) (at x y z)) ⌝ }
+{
+    let pairs = pair_fault(
+        blocks,
+        root_links,
+        root_values,
+        upper_links,
+        upper_values,
+        lower_links,
+        lower_values,
+    );
+    if pairs != 0 {
+        return Answer::Refused(pairs);
+    }
+    let entry = root_entry(background, blocks, root_links, root_values, x, y, z);
+    below(
+        entry,
+        upper_links,
+        upper_values,
+        lower_links,
+        lower_values,
+        leaf_values,
+        place_of(x, y, z),
+    )
 }

@@ -1,12 +1,12 @@
 -- The fields of a key: 20 bits with a sign, in an i32. Assumes nothing.
 use mathlib.Core.Path.{_≡_, refl, sym, ap, _∙_}
-use mathlib.Core.Bool.{Bool, true, false, _&&_}
+use mathlib.Core.Bool.{false}
 use Prim.Native.Nat.{ℕ, zero, suc, _+_, _-_, _/_, _%_, _^_, _<_, _≤_}
 use native.Mathlib.Nat.{zero-add}
 use native.Mathlib.Omega.{arith}
 use lib.IntN.{ℤ, pos, negsuc, _-ℤ_}
 use lib.Signed.{mag}
-use lib.Dec.{eqb, ltb}
+use lib.Dec.{eqb}
 use mir.Syntax.{w32}
 use mir.Val.{SFits, toZ, ofZ}
 use mir.Facts.{toZ-ofZ, toZ-pos}
@@ -35,9 +35,9 @@ module _ (k : ℕ) (h : k < 2147483648) where
 pub field-high : (bits : ℕ) → bits < 1048576 → 524288 ≤ bits → toZ w32 (ofZ w32 (negsuc 0 -ℤ toZ w32 (1048575 - bits))) ≡ signed 20 bits
 field-high bits s h = let e : 1048575 - bits ≡ 1048576 - (bits + 1) = omega arith in less-is (1048575 - bits) (omega arith) ∙ ap negsuc e ∙ sym (signed-high 20 bits h)
 
--- a field is an i32, as which a local holds it
-pub field-seen : (z : ℤ) (bits : ℕ) → mag z < 2 ^ 31 → z ≡ signed 20 bits → toZ w32 (ofZ w32 z) ≡ signed 20 bits
-field-seen z bits h e = toZ-ofZ (record { sfits = h }) ∙ e
+-- an i32 that a local holds as bits
+pub i32-seen : (z v : ℤ) → mag z < 2 ^ 31 → z ≡ v → toZ w32 (ofZ w32 z) ≡ v
+i32-seen z v h e = toZ-ofZ (record { sfits = h }) ∙ e
 
 -- the tests of a key
 module _ (key : ℕ) where

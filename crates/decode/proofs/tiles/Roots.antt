@@ -1,19 +1,19 @@
 -- A root record is put behind the others. Assumes nothing.
-use mathlib.Core.Path.{_≡_, refl, sym, ap, _∙_, subst}
+use mathlib.Core.Path.{_≡_, refl, sym, ap, _∙_}
 use mathlib.Core.List.{List, [], _∷_, _++_, map, append-assoc}
-use Prim.Native.Nat.{ℕ, zero, suc, _+_, _*_, _/_, _%_, _^_, _≤_, _<_}
+use Prim.Native.Nat.{ℕ, _+_, _*_, _/_, _%_, _≤_, _<_}
 use native.Mathlib.Omega.{arith}
 use lib.IntN.{ℤ, pos}
 use lib.ListN.{length, set, length-append, length-map, length-set}
 use lib.Ieee.{Float}
 use Rattle.float.specs.Zero.{+0}
 use Rattle.lent.specs.Padded.{padded}
-use Rattle.lent.specs.PaddedLaws.{padded-push, padded-length, padded-fits}
+use Rattle.lent.specs.PaddedLaws.{padded-push}
 use Rattle.layout.specs.Bytes.{signed}
 use Rattle.sparse_grid.specs.declared.Entry.{Entry}
 use Rattle.decode.specs.Tree.{Root, field, rootOf}
 use Rattle.decode.specs.Decode.{linkOf, valueOf, blocksOf}
-use Rattle.decode.specs.Inner.Rooted.{RootTabs, rootTabs, RootsHeld, RootPut}
+use Rattle.decode.specs.Inner.Rooted.{rootTabs, RootPut}
 use Rattle.decode.proofs.nodes.Tables.{map-snoc}
 
 blocks-length : (rs : List Root) → length (blocksOf rs) ≡ 3 * length rs

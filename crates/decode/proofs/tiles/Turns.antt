@@ -2,7 +2,7 @@
 use mathlib.Core.Path.{_≡_, refl, sym, ap, _∙_, subst}
 use mathlib.Core.List.{List, [], _∷_, _++_}
 use mathlib.Core.Bool.{Bool, true, false}
-use Prim.Native.Nat.{ℕ, zero, suc, _+_, _*_, _/_, _≤_, _<_}
+use Prim.Native.Nat.{ℕ, suc, _+_, _*_, _/_, _≤_, _<_}
 use native.Mathlib.Omega.{arith}
 use lib.IntN.{ℤ}
 use lib.ListN.{length}
@@ -12,18 +12,16 @@ use Rattle.refusals.specs.Results.{ok, refused, bind}
 use Rattle.refusals.specs.ResultLaws.{run-more, run-stop}
 use Rattle.float.specs.Zero.{+0}
 use Rattle.layout.specs.Bytes.{signed, u64At, i64At, f32At}
-use Rattle.sparse_grid.specs.declared.Entry.{Entry}
 use Rattle.sparse_grid.specs.declared.Entry.the-variants.{Child, Tile}
 use Rattle.decode.specs.Nodes.{Places, State, Read, childTarget, node}
-use Rattle.decode.specs.Tree.{Root, Roots, rootOf, keyPasses, tileRead, tilesRead}
+use Rattle.decode.specs.Tree.{Roots, rootOf, keyPasses, tileRead, tilesRead}
 use Rattle.decode.specs.HeldTiles.{tiles-read}
-use Rattle.decode.specs.Inner.Filled.{ofTarget, tabs, Fit, Kept, Holds, Lends, Reads, NodeFit, NodeSays, NodeOut, SlotFit}
+use Rattle.decode.specs.Inner.Filled.{ofTarget, tabs, Fit, Kept, Holds, Reads, NodeFit, NodeSays, NodeOut, SlotFit}
 use Rattle.decode.specs.Inner.Rooted.{rootTabs, RootsHeld, RootPut, TileSays, TileOut, TilesOut}
 use Rattle.decode.specs.declared.nodes.State as Progress
 use Rattle.decode.specs.declared.nodes.Target as Target
 use Rattle.decode.specs.declared.nodes.Placed as Placed
 use Rattle.decode.specs.declared.nodes.Step as Step
-use Rattle.decode.proofs.nodes.Fits.{fit-kept}
 
 -- ---- the ways of the definition's tile
 
@@ -120,7 +118,10 @@ module _ (b : List ℕ) (root count : ℕ) (w₀ ul₀ : List ℕ) (uv₀ : List
   row-begins f = record {
     turn = omega arith;
     kept = record { work = refl; upperLinks = refl; upperValues = refl; lowerLinks = refl; lowerValues = refl; leafValues = refl };
-    blocks-kept = refl; links-kept = refl; values-kept = refl; fit = f;
+    blocks-kept = refl;
+    links-kept = refl;
+    values-kept = refl;
+    fit = f;
     says = λ p d R h. (record { roots = []; state = d }, refl, R .holds, h);
   }
 
@@ -158,7 +159,9 @@ module _ (b : List ℕ) (root count : ℕ) (w₀ ul₀ : List ℕ) (uv₀ : List
       row-more s h is k kb kl kv = record {
         turn = omega arith;
         kept = record { work = k .work ∙ t .kept .work; upperLinks = k .upperLinks ∙ t .kept .upperLinks; upperValues = k .upperValues ∙ t .kept .upperValues; lowerLinks = k .lowerLinks ∙ t .kept .lowerLinks; lowerValues = k .lowerValues ∙ t .kept .lowerValues; leafValues = k .leafValues ∙ t .kept .leafValues };
-        blocks-kept = kb ∙ t .blocks-kept; links-kept = kl ∙ t .links-kept; values-kept = kv ∙ t .values-kept;
+        blocks-kept = kb ∙ t .blocks-kept;
+        links-kept = kl ∙ t .links-kept;
+        values-kept = kv ∙ t .values-kept;
         fit = subst (λ (y : Step.Step). SlotFit (length b) (tabs w' ul' uv' ll' lv' lf') y) is (out .fit);
         says = λ p d R h.
             let (n, read, reads, roots, size) = handed p d R h in

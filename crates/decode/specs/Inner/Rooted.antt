@@ -1,18 +1,18 @@
 -- The lent tables of the roots beside the definition's root records: what the contracts of the tile reader say.
-use Prim.Native.Nat.{ℕ, _+_, _*_, _/_, _%_, _<_, _≤_, _^_}
+use Prim.Native.Nat.{ℕ}
 use mathlib.Core.Path.{_≡_}
 use mathlib.Core.List.{List, [], _∷_, _++_, map}
 use lib.IntN.{ℤ, pos}
 use lib.ListN.{length}
 use lib.Ieee.{Float}
-use Rattle.refusals.specs.Results.{Result, ok, refused}
+use Rattle.refusals.specs.Results.{ok, refused}
 use Rattle.float.specs.Zero.{+0}
 use Rattle.lent.specs.Padded.{padded}
 use Rattle.sparse_grid.specs.declared.Entry.{Entry}
 use Rattle.decode.specs.Nodes.{Places, State}
 use Rattle.decode.specs.Tree.{Root, Roots, rootOf, tileRead, tilesRead}
 use Rattle.decode.specs.Decode.{linkOf, valueOf, blocksOf}
-use Rattle.decode.specs.Inner.Filled.{Tabs, Fit, Holds, Lends, Reads, SlotFit}
+use Rattle.decode.specs.Inner.Filled.{Tabs, Holds, Reads, SlotFit}
 use Rattle.decode.specs.declared.nodes.State as Progress
 use Rattle.decode.specs.declared.nodes.Step as Step
 

@@ -1,4 +1,5 @@
-use Rattle.medium.proofs.Laws.{passes, fails, and-same}
+use Rattle.refusals.specs.TestLaws.{and-same}
+use Rattle.medium.proofs.Laws.{passes, fails}
 use mathlib.Core.Path.{refl, _∙_}
 use borrow.Author.Needs.{needs}
 use Rattle.medium.proofs.bounds_on.Statement.{statement}

@@ -1,4 +1,5 @@
-use Rattle.medium.proofs.Laws.{passes, fails, and-same}
+use Rattle.refusals.specs.TestLaws.{and-same}
+use Rattle.medium.proofs.Laws.{passes, fails}
 use mathlib.Core.Path.{_∙_}
 use Rattle.medium.specs.Medium.{mapFault}
 use borrow.Author.Needs.{needs}

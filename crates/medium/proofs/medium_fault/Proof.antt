@@ -13,14 +13,14 @@ index-fault-requires c κs = search needs
 map-fault-requires : tie.Need-map-fault-requires
 map-fault-requires c κs = search needs
 
-first-requires : tie.Need-first-requires
-first-requires c κs = search needs
+first-fault-requires : tie.Need-first-fault-requires
+first-fault-requires c κs = search needs
 
-first-requires-2 : tie.Need-first-requires-2
-first-requires-2 c κs = search needs
+first-fault-requires-2 : tie.Need-first-fault-requires-2
+first-fault-requires-2 c κs = search needs
 
 returns : tie.Need-returns
-returns c = c .first2 .ensures ∙ then-same (c .before .before .before .before .bounds-fault .ensures) (c .before .first .ensures ∙ then-same (c .before .before .before .index-fault .ensures) (c .before .before .map-fault .ensures))
+returns c = c .first-fault2 .ensures ∙ then-same (c .before .before .before .before .bounds-fault .ensures) (c .before .first-fault .ensures ∙ then-same (c .before .before .before .index-fault .ensures) (c .before .before .map-fault .ensures))
 
 pub medium-fault-spec : {M : Type 1} → statement M
 medium-fault-spec =
@@ -29,6 +29,6 @@ medium-fault-spec =
     bounds-fault-requires
     index-fault-requires
     map-fault-requires
-    first-requires
-    first-requires-2
+    first-fault-requires
+    first-fault-requires-2
     returns)

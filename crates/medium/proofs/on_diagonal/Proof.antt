@@ -1,7 +1,7 @@
 use mathlib.Core.Path.{ap, _∙_}
 use Rattle.float.specs.Literal.{zero-literal}
 use lib.Ieee.{Float, lt, binary32}
-use Rattle.medium.proofs.Laws.{and-same}
+use Rattle.refusals.specs.TestLaws.{and-same}
 use borrow.Author.Needs.{needs}
 use Rattle.medium.proofs.on_diagonal.Statement.{statement}
 use Rattle.medium.proofs.on_diagonal.Tie as tie

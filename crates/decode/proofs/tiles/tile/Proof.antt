@@ -1,6 +1,6 @@
 use native.Mathlib.Omega.{arith}
-use Rattle.decode.proofs.tiles.Turns.{Row, row-begins, row-more, tiles-stop, tiles-end, tile-out-key, tile-out-value, tile-out-off, tile-out-refused, tile-out-child}
-use mathlib.Core.Path.{_≡_, refl, sym, ap, _∙_}
+use Rattle.decode.proofs.tiles.Turns.{tile-out-key, tile-out-value, tile-out-off, tile-out-refused, tile-out-child}
+use mathlib.Core.Path.{refl}
 use Rattle.decode.proofs.nodes.Answers.{node-number}
 use Rattle.float.specs.Literal.{zero-literal}
 use mathlib.Core.List.{[]}
@@ -9,176 +9,127 @@ use borrow.Author.Tests.{not-true, not-false}
 use borrow.Author.Needs.{needs}
 use Rattle.decode.proofs.tiles.tile.Statement.{statement}
 use Rattle.decode.proofs.tiles.tile.Tie as tie
-use Rattle.decode.proofs.tiles.tile.Reads as reads
-use Rattle.decode.proofs.tiles.tile.Lts as lts
-use Rattle.decode.proofs.nodes.child_target.Reads as child-target-reads
-use Rattle.decode.proofs.nodes.node.Reads as node-reads
-use Rattle.decode.proofs.tiles.key_passes.Reads as key-passes-reads
-use Rattle.decode.proofs.tiles.put_root.Reads as put-root-reads
-use Rattle.layout.proofs.f32_at.Reads as f32-at-reads
-use Rattle.layout.proofs.u64_at.Reads as u64-at-reads
 
--- src/tiles.rt:80:14
 add-at : tie.Need-add-at
 add-at c = omega (arith, c .before .before .before .before .before .before .before .before .before .pre .1, c .before .before .before .before .before .before .before .before .before .pre .2)
 
--- src/tiles.rt:80:26
 mul-at : tie.Need-mul-at
 mul-at c = omega (arith, c .before .before .before .before .before .before .before .before .before .pre .2)
 
--- src/tiles.rt:80:14
 add-at-2 : tie.Need-add-at-2
 add-at-2 c = omega (arith, c .before .before .before .before .before .before .before .before .before .pre .1, c .before .before .before .before .before .before .before .before .before .pre .2)
 
--- src/tiles.rt:81:9
 u64-at-requires : tie.Need-u64-at-requires
 u64-at-requires c κs = search needs
 
--- src/tiles.rt:82:9
 key-passes-requires : tie.Need-key-passes-requires
 key-passes-requires c κs = search needs
 
--- src/tiles.rt:83:9
 returns : tie.Need-returns
 returns c = tile-out-key _ _ _ _ _ _ _ _ _ _ _ _ _ _ (c .before .before .u64-at .ensures) _ _ _ _ _ _ _ _ _ _ (c .before .key-passes .ensures) (not-true _ (c .if1 .taken))
 
--- src/tiles.rt:85:42
 add-u64-at : tie.Need-add-u64-at
 add-u64-at c = omega (arith, c .before .before .before .before .before .before .before .before .before .before .before .before .pre .1, c .before .before .before .before .before .before .before .before .before .before .before .before .pre .2)
 
--- src/tiles.rt:85:9
 u64-at-requires-2 : tie.Need-u64-at-requires-2
 u64-at-requires-2 c κs = search needs
 
--- src/tiles.rt:87:67
 add-f32-at : tie.Need-add-f32-at
 add-f32-at c = omega (arith, c .before .before .before .before .before .before .before .before .before .before .before .before .before .before .before .before .before .pre .1, c .before .before .before .before .before .before .before .before .before .before .before .before .before .before .before .before .before .pre .2)
 
--- src/tiles.rt:87:45
 f32-at-requires : tie.Need-f32-at-requires
 f32-at-requires c κs = search needs
 
--- src/tiles.rt:87:9
 put-root-requires : tie.Need-put-root-requires
 put-root-requires c κs = (c .before .before .before .before .before .before .before .before .before .before .before .before .before .before .before .before .before .before .pre .3, c .before .before .before .before .before .before .before .before .before .before .before .before .before .before .before .before .before .before .pre .4, omega (arith, c .before .before .before .before .before .before .before .before .before .before .before .before .before .before .before .before .before .before .pre .4, c .before .before .before .before .before .before .before .before .before .before .before .before .before .before .before .before .before .before .pre .5))
 
--- src/tiles.rt:88:9
 same-length : tie.Need-same-length
 same-length c = search needs
 
--- src/tiles.rt:88:9
 same-length-2 : tie.Need-same-length-2
 same-length-2 c = search needs
 
--- src/tiles.rt:88:9
 same-length-3 : tie.Need-same-length-3
 same-length-3 c = search needs
 
--- src/tiles.rt:88:9
 returns-2 : tie.Need-returns-2
 returns-2 c = tile-out-value _ _ _ _ _ _ _ _ _ _ _ _ _ _ (c .before .before .before .before .before .before .before .before .before .before .before .before .before .before .u64-at .ensures) [] [] [] [] [] [] _ _ _ _ (c .before .before .before .before .before .before .before .before .before .before .before .before .before .key-passes .ensures) (not-false _ (c .before .before .before .before .before .before .before .before .before .before .before .before .if1 .left)) _ _ (c .before .before .before .before .before .before .before .before .before .before .before .before .before .before .before .before .before .before .before .before .before .before .before .before .pre .6) (c .before .before .before .before .before .before .before .before .before .before .before .u64-at2 .ensures) (c .before .before .before .before .before .before .before .before .before .before .if2 .taken) (c .before .before .before .before .before .before .f32-at .ensures) (c .before .before .before .before .before .put-root .ensures)
 
--- src/tiles.rt:90:11
 child-target-requires : tie.Need-child-target-requires
 child-target-requires c κs = c .before .before .before .before .before .before .before .before .before .before .before .before .before .before .pre .1
 
--- src/tiles.rt:91:25
 enum-known-e : tie.Need-enum-known-e
 enum-known-e c = search needs
 
--- src/tiles.rt:92:20
 enum-known-to : tie.Need-enum-known-to
 enum-known-to c = search needs
 
--- src/tiles.rt:92:33
 node-requires : tie.Need-node-requires
 node-requires c κs = (c .before .before .before .before .before .before .before .before .before .before .before .before .before .before .before .before .before .before .before .before .before .before .before .before .pre .0, omega arith, c .before .before .before .before .before .before .before .before .before .before .before .before .before .before .before .before .before .before .before .before .before .before .before .before .pre .6)
 
--- src/tiles.rt:93:29
 enum-known-e-2 : tie.Need-enum-known-e-2
 enum-known-e-2 c = search needs
 
--- src/tiles.rt:94:26
 enum-known-k : tie.Need-enum-known-k
 enum-known-k c = search needs
 
--- src/tiles.rt:95:50
 add-put-root : tie.Need-add-put-root
 add-put-root c = omega (arith, node-number _ _ _ _ _ (c .before .before .before .before .k .given .1) (c .before .before .before .before .before .before .before .before .before .before .before .before .before .before .before .before .before .before .node .ensures .fit))
 
--- src/tiles.rt:95:17
 put-root-requires-2 : tie.Need-put-root-requires-2
 put-root-requires-2 c κs = (c .before .before .before .before .before .before .before .before .before .before .before .before .before .before .before .before .before .before .before .before .before .before .before .before .before .before .before .before .before .before .before .before .before .before .before .before .before .before .before .before .before .before .before .pre .3, c .before .before .before .before .before .before .before .before .before .before .before .before .before .before .before .before .before .before .before .before .before .before .before .before .before .before .before .before .before .before .before .before .before .before .before .before .before .before .before .before .before .before .before .pre .4, omega (arith, c .before .before .before .before .before .before .before .before .before .before .before .before .before .before .before .before .before .before .before .before .before .before .before .before .before .before .before .before .before .before .before .before .before .before .before .before .before .before .before .before .before .before .before .pre .4, c .before .before .before .before .before .before .before .before .before .before .before .before .before .before .before .before .before .before .before .before .before .before .before .before .before .before .before .before .before .before .before .before .before .before .before .before .before .before .before .before .before .before .before .pre .5))
 
--- src/tiles.rt:62:1
 returns-3 : tie.Need-returns-3
 returns-3 c = tile-out-off _ _ _ _ _ _ _ _ _ _ _ _ _ _ (c .before .before .before .before .before .before .before .before .u64-at .ensures) _ _ _ _ _ _ _ _ _ _ (c .before .before .before .before .before .before .before .key-passes .ensures) (not-false _ (c .before .before .before .before .before .before .if1 .left)) _ (c .before .before .before .before .before .u64-at2 .ensures) (c .before .before .before .before .if2 .left) _ (c .before .before .before .child-target .ensures) _ (c .before .e .given .1)
 
--- src/tiles.rt:62:1
 same-length-4 : tie.Need-same-length-4
 same-length-4 c = search needs
 
--- src/tiles.rt:62:1
 same-length-5 : tie.Need-same-length-5
 same-length-5 c = search needs
 
--- src/tiles.rt:62:1
 same-length-6 : tie.Need-same-length-6
 same-length-6 c = search needs
 
--- src/tiles.rt:62:1
 same-length-7 : tie.Need-same-length-7
 same-length-7 c = search needs
 
--- src/tiles.rt:62:1
 same-length-8 : tie.Need-same-length-8
 same-length-8 c = search needs
 
--- src/tiles.rt:62:1
 same-length-9 : tie.Need-same-length-9
 same-length-9 c = search needs
 
--- src/tiles.rt:62:1
 returns-4 : tie.Need-returns-4
 returns-4 c = tile-out-refused _ _ _ _ _ _ _ _ _ _ _ _ _ _ (c .before .before .before .before .before .before .before .before .before .before .before .before .before .before .before .before .before .before .before .before .before .before .before .before .before .before .before .before .before .before .u64-at .ensures) _ _ _ _ _ _ _ _ _ _ (c .before .before .before .before .before .before .before .before .before .before .before .before .before .before .before .before .before .before .before .before .before .before .before .before .before .before .before .before .before .key-passes .ensures) (not-false _ (c .before .before .before .before .before .before .before .before .before .before .before .before .before .before .before .before .before .before .before .before .before .before .before .before .before .before .before .before .if1 .left)) _ (c .before .before .before .before .before .before .before .before .before .before .before .before .before .before .before .before .before .before .before .before .before .before .before .before .before .before .before .u64-at2 .ensures) (c .before .before .before .before .before .before .before .before .before .before .before .before .before .before .before .before .before .before .before .before .before .before .before .before .before .before .if2 .left) _ (c .before .before .before .before .before .before .before .before .before .before .before .before .before .before .before .before .before .before .before .before .before .before .before .before .before .child-target .ensures) _ (c .before .before .before .before .before .before .before .before .before .before .before .before .before .before .before .before .before .before .before .before .before .before .before .to .given .1) _ (c .before .before .before .before .before .before .before .before .before .before .before .before .before .before .before .node .ensures) _ (c .before .e2 .given .1)
 
--- src/tiles.rt:62:1
 same-length-10 : tie.Need-same-length-10
 same-length-10 c = search needs
 
--- src/tiles.rt:62:1
 same-length-11 : tie.Need-same-length-11
 same-length-11 c = search needs
 
--- src/tiles.rt:62:1
 same-length-12 : tie.Need-same-length-12
 same-length-12 c = search needs
 
--- src/tiles.rt:62:1
 same-length-13 : tie.Need-same-length-13
 same-length-13 c = search needs
 
--- src/tiles.rt:62:1
 same-length-14 : tie.Need-same-length-14
 same-length-14 c = search needs
 
--- src/tiles.rt:62:1
 same-length-15 : tie.Need-same-length-15
 same-length-15 c = search needs
 
--- src/tiles.rt:62:1
 same-length-16 : tie.Need-same-length-16
 same-length-16 c = search needs
 
--- src/tiles.rt:62:1
 same-length-17 : tie.Need-same-length-17
 same-length-17 c = search needs
 
--- src/tiles.rt:62:1
 same-length-18 : tie.Need-same-length-18
 same-length-18 c = search needs
 
--- src/tiles.rt:62:1
 returns-5 : tie.Need-returns-5
 returns-5 c = tile-out-child _ _ _ _ _ _ _ _ _ _ _ _ _ _ (c .before .before .before .before .before .before .before .before .before .before .before .before .before .before .before .before .before .before .before .before .before .before .before .before .before .before .before .before .before .before .before .before .before .before .before .before .before .before .before .u64-at .ensures) _ _ _ _ _ _ _ _ _ _ (c .before .before .before .before .before .before .before .before .before .before .before .before .before .before .before .before .before .before .before .before .before .before .before .before .before .before .before .before .before .before .before .before .before .before .before .before .before .before .key-passes .ensures) (not-false _ (c .before .before .before .before .before .before .before .before .before .before .before .before .before .before .before .before .before .before .before .before .before .before .before .before .before .before .before .before .before .before .before .before .before .before .before .before .before .if1 .left)) _ (c .before .before .before .before .before .before .before .before .before .before .before .before .before .before .before .before .before .before .before .before .before .before .before .before .before .before .before .before .before .before .before .before .before .before .before .before .u64-at2 .ensures) (c .before .before .before .before .before .before .before .before .before .before .before .before .before .before .before .before .before .before .before .before .before .before .before .before .before .before .before .before .before .before .before .before .before .before .before .if2 .left) _ (c .before .before .before .before .before .before .before .before .before .before .before .before .before .before .before .before .before .before .before .before .before .before .before .before .before .before .before .before .before .before .before .before .before .before .child-target .ensures) _ (c .before .before .before .before .before .before .before .before .before .before .before .before .before .before .before .before .before .before .before .before .before .before .before .before .before .before .before .before .before .before .before .before .to .given .1) _ (c .before .before .before .before .before .before .before .before .before .before .before .before .before .before .before .before .before .before .before .before .before .before .before .before .node .ensures) _ _ _ _ (c .before .before .before .before .before .before .before .before .before .before .k .given .1) refl (zero-literal binary32) (c .before .before .before .before .before .put-root2 .ensures)
 

@@ -1,13 +1,10 @@
 use native.Mathlib.Omega.{arith}
 use borrow.Author.Needs.{needs}
-use Rattle.decode.proofs.tiles.Turns.{Row, row-begins, row-more, tiles-stop, tiles-end, tile-out-key, tile-out-value, tile-out-off, tile-out-refused, tile-out-child}
-use mathlib.Core.Path.{_≡_, refl, sym, ap, _∙_}
-use Prim.Native.Nat.{ℕ, _-_}
+use Rattle.decode.proofs.tiles.Turns.{Row, row-begins, row-more, tiles-stop, tiles-end}
+use mathlib.Core.Path.{sym, _∙_}
+use Prim.Native.Nat.{_-_}
 use Rattle.decode.proofs.tiles.tiles.Statement.{statement}
 use Rattle.decode.proofs.tiles.tiles.Tie as tie
-use Rattle.decode.proofs.tiles.tiles.Reads as reads
-use Rattle.decode.proofs.tiles.tiles.Lts as lts
-use Rattle.decode.proofs.tiles.tile.Reads as tile-reads
 
 abbrev Inv-loop : tie.InvT-loop
 Inv-loop bytes root count work₀ blocks₀ rl₀ rv₀ ul₀ uv₀ ll₀ lv₀ leaves₀ now₀ i₀ work blocks rl rv ul uv ll lv leaves now i = Row bytes root count work₀ ul₀ uv₀ ll₀ lv₀ leaves₀ blocks₀ rl₀ rv₀ now₀ work ul uv ll lv leaves blocks rl rv now i
@@ -15,111 +12,84 @@ Inv-loop bytes root count work₀ blocks₀ rl₀ rv₀ ul₀ uv₀ ll₀ lv₀ 
 abbrev μ-loop : tie.MeasureT-loop
 μ-loop bytes root count work₀ blocks₀ rl₀ rv₀ ul₀ uv₀ ll₀ lv₀ leaves₀ now₀ i₀ work blocks rl rv ul uv ll lv leaves now i = count - i
 
--- src/tiles.rt:123:5
 loop-holds : tie.Need-loop-holds Inv-loop μ-loop
 loop-holds c = row-begins _ _ _ _ _ _ _ _ _ _ _ _ _ (c .before .before .before .before .before .before .before .before .before .pre .6)
 
--- src/tiles.rt:124:15
 tile-requires : tie.Need-tile-requires Inv-loop μ-loop
 tile-requires c κs = (c .before .before .before .before .before .before .before .before .before .before .before .before .before .before .before .before .before .before .before .before .pre .0, c .before .before .before .before .before .before .before .before .before .before .before .before .before .before .before .before .before .before .before .before .pre .1, omega (arith, c .before .before .before .before .before .before .before .before .before .loop-test .taken, c .before .before .before .before .before .before .before .before .before .before .before .before .before .before .before .before .before .before .before .before .pre .2), omega (arith, c .before .before .before .before .before .before .before .before .before .loop-test .taken, c .before .before .before .before .before .before .before .before .before .before .loop .inv .blocks-kept, c .before .before .before .before .before .before .before .before .before .before .loop .inv .links-kept, c .before .before .before .before .before .before .before .before .before .before .before .before .before .before .before .before .before .before .before .before .pre .3, c .before .before .before .before .before .before .before .before .before .before .before .before .before .before .before .before .before .before .before .before .pre .4), omega (arith, c .before .before .before .before .before .before .before .before .before .loop-test .taken, c .before .before .before .before .before .before .before .before .before .before .loop .inv .links-kept, c .before .before .before .before .before .before .before .before .before .before .before .before .before .before .before .before .before .before .before .before .pre .4), (c .before .before .before .before .before .before .before .before .before .before .loop .inv .values-kept ∙ c .before .before .before .before .before .before .before .before .before .before .before .before .before .before .before .before .before .before .before .before .pre .5 ∙ sym (c .before .before .before .before .before .before .before .before .before .before .loop .inv .links-kept)), c .before .before .before .before .before .before .before .before .before .before .loop .inv .fit)
 
--- src/tiles.rt:139:24
 enum-known-e : tie.Need-enum-known-e Inv-loop μ-loop
 enum-known-e c = search needs
 
--- src/tiles.rt:139:30
 same-length : tie.Need-same-length Inv-loop μ-loop
 same-length c = c .before .before .before .before .before .before .before .before .before .before .before .before .before .before .before .before .before .before .before .before .tile .kept .1 .1 .1 .1 .0 ∙ c .before .before .before .before .before .before .before .before .before .before .before .before .before .before .before .before .before .before .before .before .before .before .before .before .before .before .before .before .before .before .before .loop .inv .kept .work
 
--- src/tiles.rt:139:30
 same-length-2 : tie.Need-same-length-2 Inv-loop μ-loop
 same-length-2 c = c .before .before .before .before .before .before .before .before .before .before .before .before .before .before .before .before .before .before .before .before .tile .kept .1 .1 .1 .1 .1 .0 ∙ c .before .before .before .before .before .before .before .before .before .before .before .before .before .before .before .before .before .before .before .before .before .before .before .before .before .before .before .before .before .before .before .loop .inv .blocks-kept
 
--- src/tiles.rt:139:30
 same-length-3 : tie.Need-same-length-3 Inv-loop μ-loop
 same-length-3 c = c .before .before .before .before .before .before .before .before .before .before .before .before .before .before .before .before .before .before .before .before .tile .kept .1 .1 .1 .1 .1 .1 .0 ∙ c .before .before .before .before .before .before .before .before .before .before .before .before .before .before .before .before .before .before .before .before .before .before .before .before .before .before .before .before .before .before .before .loop .inv .links-kept
 
--- src/tiles.rt:139:30
 same-length-4 : tie.Need-same-length-4 Inv-loop μ-loop
 same-length-4 c = c .before .before .before .before .before .before .before .before .before .before .before .before .before .before .before .before .before .before .before .before .tile .kept .1 .1 .1 .1 .1 .1 .1 .0 ∙ c .before .before .before .before .before .before .before .before .before .before .before .before .before .before .before .before .before .before .before .before .before .before .before .before .before .before .before .before .before .before .before .loop .inv .values-kept
 
--- src/tiles.rt:139:30
 same-length-5 : tie.Need-same-length-5 Inv-loop μ-loop
 same-length-5 c = c .before .before .before .before .before .before .before .before .before .before .before .before .before .before .before .before .before .before .before .before .tile .kept .1 .1 .1 .1 .1 .1 .1 .1 .0 ∙ c .before .before .before .before .before .before .before .before .before .before .before .before .before .before .before .before .before .before .before .before .before .before .before .before .before .before .before .before .before .before .before .loop .inv .kept .upperLinks
 
--- src/tiles.rt:139:30
 same-length-6 : tie.Need-same-length-6 Inv-loop μ-loop
 same-length-6 c = c .before .before .before .before .before .before .before .before .before .before .before .before .before .before .before .before .before .before .before .before .tile .kept .1 .1 .1 .1 .1 .1 .1 .1 .1 .0 ∙ c .before .before .before .before .before .before .before .before .before .before .before .before .before .before .before .before .before .before .before .before .before .before .before .before .before .before .before .before .before .before .before .loop .inv .kept .upperValues
 
--- src/tiles.rt:139:30
 same-length-7 : tie.Need-same-length-7 Inv-loop μ-loop
 same-length-7 c = c .before .before .before .before .before .before .before .before .before .before .before .before .before .before .before .before .before .before .before .before .tile .kept .1 .1 .1 .1 .1 .1 .1 .1 .1 .1 .0 ∙ c .before .before .before .before .before .before .before .before .before .before .before .before .before .before .before .before .before .before .before .before .before .before .before .before .before .before .before .before .before .before .before .loop .inv .kept .lowerLinks
 
--- src/tiles.rt:139:30
 same-length-8 : tie.Need-same-length-8 Inv-loop μ-loop
 same-length-8 c = c .before .before .before .before .before .before .before .before .before .before .before .before .before .before .before .before .before .before .before .before .tile .kept .1 .1 .1 .1 .1 .1 .1 .1 .1 .1 .1 .0 ∙ c .before .before .before .before .before .before .before .before .before .before .before .before .before .before .before .before .before .before .before .before .before .before .before .before .before .before .before .before .before .before .before .loop .inv .kept .lowerValues
 
--- src/tiles.rt:139:30
 same-length-9 : tie.Need-same-length-9 Inv-loop μ-loop
 same-length-9 c = c .before .before .before .before .before .before .before .before .before .before .before .before .before .before .before .before .before .before .before .before .tile .kept .1 .1 .1 .1 .1 .1 .1 .1 .1 .1 .1 .1 .0 ∙ c .before .before .before .before .before .before .before .before .before .before .before .before .before .before .before .before .before .before .before .before .before .before .before .before .before .before .before .before .before .before .before .loop .inv .kept .leafValues
 
--- src/tiles.rt:139:30
 returns : tie.Need-returns Inv-loop μ-loop
 returns c = tiles-stop _ _ _ _ _ _ _ _ _ _ _ _ _ _ _ _ _ _ _ _ _ _ _ _ (c .before .before .before .before .before .before .before .before .before .before .before .before .before .before .before .before .before .before .before .before .before .before .before .before .before .before .before .before .before .before .before .loop .inv) _ _ _ _ _ _ _ _ _ _ (c .before .before .before .before .before .before .before .before .before .before .before .before .before .before .before .before .before .before .before .before .tile .ensures) _ (c .before .before .before .before .before .before .before .before .before .before .before .before .before .before .before .before .before .before .before .before .before .before .before .before .before .before .before .before .before .before .loop-test .taken) (c .before .e .given .1)
 
--- src/tiles.rt:140:24
 enum-known-s : tie.Need-enum-known-s Inv-loop μ-loop
 enum-known-s c = search needs
 
--- src/tiles.rt:142:9
 add-i : tie.Need-add-i Inv-loop μ-loop
 add-i c = omega (arith, c .before .before .before .before .before .before .before .before .before .before .before .before .before .before .before .before .before .before .before .before .before .before .before .before .before .before .before .before .before .before .loop-test .taken, c .before .before .before .before .before .before .before .before .before .before .before .before .before .before .before .before .before .before .before .before .before .before .before .before .before .before .before .before .before .before .before .before .before .before .before .before .before .before .before .before .before .pre .2)
 
--- src/tiles.rt:123:5
 loop-less : tie.Need-loop-less Inv-loop μ-loop
 loop-less c = omega arith
 
--- src/tiles.rt:123:5
 loop-again : tie.Need-loop-again Inv-loop μ-loop
 loop-again c = row-more _ _ _ _ _ _ _ _ _ _ _ _ _ _ _ _ _ _ _ _ _ _ _ _ (c .before .before .before .before .before .before .before .before .before .before .before .before .before .before .before .before .before .before .before .before .before .before .before .before .before .before .before .before .before .before .before .loop .inv) _ _ _ _ _ _ _ _ _ _ (c .before .before .before .before .before .before .before .before .before .before .before .before .before .before .before .before .before .before .before .before .tile .ensures) _ (c .before .before .before .before .before .before .before .before .before .before .before .before .before .before .before .before .before .before .before .before .before .before .before .before .before .before .before .before .before .before .loop-test .taken) (c .before .s .given .1) (record { work = c .before .before .before .before .before .before .before .before .before .before .before .before .before .before .before .before .before .before .before .before .tile .kept .1 .1 .1 .1 .0; upperLinks = c .before .before .before .before .before .before .before .before .before .before .before .before .before .before .before .before .before .before .before .before .tile .kept .1 .1 .1 .1 .1 .1 .1 .1 .0; upperValues = c .before .before .before .before .before .before .before .before .before .before .before .before .before .before .before .before .before .before .before .before .tile .kept .1 .1 .1 .1 .1 .1 .1 .1 .1 .0; lowerLinks = c .before .before .before .before .before .before .before .before .before .before .before .before .before .before .before .before .before .before .before .before .tile .kept .1 .1 .1 .1 .1 .1 .1 .1 .1 .1 .0; lowerValues = c .before .before .before .before .before .before .before .before .before .before .before .before .before .before .before .before .before .before .before .before .tile .kept .1 .1 .1 .1 .1 .1 .1 .1 .1 .1 .1 .0; leafValues = c .before .before .before .before .before .before .before .before .before .before .before .before .before .before .before .before .before .before .before .before .tile .kept .1 .1 .1 .1 .1 .1 .1 .1 .1 .1 .1 .1 .0 }) (c .before .before .before .before .before .before .before .before .before .before .before .before .before .before .before .before .before .before .before .before .tile .kept .1 .1 .1 .1 .1 .0) (c .before .before .before .before .before .before .before .before .before .before .before .before .before .before .before .before .before .before .before .before .tile .kept .1 .1 .1 .1 .1 .1 .0) (c .before .before .before .before .before .before .before .before .before .before .before .before .before .before .before .before .before .before .before .before .tile .kept .1 .1 .1 .1 .1 .1 .1 .0)
 
--- src/tiles.rt:103:1
 same-length-10 : tie.Need-same-length-10 Inv-loop μ-loop
 same-length-10 c = c .before .loop .inv .kept .work
 
--- src/tiles.rt:103:1
 same-length-11 : tie.Need-same-length-11 Inv-loop μ-loop
 same-length-11 c = c .before .loop .inv .blocks-kept
 
--- src/tiles.rt:103:1
 same-length-12 : tie.Need-same-length-12 Inv-loop μ-loop
 same-length-12 c = c .before .loop .inv .links-kept
 
--- src/tiles.rt:103:1
 same-length-13 : tie.Need-same-length-13 Inv-loop μ-loop
 same-length-13 c = c .before .loop .inv .values-kept
 
--- src/tiles.rt:103:1
 same-length-14 : tie.Need-same-length-14 Inv-loop μ-loop
 same-length-14 c = c .before .loop .inv .kept .upperLinks
 
--- src/tiles.rt:103:1
 same-length-15 : tie.Need-same-length-15 Inv-loop μ-loop
 same-length-15 c = c .before .loop .inv .kept .upperValues
 
--- src/tiles.rt:103:1
 same-length-16 : tie.Need-same-length-16 Inv-loop μ-loop
 same-length-16 c = c .before .loop .inv .kept .lowerLinks
 
--- src/tiles.rt:103:1
 same-length-17 : tie.Need-same-length-17 Inv-loop μ-loop
 same-length-17 c = c .before .loop .inv .kept .lowerValues
 
--- src/tiles.rt:103:1
 same-length-18 : tie.Need-same-length-18 Inv-loop μ-loop
 same-length-18 c = c .before .loop .inv .kept .leafValues
 
--- src/tiles.rt:103:1
 returns-2 : tie.Need-returns-2 Inv-loop μ-loop
 returns-2 c = tiles-end _ _ _ _ _ _ _ _ _ _ _ _ _ _ _ _ _ _ _ _ _ _ _ _ (c .before .loop .inv) (c .loop-test .left)
 

@@ -1,0 +1,2 @@
+-- Laws of the header.
+pub mod Faults

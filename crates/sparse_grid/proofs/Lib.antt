@@ -1,0 +1,7 @@
+pub mod Signs
+pub mod Lists
+pub mod Tests
+pub mod Steps
+pub mod Blocks
+pub mod Whole
+pub mod Nodes

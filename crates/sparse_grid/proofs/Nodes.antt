@@ -1,0 +1,110 @@
+-- A lookup, step by step: the root whose block fits, and the nodes below it.
+use Prim.Native.Nat.{ℕ, zero, suc, _+_, _-_, _*_, _/_, _%_, _≤_, _<_}
+use native.Mathlib.Omega.{arith}
+use mathlib.Core.Path.{_≡_, refl, sym, ap, _∙_}
+use mathlib.Core.Bool.{Bool, true, false, cond}
+use mathlib.Core.List.{List, []}
+use lib.IntN.{ℤ}
+use lib.Dec.{leb}
+use lib.ListN.{length}
+use lib.Ieee.{Float}
+use borrow.Author.Tests.{le-leb, lt-leb, eq-eqb, ne-eqb}
+use Rattle.refusals.specs.Results.{refused}
+use Rattle.layout.specs.Coordinates.{Coord, slot, sameBlock, blockOf}
+use Rattle.sparse_grid.specs.declared.Entry.{Entry}
+use Rattle.sparse_grid.specs.declared.Entry.the-variants.{Child, Tile}
+use Rattle.sparse_grid.specs.Tables.{Grid, entryAt}
+use Rattle.sparse_grid.specs.Validate.{pairFault}
+use Rattle.sparse_grid.specs.Lookup as found
+use Rattle.sparse_grid.specs.Lookup.{Found, lowerEntry, lowerAt, upperEntry, upperAt, rootEntry, rootsFrom, lookup}
+use Rattle.sparse_grid.specs.Answers.{valueOnly}
+use Rattle.sparse_grid.specs.Biased.{place, mod-8, mod-128, mod-4096}
+use Rattle.sparse_grid.specs.Inner.{rootBlock, entryFrom, nodesOf}
+
+-- ---- a node, by the n entries that its table must have
+
+pub missing : (n have : ℕ) (f : Found) → have < n → refused 11 ≡ valueOnly (cond (leb n have) f (found.refused 11))
+missing n have f h = ap (λ (t : Bool). valueOnly (cond t f (found.refused 11))) (sym (lt-leb n have h))
+
+pub present : (n have : ℕ) (f : Found) → n ≤ have → valueOnly f ≡ valueOnly (cond (leb n have) f (found.refused 11))
+present n have f h = ap (λ (t : Bool). valueOnly (cond t f (found.refused 11))) (sym (le-leb n have h))
+
+-- ---- where a voxel's slot stands in the table
+
+module _ (k x y z : ℕ) where
+  pub leaf-slot : 512 * k + ((x % 8 * 8 + y % 8) * 8 + z % 8) ≡ 512 * k + slot 8 1 (place x y z)
+  leaf-slot = rw (mod-8 x, mod-8 y, mod-8 z) (omega arith)
+
+  pub lower-slot : 4096 * k + ((x % 128 / 8 * 16 + y % 128 / 8) * 16 + z % 128 / 8) ≡ 4096 * k + slot 16 8 (place x y z)
+  lower-slot = rw (mod-128 x, mod-128 y, mod-128 z)
+
+  pub upper-slot : 32768 * k + ((x % 4096 / 128 * 32 + y % 4096 / 128) * 32 + z % 4096 / 128) ≡ 32768 * k + slot 32 128 (place x y z)
+  upper-slot = rw (mod-4096 x, mod-4096 y, mod-4096 z)
+
+-- ---- a node is read without what stands above it
+
+lower-entry-only : (g : Grid) (c : Coord) (e : Entry) → lowerEntry (nodesOf [] [] (g .lowerLinks) (g .lowerValues) (g .leafValues)) c e ≡ lowerEntry g c e
+lower-entry-only g c (Child j) = refl
+lower-entry-only g c (Tile v) = refl
+
+pub lower-only : (g : Grid) (k : ℕ) (c : Coord) → lowerAt (nodesOf [] [] (g .lowerLinks) (g .lowerValues) (g .leafValues)) k c ≡ lowerAt g k c
+lower-only g k c = ap (λ (f : Found). cond (leb (4096 * (k + 1)) (length (g .lowerLinks))) f (found.refused 11)) (lower-entry-only g c (entryAt (g .lowerLinks) (g .lowerValues) (4096 * k + slot 16 8 c)))
+
+upper-entry-only : (g : Grid) (c : Coord) (e : Entry) → upperEntry (nodesOf (g .upperLinks) (g .upperValues) (g .lowerLinks) (g .lowerValues) (g .leafValues)) c e ≡ upperEntry g c e
+upper-entry-only g c (Child j) = sym (lower-only (nodesOf (g .upperLinks) (g .upperValues) (g .lowerLinks) (g .lowerValues) (g .leafValues)) j c) ∙ lower-only g j c
+upper-entry-only g c (Tile v) = refl
+
+upper-only : (g : Grid) (k : ℕ) (c : Coord) → upperAt (nodesOf (g .upperLinks) (g .upperValues) (g .lowerLinks) (g .lowerValues) (g .leafValues)) k c ≡ upperAt g k c
+upper-only g k c = ap (λ (f : Found). cond (leb (32768 * (k + 1)) (length (g .upperLinks))) f (found.refused 11)) (upper-entry-only g c (entryAt (g .upperLinks) (g .upperValues) (32768 * k + slot 32 128 c)))
+
+pub root-only : (g : Grid) (c : Coord) (e : Entry) → rootEntry (nodesOf (g .upperLinks) (g .upperValues) (g .lowerLinks) (g .lowerValues) (g .leafValues)) c e ≡ rootEntry g c e
+root-only g c (Child k) = upper-only g k c
+root-only g c (Tile v) = refl
+
+-- ---- the roots from i on
+
+module _ (background : Float) (blocks : List ℤ) (links : List ℕ) (values : List Float) (b : Coord) where
+  pub hit : (n i : ℕ) → i < n → sameBlock (rootBlock blocks i) b ≡ true → entryFrom background blocks links values (n - i) i b ≡ entryAt links values i
+  unfolding entryFrom
+  hit n i l h =
+      let e : n - i ≡ suc (n - (i + 1)) = omega arith in
+      ap (λ (k : ℕ). entryFrom background blocks links values k i b) e
+      ∙ ap (λ (t : Bool). cond t (entryAt links values i) (entryFrom background blocks links values (n - (i + 1)) (i + 1) b)) h
+
+  pub miss : (n i : ℕ) → i < n → sameBlock (rootBlock blocks i) b ≡ false → entryFrom background blocks links values (n - i) i b ≡ entryFrom background blocks links values (n - (i + 1)) (i + 1) b
+  unfolding entryFrom
+  miss n i l h =
+      let e : n - i ≡ suc (n - (i + 1)) = omega arith in
+      ap (λ (k : ℕ). entryFrom background blocks links values k i b) e
+      ∙ ap (λ (t : Bool). cond t (entryAt links values i) (entryFrom background blocks links values (n - (i + 1)) (i + 1) b)) h
+
+  pub none : (n i : ℕ) → n ≤ i → entryFrom background blocks links values (n - i) i b ≡ Tile background
+  unfolding entryFrom
+  none n i l = let e : n - i ≡ 0 = omega arith in ap (λ (k : ℕ). entryFrom background blocks links values k i b) e
+
+-- the background is read as a tile is, but for its level
+pub by-entry : (g : Grid) (c : Coord) (n i : ℕ)
+    → valueOnly (rootEntry g c (entryFrom (g .background) (g .blocks) (g .rootLinks) (g .rootValues) n i (blockOf c))) ≡ valueOnly (rootsFrom g n i c)
+unfolding entryFrom rootsFrom
+by-entry g c zero i = refl
+by-entry g c (suc n) i = go (sameBlock (rootBlock (g .blocks) i) (blockOf c)) (by-entry g c n (i + 1))
+  where
+    go : (t : Bool)
+        → valueOnly (rootEntry g c (entryFrom (g .background) (g .blocks) (g .rootLinks) (g .rootValues) n (i + 1) (blockOf c))) ≡ valueOnly (rootsFrom g n (i + 1) c)
+        → valueOnly (rootEntry g c (cond t (entryAt (g .rootLinks) (g .rootValues) i) (entryFrom (g .background) (g .blocks) (g .rootLinks) (g .rootValues) n (i + 1) (blockOf c))))
+        ≡ valueOnly (cond t (rootEntry g c (entryAt (g .rootLinks) (g .rootValues) i)) (rootsFrom g n (i + 1) c))
+    go true e = refl
+    go false e = e
+
+-- ---- the whole lookup
+
+module _ (g : Grid) (c : Coord) where
+  pub unpaired : (pairFault g ≡ 0 → ⊥) → refused (pairFault g) ≡ valueOnly (lookup g c)
+  unfolding lookup
+  unpaired h = ap (λ (t : Bool). valueOnly (cond t (rootsFrom g (length (g .rootLinks)) 0 c) (found.refused (pairFault g)))) (sym (ne-eqb (pairFault g) 0 h))
+
+  pub by-root : pairFault g ≡ 0 → valueOnly (rootEntry g c (entryFrom (g .background) (g .blocks) (g .rootLinks) (g .rootValues) (length (g .rootLinks)) 0 (blockOf c))) ≡ valueOnly (lookup g c)
+  unfolding lookup
+  by-root h =
+      by-entry g c (length (g .rootLinks)) 0
+      ∙ ap (λ (t : Bool). valueOnly (cond t (rootsFrom g (length (g .rootLinks)) 0 c) (found.refused (pairFault g)))) (sym (eq-eqb (pairFault g) 0 h))

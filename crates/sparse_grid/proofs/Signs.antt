@@ -1,0 +1,111 @@
+-- How the code has a signed number: as its bits, which are compared and handed on.
+use Prim.Native.Nat.{ℕ, suc, _-_, _≤_, _<_}
+use mathlib.Core.Path.{_≡_, refl, sym, ap, _∙_, subst}
+use mathlib.Core.Bool.{Bool, true, false, cond, _&&_}
+use native.Mathlib.Omega.{arith}
+use native.Mathlib.Nat.{lt-of-lt-of-le, lt-of-le-of-lt}
+use lib.IntN.{ℤ, pos, negsuc, natAbs, _+ℤ_}
+use lib.Signed.{mag-shr, nonNeg, leZ, shrZ}
+use lib.Dec.{T, lit≤, leb→le, eqb}
+use borrow.Author.Tests.{eq-eqb, ne-eqb, eqb-true, le-ltb}
+use mir.Syntax.{w32, w64}
+use mir.Val.{Fits, SFits, toZ, ofZ}
+use mir.ValLaws.{toZ-ofZ}
+use Rattle.layout.specs.Coordinates.{eqZ}
+use Rattle.sparse_grid.specs.Validate.{blockIn}
+use Rattle.sparse_grid.specs.Biased.{back, lift}
+use Rattle.sparse_grid.specs.Inner.{raised}
+
+-- ---- equal bits are equal numbers
+
+pub eqZ-self : (z : ℤ) → eqZ z z ≡ true
+eqZ-self (pos n) = eq-eqb n n refl
+eqZ-self (negsuc n) = eq-eqb n n refl
+
+pub eqZ-true : (a b : ℤ) → eqZ a b ≡ true → a ≡ b
+eqZ-true (pos a) (pos b) e = ap pos (eqb-true a b e)
+eqZ-true (pos a) (negsuc b) e = absurd (subst T (sym e) tt)
+eqZ-true (negsuc a) (pos b) e = absurd (subst T (sym e) tt)
+eqZ-true (negsuc a) (negsuc b) e = ap negsuc (eqb-true a b e)
+
+module _ {a b : ℤ} (f : SFits w32 a) (g : SFits w32 b) where
+  same-bits : ofZ w32 a ≡ ofZ w32 b → a ≡ b
+  same-bits e = sym (toZ-ofZ w32 a f) ∙ ap (toZ w32) e ∙ toZ-ofZ w32 b g
+
+  pub eqb-bits : eqb (ofZ w32 a) (ofZ w32 b) ≡ eqZ a b
+  eqb-bits = go (eqZ a b) refl
+    where
+      go : (t : Bool) → eqZ a b ≡ t → eqb (ofZ w32 a) (ofZ w32 b) ≡ t
+      go true e = eq-eqb (ofZ w32 a) (ofZ w32 b) (ap (ofZ w32) (eqZ-true a b e))
+      go false e = ne-eqb (ofZ w32 a) (ofZ w32 b) (λ q. subst T (sym (eqZ-self a) ∙ ap (eqZ a) (same-bits q) ∙ e) tt)
+
+-- a number that fits is what a callee is handed
+pub seen : {z : ℤ} → SFits w32 z → toZ w32 (ofZ w32 z) ≡ z
+seen {z} f = toZ-ofZ w32 z f
+
+-- ---- a block in range, plus 2^19
+
+low : (k : ℕ) → leZ (negsuc 524287) (negsuc k) ≡ true → k ≤ 524287
+low k h = leb→le k 524287 (subst T (sym h) tt)
+
+high : (k : ℕ) → leZ (pos k) (pos 524287) ≡ true → k ≤ 524287
+high k h = leb→le k 524287 (subst T (sym h) tt)
+
+pub both : (a b : Bool) → (a && b) ≡ true → (a ≡ true) × (b ≡ true)
+both true b h = (refl, h)
+both false b h = absurd (subst T (sym h) tt)
+
+raise : (z : ℤ) → blockIn z ≡ true → (z +ℤ pos 524288 ≡ pos (raised z)) × (raised z < 1048576)
+raise (pos k) h = let l = high k (both true (leZ (pos k) (pos 524287)) h .1) in (ap pos (omega arith), omega arith)
+raise (negsuc k) h =
+    let l = low k (both (leZ (negsuc 524287) (negsuc k)) true h .0) in
+    (ap (λ (b : Bool). cond b (negsuc (suc k - suc 524288)) (pos (524288 - suc k))) (le-ltb 524288 (suc k) (omega arith)) ∙ ap pos (omega arith), omega arith)
+
+module _ (z : ℤ) (f : SFits w32 z) (h : blockIn z ≡ true) where
+  sum : toZ w32 (ofZ w32 z) +ℤ pos 524288 ≡ pos (raised z)
+  sum = ap (λ (k : ℤ). k +ℤ pos 524288) (seen f) ∙ raise z h .0
+
+  pub raised-fits : SFits w32 (toZ w32 (ofZ w32 z) +ℤ pos 524288)
+  raised-fits = subst (SFits w32) (sym sum) (record { sfits = lt-of-lt-of-le (raise z h .1) (lit≤ {m = 1048576} {n = 2147483648} tt) })
+
+  result : toZ w32 (ofZ w32 (toZ w32 (ofZ w32 z) +ℤ pos 524288)) ≡ pos (raised z)
+  result = seen raised-fits ∙ sum
+
+  pub raised-cast : T (nonNeg (toZ w32 (ofZ w32 (toZ w32 (ofZ w32 z) +ℤ pos 524288)))) × Fits w64 (natAbs (toZ w32 (ofZ w32 (toZ w32 (ofZ w32 z) +ℤ pos 524288))))
+  raised-cast = subst (λ (k : ℤ). T (nonNeg k) × Fits w64 (natAbs k)) (sym result) (tt, record { fits = lt-of-lt-of-le (raise z h .1) (lit≤ {m = 1048576} {n = 18446744073709551616} tt) })
+
+  pub is-raised : (natAbs (toZ w32 (ofZ w32 (toZ w32 (ofZ w32 z) +ℤ pos 524288))) ≡ raised z) × (natAbs (toZ w32 (ofZ w32 (toZ w32 (ofZ w32 z) +ℤ pos 524288))) < 1048576)
+  is-raised = subst (λ (k : ℤ). (natAbs k ≡ raised z) × (natAbs k < 1048576)) (sym result) (refl, raise z h .1)
+
+-- ---- a coordinate, shifted and biased
+
+pub shifted : {z : ℤ} → SFits w32 z → toZ w32 (ofZ w32 (shrZ (toZ w32 (ofZ w32 z)) 4096)) ≡ shrZ z 4096
+shifted {z} f =
+    ap (λ (k : ℤ). toZ w32 (ofZ w32 (shrZ k 4096))) (seen f)
+    ∙ toZ-ofZ w32 (shrZ z 4096) (record { sfits = lt-of-le-of-lt (mag-shr z 4096) (f .sfits) })
+
+pub shifted-on : {z r : ℤ} → SFits w32 z → r ≡ shrZ (toZ w32 (ofZ w32 z)) 4096 → toZ w32 (ofZ w32 r) ≡ shrZ z 4096
+shifted-on f e = ap (λ (k : ℤ). toZ w32 (ofZ w32 k)) e ∙ shifted f
+
+module _ (z : ℤ) (f : SFits w32 z) where
+  number : (n : ℕ) × (z ≡ back 2147483648 n) × (n < 4294967296) × (z +ℤ pos 2147483648 ≡ pos n)
+  number = lift z (f .sfits)
+
+  pub wide-fits : SFits w64 (toZ w32 (ofZ w32 z))
+  wide-fits = subst (SFits w64) (sym (seen f)) (record { sfits = lt-of-lt-of-le (f .sfits) (lit≤ {m = 2147483648} {n = 9223372036854775808} tt) })
+
+  wide-sum : toZ w64 (ofZ w64 (toZ w32 (ofZ w32 z))) +ℤ pos 2147483648 ≡ pos (number .0)
+  unfolding number
+  wide-sum = ap (λ (k : ℤ). k +ℤ pos 2147483648) (toZ-ofZ w64 (toZ w32 (ofZ w32 z)) wide-fits ∙ seen f) ∙ number .3
+
+  pub sum-fits : SFits w64 (toZ w64 (ofZ w64 (toZ w32 (ofZ w32 z))) +ℤ pos 2147483648)
+  sum-fits = subst (SFits w64) (sym wide-sum) (record { sfits = lt-of-lt-of-le (number .2) (lit≤ {m = 4294967296} {n = 9223372036854775808} tt) })
+
+  wide-result : toZ w64 (ofZ w64 (toZ w64 (ofZ w64 (toZ w32 (ofZ w32 z))) +ℤ pos 2147483648)) ≡ pos (number .0)
+  wide-result = toZ-ofZ w64 _ sum-fits ∙ wide-sum
+
+  pub biased-cast : T (nonNeg (toZ w64 (ofZ w64 (toZ w64 (ofZ w64 (toZ w32 (ofZ w32 z))) +ℤ pos 2147483648)))) × Fits w64 (natAbs (toZ w64 (ofZ w64 (toZ w64 (ofZ w64 (toZ w32 (ofZ w32 z))) +ℤ pos 2147483648))))
+  biased-cast = subst (λ (k : ℤ). T (nonNeg k) × Fits w64 (natAbs k)) (sym wide-result) (tt, record { fits = lt-of-lt-of-le (number .2) (lit≤ {m = 4294967296} {n = 18446744073709551616} tt) })
+
+  pub is-biased : z ≡ back 2147483648 (natAbs (toZ w64 (ofZ w64 (toZ w64 (ofZ w64 (toZ w32 (ofZ w32 z))) +ℤ pos 2147483648))))
+  is-biased = subst (λ (k : ℤ). z ≡ back 2147483648 (natAbs k)) (sym wide-result) (number .1)

@@ -1,0 +1,366 @@
+// The faults of records and tables: the number of the first one, and 0 for none.
+ghost use mathlib.Core.Path.{_≡_};
+ghost use Prim.Native.Nat.{_+_, _*_, _/_, _<_, _≤_};
+ghost use mathlib.Core.Bool.{true, _&&_};
+ghost use mathlib.Core.List.{[]};
+ghost use lib.ListN.{length};
+ghost use Rattle.float.specs.Zero.{+0};
+ghost use lib.Ieee.{eq};
+ghost use Rattle.layout.specs.Coordinates.{sameBlock};
+ghost use Rattle.sparse_grid.specs.Tables.{gridOf};
+ghost use Rattle.sparse_grid.specs.Validate.{valueFault, negative, entriesFault, valuesFault, negativesFault, blockIn, earlier, pairFault, shapeFault, densityFault};
+ghost use Rattle.sparse_grid.specs.Answers.{at};
+ghost use Rattle.sparse_grid.specs.Inner.{blockOfRoot, rootBlock, blocksOf, faultOf, raised, ranged, rank, rootOf, rootsFault, tablesFault, contentsFault, Has, Topped};
+use crate::Entry;
+use crate::Root;
+use crate::entry_at;
+use crate::root_at;
+use refusals::NEGATIVE;
+use refusals::NOT_FINITE;
+use refusals::RECORD;
+use refusals::TABLES;
+
+// Roots, entries and leaf values must be fewer.
+const LIMIT: usize = 4294967296;
+
+fn value_fault(v: f32) -> u32
+    ensures { λ r. ⌜ r ≡ valueFault v ⌝ }
+{
+    if float::is_finite(v) { 0 } else { NOT_FINITE }
+}
+
+// A zero of either sign, as may stand beside a child.
+fn is_zero(v: f32) -> bool
+    ensures { λ r. ⌜ r ≡ eq v +0 ⌝ }
+{
+    v == 0.0
+}
+
+// A child must be one of `count` nodes, with a zero beside it: the value is tested before the entry is made, which drops it.
+fn entry_fault(entry: Entry, clear: bool, count: usize) -> u32
+    ensures { λ r. ⌜ r ≡ faultOf count entry clear ⌝ }
+{
+    match entry {
+        Entry::Child(k) => {
+            if count <= k as usize {
+                return RECORD;
+            }
+            if clear { 0 } else { RECORD }
+        }
+        Entry::Tile(v) => value_fault(v),
+    }
+}
+
+// -0.0 is not negative.
+fn negative_fault(v: f32) -> u32
+    ensures { λ r. ⌜ r ≡ negative v ⌝ }
+{
+    if v < 0.0 { NEGATIVE } else { 0 }
+}
+
+// A block's number has 20 bits with its sign.
+fn number_in(b: i32) -> bool
+    ensures { λ r. ⌜ r ≡ blockIn b ⌝ }
+{
+    -524288 <= b && b <= 524287
+}
+
+fn in_range(root: Root) -> bool
+    ensures { λ r. ⌜ r ≡ ranged (blockOfRoot root) ⌝ }
+{
+    if !number_in(root.x) {
+        return false;
+    }
+    if !number_in(root.y) {
+        return false;
+    }
+    number_in(root.z)
+}
+
+// A block's number plus 2^19.
+fn lifted(b: i32) -> u64
+    requires { ⌜ blockIn b ≡ true ⌝ }
+    ensures { λ r. ⌜ (r ≡ raised b) × (r < 1048576) ⌝ }
+{
+    (b + 524288) as u64
+}
+
+// Whether a root's block is this one.
+pub(crate) fn is_block(root: Root, x: i32, y: i32, z: i32) -> bool
+    ensures { λ r. ⌜ r ≡ sameBlock (blockOfRoot root) (at x y z) ⌝ }
+{
+    if root.x != x {
+        return false;
+    }
+    if root.y != y {
+        return false;
+    }
+    root.z == z
+}
+
+// A number that rises with the blocks: by x, then y, then z.
+fn rank_of(root: Root) -> u64
+    requires { ⌜ ranged (blockOfRoot root) ≡ true ⌝ }
+    ensures { λ r. ⌜ (r ≡ rank (blockOfRoot root)) × (r < 1152921504606846976) ⌝ }
+{
+    let x = lifted(root.x);
+    let y = lifted(root.y);
+    let z = lifted(root.z);
+    (x * 1048576 + y) * 1048576 + z
+}
+
+// Whether a root before i has root i's block. Every rank before is below `top`: where `here`, its own, is not, the blocks rise and none is compared.
+fn repeated(
+    blocks: &[i32],
+    links: &[u32],
+    values: &[f32],
+    i: usize,
+    root: Root,
+    here: u64,
+    top: u64,
+) -> bool
+    requires { ⌜ Has (now blocks) (now links) (now values) i × (root ≡ rootOf (now blocks) (now links) (now values) i) × (here ≡ rank (blockOfRoot root)) × Topped (now blocks) i top ⌝ }
+    ensures { λ r. ⌜ r ≡ earlier (blocksOf (now (blocks .entry))) i (rootBlock (now (blocks .entry)) i) ⌝ }
+{
+    if top <= here {
+        return false;
+    }
+    let x = root.x;
+    let y = root.y;
+    let z = root.z;
+    let mut j = 0;
+    while j < i {
+        if is_block(root_at(blocks, links, values, j), x, y, z) {
+            return true;
+        }
+        j += 1;
+    }
+    false
+}
+
+fn above(top: u64, here: u64) -> u64
+    requires { ⌜ here < 1152921504606846976 ⌝ }
+    ensures { λ r. ⌜ (top ≤ r) × (here < r) ⌝ }
+{
+    if top <= here { here + 1 } else { top }
+}
+
+// Root by root: its block, then its entry.
+pub(crate) fn roots_fault(blocks: &[i32], links: &[u32], values: &[f32], uppers: usize) -> u32
+    requires { ⌜ (length (now blocks) ≡ 3 * length (now links)) × (length (now links) ≡ length (now values)) ⌝ }
+    ensures { λ r. ⌜ r ≡ rootsFault (now (blocks .entry)) (now (links .entry)) (now (values .entry)) uppers ⌝ }
+{
+    let mut top: u64 = 0;
+    let mut i = 0;
+    while i < links.len() {
+        let root = root_at(blocks, links, values, i);
+        if !in_range(root) {
+            return RECORD;
+        }
+        let here = rank_of(root);
+        if repeated(blocks, links, values, i, root, here, top) {
+            return RECORD;
+        }
+        let clear = is_zero(values[i]);
+        let entry = root.entry;
+        let fault = entry_fault(entry, clear, uppers);
+        if fault != 0 {
+            return fault;
+        }
+        top = above(top, here);
+        i += 1;
+    }
+    0
+}
+
+// Slot by slot, where the level below has `count` nodes.
+fn entries_fault(links: &[u32], values: &[f32], count: usize) -> u32
+    requires { ⌜ length (now links) ≡ length (now values) ⌝ }
+    ensures { λ r. ⌜ r ≡ entriesFault count (now (links .entry)) (now (values .entry)) ⌝ }
+{
+    let mut i = 0;
+    while i < links.len() {
+        let clear = is_zero(values[i]);
+        let fault = entry_fault(entry_at(links, values, i), clear, count);
+        if fault != 0 {
+            return fault;
+        }
+        i += 1;
+    }
+    0
+}
+
+fn values_fault(values: &[f32]) -> u32
+    ensures { λ r. ⌜ r ≡ valuesFault (now (values .entry)) ⌝ }
+{
+    let mut i = 0;
+    while i < values.len() {
+        let fault = value_fault(values[i]);
+        if fault != 0 {
+            return fault;
+        }
+        i += 1;
+    }
+    0
+}
+
+fn negatives_fault(values: &[f32]) -> u32
+    ensures { λ r. ⌜ r ≡ negativesFault (now (values .entry)) ⌝ }
+{
+    let mut i = 0;
+    while i < values.len() {
+        let fault = negative_fault(values[i]);
+        if fault != 0 {
+            return fault;
+        }
+        i += 1;
+    }
+    0
+}
+
+// Tables that must be as long as each other, and three numbers for each root's block.
+pub(crate) fn pair_fault(
+    blocks: &[i32],
+    root_links: &[u32],
+    root_values: &[f32],
+    upper_links: &[u32],
+    upper_values: &[f32],
+    lower_links: &[u32],
+    lower_values: &[f32],
+) -> u32
+    ensures { λ r. ⌜ r ≡ pairFault (gridOf +0 (now (blocks .entry)) (now («root_links» .entry)) (now («root_values» .entry)) (now («upper_links» .entry)) (now («upper_values» .entry)) (now («lower_links» .entry)) (now («lower_values» .entry)) []) ⌝ }
+{
+    if root_links.len() != root_values.len() {
+        return TABLES;
+    }
+    if blocks.len() % 3 != 0 {
+        return TABLES;
+    }
+    if blocks.len() / 3 != root_links.len() {
+        return TABLES;
+    }
+    if upper_links.len() != upper_values.len() {
+        return TABLES;
+    }
+    if lower_links.len() != lower_values.len() {
+        return TABLES;
+    }
+    0
+}
+
+// Node tables of whole nodes, and counts that fit a u32.
+fn shape_fault(
+    root_links: &[u32],
+    upper_links: &[u32],
+    lower_links: &[u32],
+    leaf_values: &[f32],
+) -> u32
+    ensures { λ r. ⌜ r ≡ shapeFault (gridOf +0 [] (now («root_links» .entry)) [] (now («upper_links» .entry)) [] (now («lower_links» .entry)) [] (now («leaf_values» .entry))) ⌝ }
+{
+    if upper_links.len() % 32768 != 0 {
+        return TABLES;
+    }
+    if lower_links.len() % 4096 != 0 {
+        return TABLES;
+    }
+    if leaf_values.len() % 512 != 0 {
+        return TABLES;
+    }
+    if root_links.len() >= LIMIT {
+        return TABLES;
+    }
+    if upper_links.len() >= LIMIT {
+        return TABLES;
+    }
+    if lower_links.len() >= LIMIT {
+        return TABLES;
+    }
+    if leaf_values.len() >= LIMIT {
+        return TABLES;
+    }
+    0
+}
+
+// The lengths of all tables.
+pub(crate) fn tables_fault(
+    blocks: &[i32],
+    root_links: &[u32],
+    root_values: &[f32],
+    upper_links: &[u32],
+    upper_values: &[f32],
+    lower_links: &[u32],
+    lower_values: &[f32],
+    leaf_values: &[f32],
+) -> u32
+    ensures { λ r. ⌜ r ≡ tablesFault (gridOf +0 (now (blocks .entry)) (now («root_links» .entry)) (now («root_values» .entry)) (now («upper_links» .entry)) (now («upper_values» .entry)) (now («lower_links» .entry)) (now («lower_values» .entry)) (now («leaf_values» .entry))) ⌝ }
+{
+    let pairs = pair_fault(
+        blocks,
+        root_links,
+        root_values,
+        upper_links,
+        upper_values,
+        lower_links,
+        lower_values,
+    );
+    if pairs != 0 {
+        return pairs;
+    }
+    shape_fault(root_links, upper_links, lower_links, leaf_values)
+}
+
+// What stands below the roots, and the background: upper entries, lower entries, background, leaves.
+pub(crate) fn contents_fault(
+    background: f32,
+    upper_links: &[u32],
+    upper_values: &[f32],
+    lower_links: &[u32],
+    lower_values: &[f32],
+    leaf_values: &[f32],
+) -> u32
+    requires { ⌜ (length (now «upper_links») ≡ length (now «upper_values»)) × (length (now «lower_links») ≡ length (now «lower_values»)) ⌝ }
+    ensures { λ r. ⌜ r ≡ contentsFault (gridOf background [] [] [] (now («upper_links» .entry)) (now («upper_values» .entry)) (now («lower_links» .entry)) (now («lower_values» .entry)) (now («leaf_values» .entry))) ⌝ }
+{
+    let upper = entries_fault(upper_links, upper_values, lower_links.len() / 4096);
+    if upper != 0 {
+        return upper;
+    }
+    let lower = entries_fault(lower_links, lower_values, leaf_values.len() / 512);
+    if lower != 0 {
+        return lower;
+    }
+    let outside = value_fault(background);
+    if outside != 0 {
+        return outside;
+    }
+    values_fault(leaf_values)
+}
+
+// The background, and every value beside it in a table, also beside a child.
+pub(crate) fn density_fault(
+    background: f32,
+    root_values: &[f32],
+    upper_values: &[f32],
+    lower_values: &[f32],
+    leaf_values: &[f32],
+) -> u32
+    ensures { λ r. ⌜ r ≡ densityFault (gridOf background [] [] (now («root_values» .entry)) [] (now («upper_values» .entry)) [] (now («lower_values» .entry)) (now («leaf_values» .entry))) ⌝ }
+{
+    let outside = negative_fault(background);
+    if outside != 0 {
+        return outside;
+    }
+    let roots = negatives_fault(root_values);
+    if roots != 0 {
+        return roots;
+    }
+    let upper = negatives_fault(upper_values);
+    if upper != 0 {
+        return upper;
+    }
+    let lower = negatives_fault(lower_values);
+    if lower != 0 {
+        return lower;
+    }
+    negatives_fault(leaf_values)
+}

@@ -1,0 +1,149 @@
+// A lookup: the root whose block a coordinate lies in, and the nodes below it.
+ghost use mathlib.Core.Path.{_≡_};
+ghost use Prim.Native.Nat.{_*_};
+ghost use mathlib.Core.List.{[]};
+ghost use lib.ListN.{length};
+ghost use lib.Signed.{shrZ};
+ghost use Rattle.layout.specs.Coordinates.{blockOf};
+ghost use Rattle.sparse_grid.specs.Lookup.{leafAt, lowerAt, upperAt, rootEntry};
+ghost use Rattle.sparse_grid.specs.Answers.{answer, valueOnly, at};
+ghost use Rattle.sparse_grid.specs.Biased.{back};
+ghost use Rattle.sparse_grid.specs.Inner.{entryFrom, nodesOf, placed};
+use crate::Answer;
+use crate::Entry;
+use crate::entry_at;
+use crate::faults::is_block;
+use crate::root_at;
+use refusals::RECORD;
+
+// A coordinate plus 2^31 on each axis, so that its slots are plain remainders.
+pub struct Place {
+    pub x: usize,
+    pub y: usize,
+    pub z: usize,
+}
+
+// The block that a coordinate lies in, of 4,096 coordinates: rounded down, below zero too.
+fn block_of(c: i32) -> i32
+    ensures { λ r. ⌜ r ≡ shrZ c 4096 ⌝ }
+{
+    c >> 12
+}
+
+fn biased(c: i32) -> usize
+    ensures { λ r. ⌜ c ≡ back 2147483648 r ⌝ }
+{
+    (c as i64 + 2147483648) as usize
+}
+
+pub(crate) fn place_of(x: i32, y: i32, z: i32) -> Place
+    ensures { λ r. ⌜ placed r ≡ at x y z ⌝ }
+{
+    let a = biased(x);
+    let b = biased(y);
+    let c = biased(z);
+    Place { x: a, y: b, z: c }
+}
+
+// The entry of the first root whose block the coordinate lies in. The background stands for one where there is none.
+pub(crate) fn root_entry(
+    background: f32,
+    blocks: &[i32],
+    links: &[u32],
+    values: &[f32],
+    x: i32,
+    y: i32,
+    z: i32,
+) -> Entry
+    requires { ⌜ (length (now blocks) ≡ 3 * length (now links)) × (length (now links) ≡ length (now values)) ⌝ }
+    ensures { λ r. ⌜ r ≡ entryFrom background (now (blocks .entry)) (now (links .entry)) (now (values .entry)) (length (now (links .entry))) 0 (blockOf (at x y z)) ⌝ }
+{
+    let a = block_of(x);
+    let b = block_of(y);
+    let c = block_of(z);
+    let mut i = 0;
+    while i < links.len() {
+        let root = root_at(blocks, links, values, i);
+        if is_block(root, a, b, c) {
+            return root.entry;
+        }
+        i += 1;
+    }
+    Entry::Tile(background)
+}
+
+fn leaf_at(leaf_values: &[f32], k: u32, place: Place) -> Answer
+    ensures { λ r. ⌜ answer r ≡ valueOnly (leafAt (nodesOf [] [] [] [] (now («leaf_values» .entry))) k (placed place)) ⌝ }
+{
+    let start = 512 * k as usize;
+    if leaf_values.len() < start + 512 {
+        return Answer::Refused(RECORD);
+    }
+    let slot = (place.x % 8 * 8 + place.y % 8) * 8 + place.z % 8;
+    Answer::Value(leaf_values[start + slot])
+}
+
+fn lower_at(links: &[u32], values: &[f32], leaf_values: &[f32], k: u32, place: Place) -> Answer
+    requires { ⌜ length (now links) ≡ length (now values) ⌝ }
+    ensures { λ r. ⌜ answer r ≡ valueOnly (lowerAt (nodesOf [] [] (now (links .entry)) (now (values .entry)) (now («leaf_values» .entry))) k (placed place)) ⌝ }
+{
+    let start = 4096 * k as usize;
+    if links.len() < start + 4096 {
+        return Answer::Refused(RECORD);
+    }
+    let slot = (place.x % 128 / 8 * 16 + place.y % 128 / 8) * 16 + place.z % 128 / 8;
+    match entry_at(links, values, start + slot) {
+        Entry::Child(j) => leaf_at(leaf_values, j, place),
+        Entry::Tile(v) => Answer::Value(v),
+    }
+}
+
+fn upper_at(
+    links: &[u32],
+    values: &[f32],
+    lower_links: &[u32],
+    lower_values: &[f32],
+    leaf_values: &[f32],
+    k: u32,
+    place: Place,
+) -> Answer
+    requires { ⌜ (length (now links) ≡ length (now values)) × (length (now «lower_links») ≡ length (now «lower_values»)) ⌝ }
+    ensures { λ r. ⌜ answer r ≡ valueOnly (upperAt (nodesOf (now (links .entry)) (now (values .entry)) (now («lower_links» .entry)) (now («lower_values» .entry)) (now («leaf_values» .entry))) k (placed place)) ⌝ }
+{
+    let start = 32768 * k as usize;
+    if links.len() < start + 32768 {
+        return Answer::Refused(RECORD);
+    }
+    let slot = (place.x % 4096 / 128 * 32 + place.y % 4096 / 128) * 32 + place.z % 4096 / 128;
+    match entry_at(links, values, start + slot) {
+        Entry::Child(j) => lower_at(lower_links, lower_values, leaf_values, j, place),
+        Entry::Tile(v) => Answer::Value(v),
+    }
+}
+
+// What stands at a place below a root's entry.
+pub(crate) fn below(
+    entry: Entry,
+    upper_links: &[u32],
+    upper_values: &[f32],
+    lower_links: &[u32],
+    lower_values: &[f32],
+    leaf_values: &[f32],
+    place: Place,
+) -> Answer
+    requires { ⌜ (length (now «upper_links») ≡ length (now «upper_values»)) × (length (now «lower_links») ≡ length (now «lower_values»)) ⌝ }
+    ensures { λ r. ⌜ answer r ≡ valueOnly (rootEntry (nodesOf (now («upper_links» .entry)) (now («upper_values» .entry)) (now («lower_links» .entry)) (now («lower_values» .entry)) (now («leaf_values» .entry))) (placed place) entry) ⌝ }
+{
+    match entry {
+        Entry::Child(k) => upper_at(
+            upper_links,
+            upper_values,
+            lower_links,
+            lower_values,
+            leaf_values,
+            k,
+            place,
+        ),
+        Entry::Tile(v) => Answer::Value(v),
+    }
+}
