@@ -2,3 +2,10 @@ pub mod Boxes
 pub mod Index
 pub mod Cells
 pub mod Build
+pub mod Offsets
+pub mod Maximum
+pub mod Corners
+pub mod Enclosed
+pub mod Middle
+pub mod Bounded
+pub mod Examples

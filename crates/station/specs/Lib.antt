@@ -1,1 +1,3 @@
 pub mod Claim
+pub mod Points
+pub mod Theorem

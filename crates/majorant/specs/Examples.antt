@@ -1,0 +1,71 @@
+-- Controls of part 3: a build that is accepted, so that nothing here holds for want of one; a cell whose figure is refused by 17; a point on a shared face.
+use mathlib.Core.Path.{_≡_, refl}
+use mathlib.Core.List.{[], _∷_}
+use Prim.Native.Nat.{ℕ}
+use mathlib.Core.Bool.{true, false}
+use lib.IntN.{ℤ, pos, negsuc}
+use lib.Ieee.{Float, fin, add, sub, mul, div, lt, le, eq, ofInt, toSigned, ofBits, binary32}
+use Rattle.float.specs.Fused as F
+use Rattle.medium.specs.Medium.{xAxis}
+use Rattle.layout.specs.Coordinates.{Coord}
+use Rattle.sparse_grid.specs.Tables.{Grid}
+use Rattle.sparse_grid.specs.Validate.{validate, densityFault}
+use Rattle.sparse_grid.specs.Lookup.{lookup}
+use Rattle.medium.specs.Medium.{Point, Medium, boundsFault, indexFault, mapFault}
+use Rattle.majorant.specs.Cells.{Cells, corner, figure, figures, firstEnds, secondEnds}
+use Rattle.majorant.specs.Index.{worldToIndex, majorantIndex}
+use Rattle.majorant.specs.Boxes.{boxMaximum}
+use Rattle.majorant.specs.Build.{build}
+use Rattle.float.specs.Zero.{+0}
+use Rattle.float.specs.Coordinate.{coordinate}
+use Rattle.refusals.specs.Results.{ok, refused}
+
+abbrev whole : ℕ → Float
+whole n = fin false n (pos 0)
+
+abbrev half : Float
+half = fin false 1 (negsuc 0)
+
+abbrev at : Float → Point
+at v = record { x = v; y = v; z = v }
+
+abbrev here : ℤ → Coord
+here v = record { x = v; y = v; z = v }
+
+-- no roots, background 1 / 2
+abbrev smoke : Grid
+smoke = record { background = half; blocks = []; rootLinks = []; rootValues = []; upperLinks = []; upperValues = []; lowerLinks = []; lowerValues = []; leafValues = [] }
+
+abbrev box : Medium
+box = record { low = at +0; high = at (whole 1); indexLow = here (pos 0); indexHigh = here (pos 3); map = whole 1 ∷ +0 ∷ +0 ∷ +0 ∷ whole 1 ∷ +0 ∷ +0 ∷ +0 ∷ whole 1 ∷ []; translation = at +0 }
+
+two : Cells
+two = record { x = 2; y = 1; z = 1 }
+
+accepted : build smoke box two ≡ ok (half ∷ half ∷ [])
+unfolding build two validate densityFault boundsFault indexFault mapFault figures figure firstEnds secondEnds coordinate majorantIndex worldToIndex corner boxMaximum lookup F.trunc F.floor F.fma F.plus F.narrow add sub mul div lt le eq ofInt toSigned
+accepted = refl
+
+-- an index box that the cells miss: the first box is empty, the second is not
+abbrev aside : Medium
+aside = record { low = at +0; high = at (whole 1); indexLow = here (pos 5); indexHigh = here (pos 7); map = box .map; translation = at +0 }
+
+missed : build smoke aside two ≡ refused 17
+unfolding build two validate densityFault boundsFault indexFault mapFault figures figure firstEnds secondEnds coordinate majorantIndex worldToIndex corner boxMaximum lookup F.trunc F.floor F.fma F.plus F.narrow add sub mul div lt le eq ofInt toSigned
+missed = refl
+
+-- a zero width
+abbrev flat : Medium
+flat = record { low = at +0; high = at +0; indexLow = here (pos 0); indexHigh = here (pos 3); map = box .map; translation = at +0 }
+
+no-width : build smoke flat two ≡ refused 4
+unfolding build two validate densityFault boundsFault indexFault mapFault figures figure firstEnds secondEnds coordinate majorantIndex worldToIndex corner boxMaximum lookup F.trunc F.floor F.fma F.plus F.narrow add sub mul div lt le eq ofInt toSigned
+no-width = refl
+
+-- a thin world box: corner 63 lies below corner 62, so corners do not rise with k, and cell 62 encloses nothing
+abbrev thin : Medium
+thin = record { low = at (ofBits binary32 1068668056); high = at (ofBits binary32 1068668065); indexLow = here (pos 0); indexHigh = here (pos 3); map = box .map; translation = at +0 }
+
+swapped : lt (corner thin xAxis 64 63) (corner thin xAxis 64 62) ≡ true
+unfolding corner add sub mul div lt ofInt ofBits
+swapped = refl
