@@ -1,4 +1,4 @@
--- The figure of a cell that encloses a point is no smaller than any of the eight voxels around the point (demand 3, the second half of part 3). Assumes nothing.
+-- The figure of a cell that encloses a point is no smaller than any of the eight voxels around the point. Assumes nothing.
 use mathlib.Core.Path.{_≡_, sym, ap, _∙_, subst}
 use mathlib.Core.Logic.{_⊎_, inl, inr}
 use mathlib.Core.List.{List, [], _∷_, _++_}
@@ -160,6 +160,6 @@ built g m n l e =
     let f = figures-at (boxMaximum (readIn g)) m n (n .x * n .y * n .z) l (p .1) in
     record { bounds = each-none (boundsFault m) (b .0); scale = scaled m (then-zero (each (indexFault m)) (mapFault m) (b .1) .1); size = f .0; figure = f .1 }
 
--- (3b)
+-- of a table that was built
 pub bounded : (g : Grid) (m : Medium) (n : Cells) (l : List Float) → build g m n ≡ ok l → (p : Point) (k : ℕ) → k < n .x * n .y * n .z → EnclosesIn m n k p → (c : Coord) → AroundIn m p c → Signed32 c × (lt (getD l k +0) (readIn g c) ≡ false)
 bounded g m n l e p k h i c r = let b = built g m n l e in figure-bounds (readIn g) m n k (getD l k +0) (b .scale) (b .figure k h) p i c r

@@ -23,7 +23,7 @@ corner-first m a n N h p q = subst (λ (x : Float). Same x (onPoint a (m .low)))
 pub corner-last : (m : Medium) (a : Axis) (n : ℕ) → 0 < n → n ≤ 2 ^ 24 → Held binary32 (onPoint a (m .low)) → Held binary32 (onPoint a (m .high)) → Same (corner m a n n) (onPoint a (m .high))
 corner-last m a n N h p q = subst (λ (x : Float). Same x (onPoint a (m .high))) (sym (corner-is m a n n N h (le-refl n) ∙ ap (λ (t : Float). blend binary32 t (onPoint a (m .low)) (onPoint a (m .high))) (part-last binary32 n N))) (blend-last binary32 (onPoint a (m .low)) (onPoint a (m .high)) p q)
 
--- (3a) on one axis
+-- some cell of one axis encloses each number between the ends
 pub on-axis : (m : Medium) (a : Axis) (n : ℕ) → 0 < n → n ≤ 2 ^ 24 → Held binary32 (onPoint a (m .low)) → Held binary32 (onPoint a (m .high)) → (v : Float) → T (le (onPoint a (m .low)) v) → T (le v (onPoint a (m .high)))
     → (k : ℕ) × (k < n) × T (le (corner m a n k) v) × T (le v (corner m a n (suc k)))
 on-axis m a zero N h p q v x y = absurd (lt-irrefl 0 N)

@@ -1,4 +1,4 @@
--- Every point of the world box lies in a cell (demand 3, the first half of part 3), for 1 to 2 ^ 24 cells on each axis. Assumes nothing.
+-- Every point of the world box lies in a cell, for 1 to 2 ^ 24 cells on each axis. Assumes nothing.
 use mathlib.Core.Path.{_≡_, sym, ap, _∙_, subst}
 use Prim.Native.Nat.{ℕ, suc, _+_, _*_, _/_, _%_, _^_, _≤_, _<_}
 use native.Mathlib.Nat.{mul-comm, mul-assoc, mul-left-comm, le-trans, le-of-eq, div-div-eq-div-mul}
@@ -55,7 +55,7 @@ module _ (n : Cells) (x y z : ℕ) (X : x < n .x) (Y : y < n .y) (Z : z < n .z) 
       turn : (x y z : ℕ) → z * y * x ≡ x * y * z
       turn x y z = simp (mul-assoc, mul-comm, mul-left-comm)
 
--- (3a)
+-- some cell encloses each point of the world box
 pub enclosed : (m : Medium) (n : Cells) → Numbered n → Fitting m → ((a : Axis) → boundsFault m a ≡ 0) → (p : Point) → Between (m .low) (m .high) p → (k : ℕ) × (k < n .x * n .y * n .z) × EnclosesIn m n k p
 enclosed m n c f e p h =
     let (x, X, xl, xh) = on xAxis in

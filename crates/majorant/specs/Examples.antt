@@ -1,4 +1,4 @@
--- Controls of part 3: a build that is accepted, so that nothing here holds for want of one; a cell whose figure is refused by 17; a point on a shared face.
+-- The build on small examples: one that is accepted, one that is refused by 17, one by 4, and a thin world box whose corners rounding swaps. Each is computed.
 use mathlib.Core.Path.{_≡_, refl}
 use mathlib.Core.List.{[], _∷_}
 use Prim.Native.Nat.{ℕ}

@@ -5,3 +5,4 @@ pub mod Steps
 pub mod Blocks
 pub mod Whole
 pub mod Nodes
+pub mod Rising

@@ -45,7 +45,7 @@ seen {z} f = toZ-ofZ w32 z f
 
 -- ---- a block in range, plus 2^19
 
-low : (k : ℕ) → leZ (negsuc 524287) (negsuc k) ≡ true → k ≤ 524287
+pub low : (k : ℕ) → leZ (negsuc 524287) (negsuc k) ≡ true → k ≤ 524287
 low k h = leb→le k 524287 (subst T (sym h) tt)
 
 high : (k : ℕ) → leZ (pos k) (pos 524287) ≡ true → k ≤ 524287
@@ -55,7 +55,7 @@ pub both : (a b : Bool) → (a && b) ≡ true → (a ≡ true) × (b ≡ true)
 both true b h = (refl, h)
 both false b h = absurd (subst T (sym h) tt)
 
-raise : (z : ℤ) → blockIn z ≡ true → (z +ℤ pos 524288 ≡ pos (raised z)) × (raised z < 1048576)
+pub raise : (z : ℤ) → blockIn z ≡ true → (z +ℤ pos 524288 ≡ pos (raised z)) × (raised z < 1048576)
 raise (pos k) h = let l = high k (both true (leZ (pos k) (pos 524287)) h .1) in (ap pos (omega arith), omega arith)
 raise (negsuc k) h =
     let l = low k (both (leZ (negsuc 524287) (negsuc k)) true h .0) in

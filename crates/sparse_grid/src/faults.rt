@@ -153,6 +153,7 @@ pub(crate) fn roots_fault(blocks: &[i32], links: &[u32], values: &[f32], uppers:
     let mut top: u64 = 0;
     let mut i = 0;
     while i < links.len() {
+        let clear = is_zero(values[i]);
         let root = root_at(blocks, links, values, i);
         if !in_range(root) {
             return RECORD;
@@ -161,7 +162,6 @@ pub(crate) fn roots_fault(blocks: &[i32], links: &[u32], values: &[f32], uppers:
         if repeated(blocks, links, values, i, root, here, top) {
             return RECORD;
         }
-        let clear = is_zero(values[i]);
         let entry = root.entry;
         let fault = entry_fault(entry, clear, uppers);
         if fault != 0 {

@@ -1,4 +1,4 @@
--- Part 3 of demand 3 as `Demand3` states it: of an accepted grid whose lookups read what the walk reads, the built figures bound the voxels around every point. Assumes nothing.
+-- The second and the third part of the one claim, of an accepted grid whose lookups read what the walk reads. Assumes nothing.
 use mathlib.Core.Path.{_≡_, sym, ap, _∙_, subst}
 use mathlib.Core.List.{List}
 use Prim.Native.Nat.{ℕ, _+_, _^_}
@@ -98,6 +98,6 @@ maxima b q t d same x l h = (
   greatest (voxel b) x,
 )
 
--- all that is left of demand 3 is that a lookup reads what the walk reads
+-- all that is left of the claim is that a lookup reads what the walk reads
 pub holds : (b : List ℕ) (q : Places) (t : Accepted) → decodeDensity b q ≡ ok t → ((c : Coord) → Signed32 c → ReadsAs b c (lookup (t .grid) c)) → ((c : Coord) → Signed32 c → readIn (t .grid) c ≡ voxel b c) → Holds b t
 holds b q t d reads same = record { lookups = reads; maxima = maxima b q t d same; figures = points b q t d same }

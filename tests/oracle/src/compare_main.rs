@@ -1,0 +1,365 @@
+//! `compare`: the proved library beside the Rust modules, answer for answer, on generated cases.
+
+use oracle::generate::bench::Due;
+use oracle::generate::{self, Case};
+use oracle::loader::{decode_into, Answer, Grid, Held, Lengths, Loader, Rust, CELLS};
+use oracle::random::Random;
+use oracle::walk::{self, Places};
+use oracle::{samples, spoil};
+use std::collections::BTreeMap;
+use std::process::exit;
+
+const USAGE: &str = "usage: compare SEED COUNT [BUILD-EVERY] [FIRST]
+Every BUILD-EVERY-th accepted grid is built (default 16; 0: none).
+FIRST is the number of the first case (default 0).";
+
+/// How many differences are written out.
+const SHOWN: usize = 20;
+
+#[cfg(linked)]
+const OURS: &dyn Loader = &oracle::linked::Linked;
+#[cfg(not(linked))]
+const OURS: &dyn Loader = &Rust;
+
+#[derive(Default)]
+struct Kind {
+    compared: u64,
+    differ: u64,
+    /// By the number that the Rust gives.
+    numbers: BTreeMap<u32, u64>,
+}
+
+#[derive(Default)]
+struct Tally {
+    kinds: BTreeMap<&'static str, Kind>,
+    shown: usize,
+    case: String,
+}
+
+impl Tally {
+    /// One answer, with what differs in it.
+    fn count(&mut self, kind: &'static str, number: u32, difference: Option<String>) {
+        let tally = self.kinds.entry(kind).or_default();
+        tally.compared += 1;
+        *tally.numbers.entry(number).or_default() += 1;
+        let Some(difference) = difference else { return };
+        tally.differ += 1;
+        self.shown += 1;
+        if self.shown <= SHOWN {
+            println!("differs: {}: {kind}: {difference}", self.case);
+        }
+    }
+
+    fn print(&self) -> bool {
+        println!("{:28} {:>9} {:>8}  numbers", "answers", "compared", "differ");
+        for (name, kind) in &self.kinds {
+            let numbers: Vec<String> =
+                kind.numbers.iter().map(|(number, count)| format!("{number}:{count}")).collect();
+            println!("{name:28} {:9} {:8}  {}", kind.compared, kind.differ, numbers.join(" "));
+        }
+        let compared: u64 = self.kinds.values().map(|kind| kind.compared).sum();
+        let differ: u64 = self.kinds.values().map(|kind| kind.differ).sum();
+        println!("{compared} answers, {differ} differ");
+        differ == 0
+    }
+}
+
+fn main() {
+    let arguments: Vec<u64> =
+        std::env::args().skip(1).map(|word| word.parse().unwrap_or_else(|_| usage())).collect();
+    let (seed, count, every, first) = match arguments[..] {
+        [seed, count] => (seed, count, 16, 0),
+        [seed, count, every] => (seed, count, every, 0),
+        [seed, count, every, first] => (seed, count, every, first),
+        _ => usage(),
+    };
+    if cfg!(not(linked)) {
+        println!("no library was linked: the Rust beside itself");
+    }
+    let mut tally = Tally::default();
+    let mut accepted = 0;
+    for number in first..first + count {
+        let case = generate::case(seed, number);
+        tally.case = format!("case {seed} {number} ({})", case.name);
+        run(&mut tally, &case, &mut Random::new(!seed, number), &mut accepted, every);
+    }
+    for due in generate::bench::bench() {
+        tally.case = due.case.name.clone();
+        compare_due(&mut tally, &due);
+        run(&mut tally, &due.case, &mut Random::new(seed, 0), &mut accepted, 1);
+    }
+    tally.case = "grid of zeros".to_string();
+    long_grids(&mut tally);
+    println!("{count} cases, seed {seed}, {accepted} accepted");
+    exit(if tally.print() { 0 } else { 1 });
+}
+
+fn usage() -> ! {
+    eprintln!("{USAGE}");
+    exit(2)
+}
+
+fn run(tally: &mut Tally, case: &Case, random: &mut Random, accepted: &mut u64, every: u64) {
+    let (stop, places) = walk::reach(&case.bytes, walk::ROOMY);
+    let exact = Lengths::of(places);
+    let (number, held) = compare_decode(tally, "decode, exact tables", &case.bytes, exact);
+    let odd = !walk::agrees(number, stop);
+    tally.count("walk of the bytes", number, odd.then(|| format!("Rust {number}, walk {stop}")));
+    compare_decode(tally, "decode, one short", &case.bytes, one_short(random, places));
+    compare_decode(tally, "decode, roomy tables", &case.bytes, roomy(random, exact));
+    if random.percent(10) {
+        compare_decode(tally, "decode, unpaired tables", &case.bytes, unpaired(random, exact));
+    }
+    if number != 0 {
+        return;
+    }
+    *accepted += 1;
+    let grid = held.grid();
+    let build = every != 0 && *accepted % every == 0 && case.builds;
+    compare_grid(tally, &grid, case, random, build);
+    if random.percent(40) {
+        compare_spoiled(tally, &grid, case, random);
+    }
+    if build {
+        compare_spoiled_record(tally, &grid, random);
+    }
+}
+
+/// The Rust gives the numbers that are due.
+fn compare_due(tally: &mut Tally, due: &Due) {
+    let (_, places) = walk::reach(&due.case.bytes, walk::ROOMY);
+    let (decode, held) = decode_into(&Rust, &due.case.bytes, Lengths::of(places));
+    let mut numbers = (decode, 0);
+    if decode == 0 {
+        let (grid, mut figures) = (held.grid(), vec![0.0; CELLS]);
+        numbers.1 = Rust.build_majorant(grid.tables(), &grid.medium, &grid.corners, &mut figures);
+    }
+    let differs = numbers != (due.decode, due.build);
+    let difference =
+        differs.then(|| format!("due {:?}, Rust {numbers:?}", (due.decode, due.build)));
+    tally.count("bench list: numbers due", decode, difference);
+}
+
+/// Places for all but one thing: a root, a node or a span, by a whole place or by one word.
+fn one_short(random: &mut Random, places: Places) -> Lengths {
+    let mut lengths = Lengths::of(places);
+    let whole = random.percent(50);
+    let less = |length: usize, place: usize| length.saturating_sub(if whole { place } else { 1 });
+    match random.below(5) {
+        0 if places.roots > 0 => {
+            lengths = Lengths::of(Places { roots: places.roots - 1, ..places })
+        }
+        1 | 0 if places.nodes[2] > 0 => {
+            lengths.upper_links = less(lengths.upper_links, walk::entries(2));
+            lengths.upper_values = lengths.upper_links;
+        }
+        2 if places.nodes[1] > 0 => {
+            lengths.lower_links = less(lengths.lower_links, walk::entries(1));
+            lengths.lower_values = lengths.lower_links;
+        }
+        3 if places.nodes[0] > 0 => {
+            lengths.leaf_values = less(lengths.leaf_values, walk::entries(0))
+        }
+        _ => lengths.work = less(lengths.work, 4),
+    }
+    lengths
+}
+
+fn roomy(random: &mut Random, exact: Lengths) -> Lengths {
+    let roots = exact.root_links + random.below(4);
+    let upper = exact.upper_links + random.pick(&[0, 1, 7, 32768]);
+    let lower = exact.lower_links + random.pick(&[0, 3, 4096, 5000]);
+    Lengths {
+        blocks: 3 * roots,
+        root_links: roots,
+        root_values: roots,
+        upper_links: upper,
+        upper_values: upper,
+        lower_links: lower,
+        lower_values: lower,
+        leaf_values: exact.leaf_values + random.pick(&[0, 1, 511, 512, 2000]),
+        work: exact.work + random.below(30),
+        ..exact
+    }
+}
+
+fn unpaired(random: &mut Random, exact: Lengths) -> Lengths {
+    let mut lengths = exact;
+    match random.below(9) {
+        0 => lengths.blocks += 1,
+        1 => lengths.blocks = lengths.blocks.checked_sub(1).unwrap_or(2),
+        2 => lengths.root_links += 1,
+        3 => lengths.root_values += 1,
+        4 => lengths.upper_values += 1,
+        5 => lengths.lower_links += 1,
+        6 => lengths.counts = random.pick(&[0, 3, 5]),
+        7 => lengths.medium = random.pick(&[0, 17, 19]),
+        _ => lengths.corners = random.pick(&[0, 5, 7]),
+    }
+    lengths
+}
+
+fn compare_decode(
+    tally: &mut Tally,
+    kind: &'static str,
+    bytes: &[u8],
+    lengths: Lengths,
+) -> (u32, Held) {
+    let (number, held) = decode_into(&Rust, bytes, lengths);
+    let given = bytes.to_vec();
+    let (ours, our_held) = decode_into(OURS, &given, lengths);
+    let difference = if number != ours {
+        Some(format!("Rust {number}, ours {ours} ({lengths:?})"))
+    } else if given != bytes {
+        Some("the bytes were written".to_string())
+    } else if !our_held.intact() {
+        Some("written outside a table".to_string())
+    } else {
+        tables_differ(&held, &our_held)
+    };
+    tally.count(kind, number, difference);
+    (number, held)
+}
+
+fn tables_differ(rust: &Held, ours: &Held) -> Option<String> {
+    for ((name, rust), (_, ours)) in rust.words().into_iter().zip(ours.words()) {
+        if let Some(i) = (0..rust.len()).find(|i| rust.at(*i) != ours.at(*i)) {
+            return Some(format!("{name}[{i}]: Rust {:08x}, ours {:08x}", rust.at(i), ours.at(i)));
+        }
+    }
+    None
+}
+
+fn compare_number(tally: &mut Tally, kind: &'static str, rust: u32, ours: u32) {
+    tally.count(kind, rust, (rust != ours).then(|| format!("Rust {rust}, ours {ours}")));
+}
+
+fn compare_answers<T: std::fmt::Debug>(
+    tally: &mut Tally,
+    kind: &'static str,
+    asked: &[T],
+    rust: &[Answer],
+    ours: &[Answer],
+) {
+    for ((asked, rust), ours) in asked.iter().zip(rust).zip(ours) {
+        let difference = (rust != ours).then(|| {
+            let [rust, ours] = [rust, ours].map(|(number, bits)| format!("{number} {bits:08x}"));
+            format!("{asked:?}: Rust {rust}, ours {ours}")
+        });
+        tally.count(kind, rust.0, difference);
+    }
+}
+
+fn compare_grid(tally: &mut Tally, grid: &Grid, case: &Case, random: &mut Random, build: bool) {
+    let tables = grid.tables();
+    compare_number(tally, "validate", Rust.validate(tables), OURS.validate(tables));
+    let (rust, ours) = (Rust.validate_density(tables), OURS.validate_density(tables));
+    compare_number(tally, "validate_density", rust, ours);
+    let at = samples::coordinates(random, &case.near, 24);
+    let (rust, ours) = (Rust.get_values(tables, &at), OURS.get_values(tables, &at));
+    compare_answers(tally, "get_value", &at, &rust, &ours);
+    let walked: Vec<Answer> = at.iter().map(|at| (0, walk::voxel(&case.bytes, *at))).collect();
+    compare_answers(tally, "get_value, walk of the bytes", &at, &walked, &ours);
+    let mut boxes = samples::areas(random, &case.near, 6);
+    boxes.push(std::array::from_fn(|i| grid.corners[i]));
+    let (rust, ours) = (Rust.box_maxima(tables, &boxes), OURS.box_maxima(tables, &boxes));
+    compare_answers(tally, "box_maximum", &boxes, &rust, &ours);
+    for _ in 0..6 {
+        compare_index(
+            tally,
+            "world_to_index_f",
+            &grid.medium,
+            samples::point(random, &grid.medium),
+        );
+    }
+    if build {
+        compare_build(tally, "build_majorant", grid, CELLS);
+    }
+}
+
+fn compare_index(tally: &mut Tally, kind: &'static str, medium: &[f32], point: [f32; 3]) {
+    let (mut index, mut ours) = ([0x5a5a5a5a; 3], [0x5a5a5a5a; 3]);
+    let number = Rust.world_to_index_f(medium, point, &mut index);
+    let our_number = OURS.world_to_index_f(medium, point, &mut ours);
+    let same = (number, index) == (our_number, ours);
+    tally.count(kind, number, (!same).then(|| {
+        let point = point.map(f32::to_bits);
+        format!("{point:08x?} {medium:?}: Rust {number} {index:08x?}, ours {our_number} {ours:08x?}")
+    }));
+}
+
+fn compare_build(tally: &mut Tally, kind: &'static str, grid: &Grid, cells: usize) {
+    let fill = f32::from_bits(0x5a5a5a5a);
+    let (mut figures, mut ours) = (vec![fill; cells], vec![fill; cells]);
+    let tables = grid.tables();
+    let number = Rust.build_majorant(tables, &grid.medium, &grid.corners, &mut figures);
+    let our_number = OURS.build_majorant(tables, &grid.medium, &grid.corners, &mut ours);
+    let cell = (0..cells).find(|i| figures[*i].to_bits() != ours[*i].to_bits());
+    let difference = if number != our_number {
+        Some(format!("Rust {number}, ours {our_number}"))
+    } else {
+        cell.map(|i| {
+            format!("cell {i}: Rust {:08x}, ours {:08x}", figures[i].to_bits(), ours[i].to_bits())
+        })
+    };
+    tally.count(kind, number, difference);
+}
+
+/// Tables that no decode gives: links past their tables, values beside children, NaN, lengths.
+fn compare_spoiled(tally: &mut Tally, grid: &Grid, case: &Case, random: &mut Random) {
+    let mut grid = grid.clone();
+    let name = spoil::tables(&mut grid, random);
+    tally.case = format!("{}, spoiled {name}", tally.case);
+    let tables = grid.tables();
+    compare_number(tally, "spoiled: validate", Rust.validate(tables), OURS.validate(tables));
+    let (rust, ours) = (Rust.validate_density(tables), OURS.validate_density(tables));
+    compare_number(tally, "spoiled: validate_density", rust, ours);
+    let mut at = samples::coordinates(random, &case.near, 8);
+    at.extend(grid.blocks.chunks_exact(3).take(4).map(|b| [b[0] << 12, b[1] << 12, b[2] << 12]));
+    let (lookups, our_lookups) = (Rust.get_values(tables, &at), OURS.get_values(tables, &at));
+    compare_answers(tally, "spoiled: get_value", &at, &lookups, &our_lookups);
+    let boxes = samples::areas(random, &case.near, 2);
+    let (maxima, our_maxima) = (Rust.box_maxima(tables, &boxes), OURS.box_maxima(tables, &boxes));
+    compare_answers(tally, "spoiled: box_maximum", &boxes, &maxima, &our_maxima);
+    // A build of tables that still pass would cost as much as any other.
+    if rust != 0 {
+        compare_build(tally, "spoiled: build_majorant", &grid, CELLS);
+    }
+}
+
+fn compare_spoiled_record(tally: &mut Tally, grid: &Grid, random: &mut Random) {
+    let mut spoiled = grid.clone();
+    let name = spoil::record(&mut spoiled, random);
+    tally.case = format!("{}, spoiled {name}", tally.case);
+    compare_build(tally, "spoiled: build_majorant", &spoiled, CELLS);
+    for _ in 0..2 {
+        let point = samples::point(random, &grid.medium);
+        compare_index(tally, "spoiled: world_to_index_f", &spoiled.medium, point);
+    }
+    let cells = random.pick(&[0, 1, CELLS - 1, CELLS + 1]);
+    compare_build(tally, "spoiled: build_majorant", grid, cells);
+}
+
+/// 4,294,967,295 bytes of zeros have a wrong mark; one more is too long. The memory is never touched.
+fn long_grids(tally: &mut Tally) {
+    let length = 1usize << 32;
+    let layout = std::alloc::Layout::array::<u8>(length).unwrap();
+    // A null pointer is tested before use, and the slice is no longer than the memory.
+    let start = unsafe { std::alloc::alloc_zeroed(layout) };
+    if start.is_null() {
+        println!("no memory for a grid of {length} bytes: number 1 is not compared");
+        return;
+    }
+    for length in [length - 1, length] {
+        let bytes = unsafe { std::slice::from_raw_parts(start, length) };
+        let lengths = Lengths::of(Places { roots: 1, nodes: [1, 1, 1], spans: 3 });
+        let (number, held) = decode_into(&Rust, bytes, lengths);
+        let (ours, our_held) = decode_into(OURS, bytes, lengths);
+        let difference = match number == ours {
+            true => tables_differ(&held, &our_held),
+            false => Some(format!("Rust {number}, ours {ours}")),
+        };
+        tally.count("decode, 2^32 bytes", number, difference);
+    }
+    unsafe { std::alloc::dealloc(start, layout) };
+}

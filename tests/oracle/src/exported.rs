@@ -1,0 +1,155 @@
+//! The Rust modules behind the functions of smokegrid.h, as a shared library: what the comparison
+//! is tried on. Built from a copy with one wrong step, it must be found out.
+
+use oracle::loader::{Answer, Lent, Loader, Rust, Tables};
+use std::slice::{from_raw_parts, from_raw_parts_mut};
+
+/// Functions that take a grid: the tables become `$grid` in the body.
+macro_rules! grid_function {
+    ($name:ident, $grid:ident, ($($argument:ident: $kind:ty),*), $body:expr) => {
+        /// # Safety
+        /// Each pointer is valid for its length.
+        #[no_mangle]
+        pub unsafe extern "C" fn $name(
+            background: f32,
+            blocks: *const i32,
+            blocks_len: usize,
+            root_links: *const u32,
+            root_links_len: usize,
+            root_values: *const f32,
+            root_values_len: usize,
+            upper_links: *const u32,
+            upper_links_len: usize,
+            upper_values: *const f32,
+            upper_values_len: usize,
+            lower_links: *const u32,
+            lower_links_len: usize,
+            lower_values: *const f32,
+            lower_values_len: usize,
+            leaf_values: *const f32,
+            leaf_values_len: usize
+            $(, $argument: $kind)*
+        ) -> u32 {
+            let $grid = Tables {
+                background,
+                blocks: from_raw_parts(blocks, blocks_len),
+                root_links: from_raw_parts(root_links, root_links_len),
+                root_values: from_raw_parts(root_values, root_values_len),
+                upper_links: from_raw_parts(upper_links, upper_links_len),
+                upper_values: from_raw_parts(upper_values, upper_values_len),
+                lower_links: from_raw_parts(lower_links, lower_links_len),
+                lower_values: from_raw_parts(lower_values, lower_values_len),
+                leaf_values: from_raw_parts(leaf_values, leaf_values_len),
+            };
+            $body
+        }
+    };
+}
+
+unsafe fn given(value: *mut f32, (number, bits): Answer) -> u32 {
+    *value = f32::from_bits(bits);
+    number
+}
+
+grid_function!(smokegrid_validate, grid, (), Rust.validate(grid));
+
+grid_function!(smokegrid_validate_density, grid, (), Rust.validate_density(grid));
+
+grid_function!(
+    smokegrid_get_value,
+    grid,
+    (x: i32, y: i32, z: i32, value: *mut f32),
+    given(value, Rust.get_values(grid, &[[x, y, z]])[0])
+);
+
+grid_function!(
+    smokegrid_box_maximum,
+    grid,
+    (lx: i32, ly: i32, lz: i32, hx: i32, hy: i32, hz: i32, value: *mut f32),
+    given(value, Rust.box_maxima(grid, &[[lx, ly, lz, hx, hy, hz]])[0])
+);
+
+grid_function!(
+    smokegrid_build_majorant,
+    grid,
+    (
+        medium: *const f32,
+        medium_len: usize,
+        corners: *const i32,
+        corners_len: usize,
+        majorants: *mut f32,
+        majorants_len: usize
+    ),
+    Rust.build_majorant(
+        grid,
+        from_raw_parts(medium, medium_len),
+        from_raw_parts(corners, corners_len),
+        from_raw_parts_mut(majorants, majorants_len)
+    )
+);
+
+/// # Safety
+/// Each pointer is valid for its length.
+#[no_mangle]
+pub unsafe extern "C" fn smokegrid_world_to_index_f(
+    medium: *const f32,
+    medium_len: usize,
+    x: f32,
+    y: f32,
+    z: f32,
+    index_bits: *mut u32,
+    index_bits_len: usize,
+) -> u32 {
+    let medium = from_raw_parts(medium, medium_len);
+    Rust.world_to_index_f(medium, [x, y, z], from_raw_parts_mut(index_bits, index_bits_len))
+}
+
+/// # Safety
+/// Each pointer is valid for its length.
+#[no_mangle]
+pub unsafe extern "C" fn smokegrid_decode_density_grid(
+    bytes: *const u8,
+    bytes_len: usize,
+    blocks: *mut i32,
+    blocks_len: usize,
+    root_links: *mut u32,
+    root_links_len: usize,
+    root_values: *mut f32,
+    root_values_len: usize,
+    upper_links: *mut u32,
+    upper_links_len: usize,
+    upper_values: *mut f32,
+    upper_values_len: usize,
+    lower_links: *mut u32,
+    lower_links_len: usize,
+    lower_values: *mut f32,
+    lower_values_len: usize,
+    leaf_values: *mut f32,
+    leaf_values_len: usize,
+    work: *mut u64,
+    work_len: usize,
+    counts: *mut u64,
+    counts_len: usize,
+    background: *mut f32,
+    medium: *mut f32,
+    medium_len: usize,
+    corners: *mut i32,
+    corners_len: usize,
+) -> u32 {
+    let lent = Lent {
+        blocks: from_raw_parts_mut(blocks, blocks_len),
+        root_links: from_raw_parts_mut(root_links, root_links_len),
+        root_values: from_raw_parts_mut(root_values, root_values_len),
+        upper_links: from_raw_parts_mut(upper_links, upper_links_len),
+        upper_values: from_raw_parts_mut(upper_values, upper_values_len),
+        lower_links: from_raw_parts_mut(lower_links, lower_links_len),
+        lower_values: from_raw_parts_mut(lower_values, lower_values_len),
+        leaf_values: from_raw_parts_mut(leaf_values, leaf_values_len),
+        work: from_raw_parts_mut(work, work_len),
+        counts: from_raw_parts_mut(counts, counts_len),
+        background: &mut *background,
+        medium: from_raw_parts_mut(medium, medium_len),
+        corners: from_raw_parts_mut(corners, corners_len),
+    };
+    Rust.decode_density_grid(from_raw_parts(bytes, bytes_len), lent)
+}

@@ -1,0 +1,220 @@
+//! `property`: on grids that decode and build, what the bytes say against what is answered: every
+//! lookup is the voxel of the bytes, a box maximum the greatest of zero and its voxels, every point
+//! of the world box lies in some cell, and no cell around it has a figure below its eight voxels.
+
+use oracle::generate::{self, Case};
+use oracle::loader::{decode_into, Grid, Lengths, Loader, Rust, CELLS};
+use oracle::random::Random;
+use oracle::samples::{self, corner};
+use oracle::walk;
+use std::process::exit;
+
+const USAGE: &str = "usage: property SEED GRIDS POINTS-A-GRID [rust]
+With `rust` the Rust modules answer even where a library was linked.";
+
+const SHOWN: usize = 20;
+
+#[derive(Default)]
+struct Counts {
+    tried: u64,
+    built: u64,
+    refused_16: u64,
+    refused_17: u64,
+    lookups: u64,
+    boxes: u64,
+    points: u64,
+    cells: u64,
+    on_faces: u64,
+    smoky: u64,
+    swapped: u64,
+    counterexamples: u64,
+    case: String,
+}
+
+impl Counts {
+    fn wrong(&mut self, what: String) {
+        self.counterexamples += 1;
+        if self.counterexamples as usize <= SHOWN {
+            println!("counterexample: {}: {what}", self.case);
+        }
+    }
+
+    fn print(&self) {
+        println!("grids tried {}, built {}", self.tried, self.built);
+        println!("builds refused 16 {}, 17 {}", self.refused_16, self.refused_17);
+        println!("lookups {}, box maxima {}", self.lookups, self.boxes);
+        println!("points {}, cells that enclose one {}", self.points, self.cells);
+        println!("points on a face of some cell {}", self.on_faces);
+        println!("points with smoke in a voxel {}", self.smoky);
+        println!("axes with a cell whose corners are swapped {}", self.swapped);
+        println!("counterexamples {}", self.counterexamples);
+    }
+}
+
+fn loader(words: &[String]) -> &'static dyn Loader {
+    if words.iter().any(|word| word == "rust") {
+        return &Rust;
+    }
+    #[cfg(linked)]
+    return &oracle::linked::Linked;
+    #[cfg(not(linked))]
+    return &Rust;
+}
+
+fn main() {
+    let words: Vec<String> = std::env::args().skip(1).collect();
+    let numbers: Vec<u64> = words.iter().take(3).filter_map(|word| word.parse().ok()).collect();
+    let [seed, grids, points] = numbers[..] else {
+        eprintln!("{USAGE}");
+        exit(2)
+    };
+    let loader = loader(&words);
+    let mut counts = Counts::default();
+    // Most shapes build often; where none does, the run ends all the same.
+    while counts.built < grids && counts.tried < 20 * grids + 100 {
+        let number = counts.tried;
+        counts.tried += 1;
+        let case = generate::sound(seed, number);
+        counts.case = format!("sound case {seed} {number} ({})", case.name);
+        if case.builds {
+            run(&mut counts, loader, &case, &mut Random::new(!seed, number), points);
+        }
+    }
+    counts.print();
+    exit(if counts.counterexamples == 0 && counts.built == grids { 0 } else { 1 });
+}
+
+fn run(counts: &mut Counts, loader: &dyn Loader, case: &Case, random: &mut Random, points: u64) {
+    let (_, places) = walk::reach(&case.bytes, walk::ROOMY);
+    let (number, held) = decode_into(loader, &case.bytes, Lengths::of(places));
+    if number != 0 {
+        return;
+    }
+    let grid = held.grid();
+    let mut figures = vec![0.0; CELLS];
+    match loader.build_majorant(grid.tables(), &grid.medium, &grid.corners, &mut figures) {
+        0 => counts.built += 1,
+        16 => return counts.refused_16 += 1,
+        17 => return counts.refused_17 += 1,
+        other => return counts.wrong(format!("an accepted grid's build is refused {other}")),
+    }
+    check_lookups(counts, loader, case, &grid, random);
+    check_boxes(counts, loader, case, &grid, random);
+    let corners: [Vec<f32>; 3] = std::array::from_fn(|axis| {
+        (0..65).map(|k| corner(grid.medium[axis], grid.medium[3 + axis], k)).collect()
+    });
+    counts.swapped +=
+        corners.iter().filter(|axis| axis.windows(2).any(|cell| cell[0] > cell[1])).count() as u64;
+    for _ in 0..points {
+        let point = samples::point_inside(random, &grid.medium);
+        check_point(counts, loader, case, &grid, &figures, &corners, point);
+    }
+}
+
+fn check_lookups(
+    counts: &mut Counts,
+    loader: &dyn Loader,
+    case: &Case,
+    grid: &Grid,
+    random: &mut Random,
+) {
+    let at = samples::coordinates(random, &case.near, 100);
+    for (at, answer) in at.iter().zip(loader.get_values(grid.tables(), &at)) {
+        counts.lookups += 1;
+        let bits = walk::voxel(&case.bytes, *at);
+        if answer != (0, bits) {
+            counts.wrong(format!("{at:?}: lookup {answer:x?}, bytes {bits:08x}"));
+        }
+    }
+}
+
+/// Boxes small enough that every voxel is read.
+fn check_boxes(
+    counts: &mut Counts,
+    loader: &dyn Loader,
+    case: &Case,
+    grid: &Grid,
+    random: &mut Random,
+) {
+    let boxes: Vec<[i32; 6]> = (0..10)
+        .map(|_| {
+            let [x, y, z] = samples::coordinate(random, &case.near);
+            let [a, b, c] = [x, y, z].map(|low| low.saturating_add(random.between(-1, 5) as i32));
+            [x, y, z, a, b, c]
+        })
+        .collect();
+    for (area, answer) in boxes.iter().zip(loader.box_maxima(grid.tables(), &boxes)) {
+        counts.boxes += 1;
+        let mut greatest = 0.0f32;
+        for x in area[0]..=area[3] {
+            for y in area[1]..=area[4] {
+                for z in area[2]..=area[5] {
+                    let value = f32::from_bits(walk::voxel(&case.bytes, [x, y, z]));
+                    greatest = if value > greatest { value } else { greatest };
+                }
+            }
+        }
+        if answer != (0, greatest.to_bits()) {
+            counts.wrong(format!("{area:?}: maximum {answer:x?}, bytes {greatest:?}"));
+        }
+    }
+}
+
+fn check_point(
+    counts: &mut Counts,
+    loader: &dyn Loader,
+    case: &Case,
+    grid: &Grid,
+    figures: &[f32],
+    corners: &[Vec<f32>; 3],
+    point: [f32; 3],
+) {
+    counts.points += 1;
+    let enclosing: [Vec<usize>; 3] = std::array::from_fn(|axis| {
+        let corners = &corners[axis];
+        (0..64).filter(|k| corners[*k] <= point[axis] && point[axis] <= corners[k + 1]).collect()
+    });
+    if enclosing.iter().any(Vec::is_empty) {
+        counts.wrong(format!("{point:?} lies in no cell"));
+    }
+    counts.on_faces += u64::from(enclosing.iter().any(|axis| axis.len() > 1));
+    let Some(greatest) = greatest_around(loader, case, grid, point) else {
+        return counts.wrong(format!("{point:?}: a voxel outside i32"));
+    };
+    counts.smoky += u64::from(greatest > 0.0);
+    for z in &enclosing[2] {
+        for y in &enclosing[1] {
+            for x in &enclosing[0] {
+                counts.cells += 1;
+                let cell = x + 64 * y + 4096 * z;
+                if !(figures[cell] >= greatest) {
+                    counts.wrong(format!(
+                        "{point:?}: cell {cell} {}, voxel {greatest}",
+                        figures[cell]
+                    ));
+                }
+            }
+        }
+    }
+}
+
+/// The greatest of the eight voxels around a point, from the bytes.
+fn greatest_around(loader: &dyn Loader, case: &Case, grid: &Grid, point: [f32; 3]) -> Option<f32> {
+    let mut index = [0; 3];
+    if loader.world_to_index_f(&grid.medium, point, &mut index) != 0 {
+        return None;
+    }
+    let mut low = [0; 3];
+    for axis in 0..3 {
+        let floor = f64::from(f32::from_bits(index[axis])).floor();
+        if !(floor >= f64::from(i32::MIN) && floor < f64::from(i32::MAX)) {
+            return None;
+        }
+        low[axis] = floor as i32;
+    }
+    let voxel = |i: usize| {
+        let at = [low[0] + (i & 1) as i32, low[1] + (i >> 1 & 1) as i32, low[2] + (i >> 2) as i32];
+        f32::from_bits(walk::voxel(&case.bytes, at))
+    };
+    Some((0..8).map(voxel).fold(f32::NEG_INFINITY, f32::max))
+}
