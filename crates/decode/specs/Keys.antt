@@ -7,11 +7,12 @@ use native.Mathlib.Nat.{mod-lt, div-div-eq-div-mul}
 use native.Mathlib.Omega.{arith}
 use lib.IntN.{ℤ, pos, negsuc}
 use lib.Signed.{mag, shrZ}
+use borrow.Author.Tests.{ne-eqb}
 use lib.Dec.{T, eqb, ltb, eqb→eq, ltb→lt, nltb→le}
 use lib.Ieee.{Float, nan, inf, fin, ofBits, toBits, binary32, isNan}
 use lib.Ieee.Scale.{finite}
 use lib.Ieee.Bits.{toBits-ofBits}
-use Rattle.refusals.specs.TestLaws.{and-l, and-r, and-i, same-test, eq→eqb, ne→eqb}
+use Rattle.refusals.specs.TestLaws.{and-l, and-r, and-i, same-test, eq→eqb}
 use Rattle.layout.specs.Bytes.{le, signed, u32At, Bytes}
 use Rattle.layout.specs.Coordinates.{Coord, modZ, slot, eqZ, sameBlock, blockOf, Signed32}
 use Rattle.layout.specs.Walk.{key}
@@ -32,8 +33,8 @@ field-same f z hf hz = go (ltb f 524288) z (ltb→lt f 524288) (nltb→le f 5242
       where
         small : (a : ℕ) → a < 524288 → a ≡ a % 1048576
         small a h = omega arith
-    go true (negsuc a) p q h = let low = p tt in sym (ne→eqb (λ (e : f ≡ 1048576 - (a % 1048576 + 1)). omega arith))
-    go false (pos a) p q h = let high = q tt in sym (ne→eqb (λ (e : f ≡ a % 1048576). omega arith))
+    go true (negsuc a) p q h = let low = p tt in sym (ne-eqb f (1048576 - (a % 1048576 + 1)) (λ (e : f ≡ 1048576 - (a % 1048576 + 1)). omega arith))
+    go false (pos a) p q h = let high = q tt in sym (ne-eqb f (a % 1048576) (λ (e : f ≡ a % 1048576). omega arith))
     go false (negsuc a) p q h =
         let high = q tt in
         same-test (eqb (1048576 - (f + 1)) a) (eqb f (1048576 - (a % 1048576 + 1)))

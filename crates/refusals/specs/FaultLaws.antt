@@ -6,14 +6,14 @@ use Prim.Native.Nat.{ℕ, zero, suc, _<_}
 use native.Mathlib.Nat.{eq-or-lt-of-le, le-of-suc-le-suc}
 use native.Mathlib.Omega.{arith}
 use lib.Dec.{T}
+use borrow.Author.Tests.{ne-eqb}
 use Rattle.refusals.specs.Results.{Result, ok}
 use Rattle.refusals.specs.ResultLaws.{stopped}
-use Rattle.refusals.specs.TestLaws.{ne→eqb}
 use Rattle.refusals.specs.Faults.{_then_, unless, firstFault, passing}
 
 pub then-zero : (a b : ℕ) → (a then b) ≡ 0 → (a ≡ 0) × (b ≡ 0)
 then-zero zero b e = (refl, e)
-then-zero (suc a) b e = let z : suc a ≡ 0 = rw (ne→eqb {m = suc a} {n = 0} (λ (h : suc a ≡ 0). omega arith)) at e in absurd (omega arith)
+then-zero (suc a) b e = let z : suc a ≡ 0 = rw (ne-eqb (suc a) 0 (λ (h : suc a ≡ 0). omega arith)) at e in absurd (omega arith)
 
 pub unless-zero : (t : Bool) (n : ℕ) → unless t (suc n) ≡ 0 → T t
 unless-zero true n e = tt

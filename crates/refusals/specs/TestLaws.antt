@@ -2,7 +2,7 @@
 use mathlib.Core.Path.{_≡_, refl, subst}
 use mathlib.Core.Bool.{Bool, true, false, _&&_}
 use Prim.Native.Nat.{ℕ}
-use lib.Dec.{T, eqb, eqb→eq, eqb-refl}
+use lib.Dec.{T, eqb, eqb-refl}
 
 pub and-l : (a b : Bool) → T (a && b) → T a
 and-l true b t = tt
@@ -24,13 +24,6 @@ same-test false false f g = refl
 
 pub eq→eqb : (m n : ℕ) → m ≡ n → T (eqb m n)
 eq→eqb m n e = subst (λ (z : ℕ). T (eqb m z)) e (eqb-refl m)
-
-pub ne→eqb : {m n : ℕ} → (m ≡ n → ⊥) → eqb m n ≡ false
-ne→eqb {m} {n} h = go (eqb m n) (λ t. h (eqb→eq m n t))
-  where
-    go : (b : Bool) → (T b → ⊥) → b ≡ false
-    go true k = absurd (k tt)
-    go false k = refl
 
 -- two pairs of tests that are the same
 pub and-same : {a b x y : Bool} → a ≡ x → b ≡ y → (a && b) ≡ (x && y)
