@@ -3,3 +3,4 @@ pub mod WorkTable
 pub mod Packed
 pub mod Filled
 pub mod Rooted
+pub mod TreeRead

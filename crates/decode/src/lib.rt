@@ -3,3 +3,4 @@ mod header;
 mod nodes;
 mod spans;
 mod tiles;
+mod tree;

@@ -1,0 +1,3 @@
+-- Laws of the tree reader.
+pub mod Ways
+pub mod Answers
