@@ -3,6 +3,7 @@ pub mod Nodes
 pub mod Inner
 pub mod Tree
 pub mod Decode
+pub mod Lent
 pub mod Agreement
 pub mod Growth
 pub mod Held

@@ -1,0 +1,113 @@
+-- A decode into lent tables: what their lengths allow, what the answer says, and what is left in the tables.
+use Prim.Native.Nat.{ℕ, _*_, _/_}
+use mathlib.Core.List.{List, [], _∷_}
+use mathlib.Core.Bool.{_&&_}
+use lib.Dec.{eqb}
+use lib.IntN.{ℤ, pos}
+use lib.ListN.{length, replicate}
+use lib.Ieee.{Float}
+use Rattle.refusals.specs.Results.{Result, ok, refused}
+use Rattle.refusals.specs.Faults.{unless, passing}
+use Rattle.float.specs.Zero.{+0}
+use Rattle.lent.specs.Padded.{padded}
+use Rattle.layout.specs.Coordinates.{Coord}
+use Rattle.medium.specs.Medium.{Point, Medium}
+use Rattle.decode.specs.Nodes.{Places}
+use Rattle.decode.specs.Decode.{Accepted}
+
+-- ---- what is lent
+
+-- the lengths of the lent tables
+pub record Lent : Type 0 where
+  pub blocks : ℕ
+  pub rootLinks : ℕ
+  pub rootValues : ℕ
+  pub upperLinks : ℕ
+  pub upperValues : ℕ
+  pub lowerLinks : ℕ
+  pub lowerValues : ℕ
+  pub leafValues : ℕ
+  pub work : ℕ
+
+-- 18 for paired tables of unequal length, or blocks that are not three a root
+unfoldable pub lentFault : Lent → ℕ
+lentFault l = unless (eqb (l .rootLinks) (l .rootValues) && eqb (l .blocks) (3 * l .rootLinks) && eqb (l .upperLinks) (l .upperValues) && eqb (l .lowerLinks) (l .lowerValues)) 18
+
+-- four words a span, and whole nodes
+abbrev pub placesOf : Lent → Places
+placesOf l = record { spans = l .work / 4; roots = l .rootLinks; upper = l .upperLinks / 32768; lower = l .lowerLinks / 4096; leaf = l .leafValues / 512 }
+
+-- 18, and then the decode
+unfoldable pub decodeInto : (List ℕ → Places → Result Accepted) → List ℕ → Lent → Result Accepted
+decodeInto decode b l = passing (lentFault l) (decode b (placesOf l))
+
+-- ---- the answer
+
+-- the number (0 where there is a grid), how many roots and nodes are used, the background and the medium
+pub record Answer : Type 0 where
+  pub number : ℕ
+  pub roots : ℕ
+  pub upper : ℕ
+  pub lower : ℕ
+  pub leaf : ℕ
+  pub background : Float
+  pub medium : Medium
+
+abbrev noPoint : Point
+noPoint = record { x = +0; y = +0; z = +0 }
+
+abbrev noCoord : Coord
+noCoord = record { x = pos 0; y = pos 0; z = pos 0 }
+
+abbrev pub noMedium : Medium
+noMedium = record { low = noPoint; high = noPoint; indexLow = noCoord; indexHigh = noCoord; map = +0 ∷ +0 ∷ +0 ∷ +0 ∷ +0 ∷ +0 ∷ +0 ∷ +0 ∷ +0 ∷ []; translation = noPoint }
+
+abbrev pub answerOf : Result Accepted → Answer
+answerOf (ok t) = record {
+  number = 0;
+  roots = length (t .grid .rootLinks);
+  upper = length (t .grid .upperLinks) / 32768;
+  lower = length (t .grid .lowerLinks) / 4096;
+  leaf = length (t .grid .leafValues) / 512;
+  background = t .grid .background;
+  medium = t .medium;
+}
+answerOf (refused n) = record { number = n; roots = 0; upper = 0; lower = 0; leaf = 0; background = +0; medium = noMedium }
+
+-- ---- what is left in the tables
+
+pub record Left : Type 0 where
+  pub blocks : List ℤ
+  pub rootLinks : List ℕ
+  pub rootValues : List Float
+  pub upperLinks : List ℕ
+  pub upperValues : List Float
+  pub lowerLinks : List ℕ
+  pub lowerValues : List Float
+  pub leafValues : List Float
+  pub work : List ℕ
+
+-- the grid's tables with zeros past them, or zeros from end to end; the work table is always zeros
+abbrev pub leftOf : Lent → Result Accepted → Left
+leftOf l (ok t) = record {
+  blocks = padded (l .blocks) (pos 0) (t .grid .blocks);
+  rootLinks = padded (l .rootLinks) 0 (t .grid .rootLinks);
+  rootValues = padded (l .rootValues) +0 (t .grid .rootValues);
+  upperLinks = padded (l .upperLinks) 0 (t .grid .upperLinks);
+  upperValues = padded (l .upperValues) +0 (t .grid .upperValues);
+  lowerLinks = padded (l .lowerLinks) 0 (t .grid .lowerLinks);
+  lowerValues = padded (l .lowerValues) +0 (t .grid .lowerValues);
+  leafValues = padded (l .leafValues) +0 (t .grid .leafValues);
+  work = replicate (l .work) 0;
+}
+leftOf l (refused n) = record {
+  blocks = replicate (l .blocks) (pos 0);
+  rootLinks = replicate (l .rootLinks) 0;
+  rootValues = replicate (l .rootValues) +0;
+  upperLinks = replicate (l .upperLinks) 0;
+  upperValues = replicate (l .upperValues) +0;
+  lowerLinks = replicate (l .lowerLinks) 0;
+  lowerValues = replicate (l .lowerValues) +0;
+  leafValues = replicate (l .leafValues) +0;
+  work = replicate (l .work) 0;
+}
