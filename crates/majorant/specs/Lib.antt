@@ -1,11 +1,21 @@
+-- Definitions that the public contracts and the one claim cite.
 pub mod Boxes
 pub mod Index
 pub mod Cells
 pub mod Build
+pub mod Maxima
+-- Definitions that only contracts within the crate cite.
+pub mod Most
+pub mod RangeMax
+-- Worked examples.
+pub mod BoxExamples
+pub mod BuildExamples
+-- Laws.
 pub mod Offsets
 pub mod Maximum
+pub mod Greatest
+pub mod FitLaws
 pub mod Corners
 pub mod Enclosed
 pub mod Middle
 pub mod Bounded
-pub mod Examples

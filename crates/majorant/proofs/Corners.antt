@@ -1,0 +1,112 @@
+-- From spans of biased coordinates back to a box between two corners: what is the greatest there is `boxMaximum`.
+use Prim.Native.Nat.{ℕ, _-_, _≤_, _<_}
+use native.Mathlib.Omega.{arith}
+use mathlib.Core.Path.{_≡_, refl, sym, ap, _∙_, subst}
+use mathlib.Core.Logic.{inl, inr, ⊎-elim}
+use mathlib.Core.Bool.{Bool, true, false, _||_}
+use lib.Dec.{T, leb}
+use lib.IntN.{ℤ}
+use lib.Signed.{_≤ℤ_}
+use lib.Ieee.{Float, lt, fits, binary32, ofBits}
+use mir.Syntax.{w32}
+use mir.Val.{SFits, toZ, ofZ}
+use borrow.Author.Tests.{leb-true, leb-false}
+use Rattle.float.specs.Literal.{zero-literal}
+use Rattle.layout.specs.Coordinates.{Coord}
+use Rattle.sparse_grid.specs.Tables.{Grid}
+use Rattle.sparse_grid.specs.Lookup.{readIn}
+use Rattle.sparse_grid.specs.Biased.{back, place, back-le, back-between}
+use Rattle.majorant.specs.declared.range_max.Span.{Span}
+use Rattle.majorant.specs.Boxes.{Greatest, boxMaximum}
+use Rattle.majorant.specs.Maxima.{between}
+use Rattle.majorant.specs.Maximum.{greatest}
+use Rattle.majorant.specs.Greatest.{greatest-one}
+use Rattle.majorant.specs.FitLaws.{zero-fits, box-fits}
+use Rattle.majorant.specs.Most.{Most}
+use Rattle.majorant.specs.RangeMax.{Within, Full, Ends, empty, readAt}
+use Rattle.majorant.proofs.MostLaws.{none}
+use Rattle.majorant.proofs.Signs.{seen}
+
+-- ---- spans with a place, and without
+
+or-false : (a b : Bool) → (a || b) ≡ false → (a ≡ false) × (b ≡ false)
+or-false true b h = absurd (subst T h tt)
+or-false false b h = (refl, h)
+
+pub some : (x y z : Span) → empty x y z ≡ false → (x .lo < x .hi) × (y .lo < y .hi) × (z .lo < z .hi)
+some x y z h =
+    let p = or-false (leb (x .hi) (x .lo) || leb (y .hi) (y .lo)) (leb (z .hi) (z .lo)) h in
+    let q = or-false (leb (x .hi) (x .lo)) (leb (y .hi) (y .lo)) (p .0) in
+    (leb-false (x .hi) (x .lo) (q .0), leb-false (y .hi) (y .lo) (q .1), leb-false (z .hi) (z .lo) (p .1))
+
+pub filled : (x y z : Span) → empty x y z ≡ false → x .hi ≤ 4294967296 → y .hi ≤ 4294967296 → z .hi ≤ 4294967296 → Full x y z
+filled x y z h a b c = let s = some x y z h in record { x-some = s .0; y-some = s .1; z-some = s .2; x-top = a; y-top = b; z-top = c }
+
+-- an empty span on some axis
+module _ {P : Type 0} where
+  or-true : (a b : Bool) → (a || b) ≡ true → (a ≡ true → P) → (b ≡ true → P) → P
+  or-true true b h p q = p refl
+  or-true false b h p q = q h
+
+  pub lacking : (x y z : Span) → empty x y z ≡ true → (x .hi ≤ x .lo → P) → (y .hi ≤ y .lo → P) → (z .hi ≤ z .lo → P) → P
+  lacking x y z h p q r =
+      or-true (leb (x .hi) (x .lo) || leb (y .hi) (y .lo)) (leb (z .hi) (z .lo)) h
+      (λ e. or-true (leb (x .hi) (x .lo)) (leb (y .hi) (y .lo)) e (λ k. p (leb-true _ _ k)) (λ k. q (leb-true _ _ k)))
+      (λ e. r (leb-true _ _ e))
+
+no-place : (x y z : Span) → empty x y z ≡ true → (a b c : ℕ) → Within x y z a b c → ⊥
+no-place x y z h a b c s = lacking x y z h (λ k. omega arith) (λ k. omega arith) (λ k. omega arith)
+
+-- ---- the box
+
+module _ (g : Grid) {lx ly lz hx hy hz : ℤ} (x y z : Span) (ex : Ends lx hx x) (ey : Ends ly hy y) (ez : Ends lz hz z) where
+  -- a coordinate between two ends is a place of their span
+  axis : {lo hi : ℤ} (s : Span) → Ends lo hi s → (c : ℤ) → lo ≤ℤ c → c ≤ℤ hi → (n : ℕ) × (c ≡ back 2147483648 n) × (s .lo ≤ n) × (n < s .hi)
+  axis s e c l u =
+      let w = back-between 2147483648 (s .lo) (s .hi - 1) c (subst (λ (k : ℤ). k ≤ℤ c) (e .low) l) (subst (λ (k : ℤ). c ≤ℤ k) (e .high) u) in
+      (w .0, w .1, w .2, omega (arith, w .3, e .some))
+
+  low-end : {lo hi : ℤ} (s : Span) → Ends lo hi s → (n : ℕ) → s .lo ≤ n → lo ≤ℤ back 2147483648 n
+  low-end s e n h = subst (λ (k : ℤ). k ≤ℤ back 2147483648 n) (sym (e .low)) (back-le 2147483648 (s .lo) n h)
+
+  high-end : {lo hi : ℤ} (s : Span) → Ends lo hi s → (n : ℕ) → n < s .hi → back 2147483648 n ≤ℤ hi
+  high-end s e n h = subst (λ (k : ℤ). back 2147483648 n ≤ℤ k) (sym (e .high)) (back-le 2147483648 n (s .hi - 1) (omega arith))
+
+  most-greatest : {r : Float} → Most (readAt g) (Within x y z) r → Greatest (readIn g) (between lx ly lz hx hy hz) r
+  unfolding readAt
+  most-greatest {r} m = record {
+    covers = λ c i.
+        let a = axis x ex (c .x) (i .x-low) (i .x-high) in
+        let b = axis y ey (c .y) (i .y-low) (i .y-high) in
+        let d = axis z ez (c .z) (i .z-low) (i .z-high) in
+        let e : c ≡ place (a .0) (b .0) (d .0) = λ j. record { x = a .1 j; y = b .1 j; z = d .1 j } in
+        ap (λ (k : Coord). lt r (readIn g k)) e
+        ∙ m .covers (a .0) (b .0) (d .0) (record { x-low = a .2; x-high = a .3; y-low = b .2; y-high = b .3; z-low = d .2; z-high = d .3 });
+    reached = ⊎-elim (λ e. inl e)
+        (λ w. inr (
+          place (w .0) (w .1) (w .2),
+          record {
+            x-low = low-end x ex (w .0) (w .3 .x-low);
+            x-high = high-end x ex (w .0) (w .3 .x-high);
+            y-low = low-end y ey (w .1) (w .3 .y-low);
+            y-high = high-end y ey (w .1) (w .3 .y-high);
+            z-low = low-end z ez (w .2) (w .3 .z-low);
+            z-high = high-end z ez (w .2) (w .3 .z-high);
+          },
+          w .4,
+          w .5,
+        )) (m .reached);
+  }
+
+  pub is-maximum : {r : Float} → T (fits binary32 r) → ((c : Coord) → T (fits binary32 (readIn g c))) → Most (readAt g) (Within x y z) r → r ≡ boxMaximum (readIn g) (between lx ly lz hx hy hz)
+  is-maximum p h m =
+      let b = between lx ly lz hx hy hz in
+      greatest-one (readIn g) binary32 b p (box-fits (readIn g) b h) (most-greatest m) (greatest (readIn g) b)
+
+  -- an empty box: the code's 0.0
+  pub is-none : empty x y z ≡ true → ((c : Coord) → T (fits binary32 (readIn g c))) → ofBits binary32 0 ≡ boxMaximum (readIn g) (between lx ly lz hx hy hz)
+  is-none o h = is-maximum (subst (λ (r : Float). T (fits binary32 r)) (sym (zero-literal binary32)) zero-fits) h (none (no-place x y z o))
+
+-- the ends as a callee is handed them
+pub seen-ends : {lo hi : ℤ} (s : Span) → SFits w32 lo → SFits w32 hi → Ends (toZ w32 (ofZ w32 lo)) (toZ w32 (ofZ w32 hi)) s → Ends lo hi s
+seen-ends s f g e = record { low = sym (seen f) ∙ e .low; high = sym (seen g) ∙ e .high; some = e .some; top = e .top }

@@ -1,0 +1,77 @@
+-- A part of a box that lies in one cell of a node: all of its places go by one entry.
+use Prim.Native.Nat.{ℕ, zero, suc, _+_, _-_, _*_, _/_, _%_, _≤_, _<_}
+use native.Mathlib.Omega.{arith}
+use mathlib.Core.Path.{_≡_, sym, ap, _∙_, subst}
+use mathlib.Core.List.{List}
+use lib.ListN.{getD}
+use lib.Ieee.{Float, binary32, ofBits}
+use Rattle.float.specs.Zero.{+0}
+use Rattle.float.specs.Literal.{zero-literal}
+use Rattle.sparse_grid.specs.declared.Entry.{Entry}
+use Rattle.sparse_grid.specs.declared.Entry.the-variants.{Child, Tile}
+use Rattle.sparse_grid.specs.Tables.{entryOf, entryAt}
+use Rattle.majorant.specs.declared.range_max.Span.{Span}
+use Rattle.majorant.specs.Boxes.{greater}
+use Rattle.majorant.specs.Most.{Most}
+use Rattle.majorant.specs.RangeMax.{Within, Full, InCell, entryRead, leafRead, lowerRead, upperRead, lowerSlot, upperSlot, childIn}
+use Rattle.majorant.proofs.MostLaws.{flat, most-as}
+
+module _ {f : ℕ → ℕ → ℕ → Float} (g : ℕ → ℕ → ℕ → ℕ → Float) (x y z : Span) {e : Entry} (same : (a b c : ℕ) → Within x y z a b c → f a b c ≡ entryRead e (λ j. g j a b c)) where
+  pub cell-tile : Full x y z → {v r : Float} → e ≡ Tile v → r ≡ greater (ofBits binary32 0) v → Most f (Within x y z) r
+  cell-tile full {v} {r} h q =
+      subst (λ (w : Float). Most f (Within x y z) w) (sym (q ∙ ap (λ (w : Float). greater w v) (zero-literal binary32)))
+      (flat (x .lo) (x .hi) (y .lo) (y .hi) (z .lo) (z .hi) (full .x-some) (full .y-some) (full .z-some) v (λ a b c s. same a b c s ∙ ap (λ (k : Entry). entryRead k (λ j. g j a b c)) h))
+
+  pub cell-child : {j : ℕ} {r : Float} → e ≡ Child j → Most (g j) (Within x y z) r → Most f (Within x y z) r
+  cell-child h m = most-as (λ a b c s. sym (same a b c s ∙ ap (λ (k : Entry). entryRead k (λ j. g j a b c)) h)) m
+
+-- ---- the slot of a cell
+
+same8 : (a x : ℕ) → a ≤ x → x < a / 8 * 8 + 8 → x % 128 / 8 ≡ a % 128 / 8
+same8 a x h l = omega arith
+
+same128 : (a x : ℕ) → a ≤ x → x < a / 128 * 128 + 128 → x % 4096 / 128 ≡ a % 4096 / 128
+same128 a x h l = omega arith
+
+module _ (x y z : Span) where
+  pub lower-same : (links : List ℕ) (values leaf : List Float) (k : ℕ) → InCell 8 x → InCell 8 y → InCell 8 z
+      → (a b c : ℕ) → Within x y z a b c → lowerRead links values leaf k a b c ≡ entryRead (entryAt links values (lowerSlot k (x .lo) (y .lo) (z .lo))) (λ j. leafRead leaf j a b c)
+  unfolding lowerRead
+  lower-same links values leaf k hx hy hz a b c s =
+      let i : a % 128 / 8 ≡ x .lo % 128 / 8 = same8 (x .lo) a (omega arith) (omega arith) in
+      let j : b % 128 / 8 ≡ y .lo % 128 / 8 = same8 (y .lo) b (omega arith) (omega arith) in
+      let h : c % 128 / 8 ≡ z .lo % 128 / 8 = same8 (z .lo) c (omega arith) (omega arith) in
+      rw (i, j, h)
+
+  pub upper-same : (upperLinks : List ℕ) (upperValues : List Float) (links : List ℕ) (values leaf : List Float) (k : ℕ) → InCell 128 x → InCell 128 y → InCell 128 z
+      → (a b c : ℕ) → Within x y z a b c → upperRead upperLinks upperValues links values leaf k a b c ≡ entryRead (entryAt upperLinks upperValues (upperSlot k (x .lo) (y .lo) (z .lo))) (λ j. lowerRead links values leaf j a b c)
+  unfolding upperRead
+  upper-same upperLinks upperValues links values leaf k hx hy hz a b c s =
+      let i : a % 4096 / 128 ≡ x .lo % 4096 / 128 = same128 (x .lo) a (omega arith) (omega arith) in
+      let j : b % 4096 / 128 ≡ y .lo % 4096 / 128 = same128 (y .lo) b (omega arith) (omega arith) in
+      let h : c % 4096 / 128 ≡ z .lo % 4096 / 128 = same128 (z .lo) c (omega arith) (omega arith) in
+      rw (i, j, h)
+
+-- ---- children
+
+pub child : (l : ℕ) (v : Float) → 0 < l → Child (l - 1) ≡ entryOf l v
+child zero v h = absurd (omega arith)
+child (suc l) v h = ap Child (omega arith)
+
+child-of : (l : ℕ) (v : Float) {j : ℕ} → entryOf l v ≡ Child j → l ≡ suc j
+child-of zero v q = let w : _≡_ {A = ℕ} 0 1 = cc in absurd (omega arith)
+child-of (suc l) v q = cc
+
+-- the link of an entry that is child j
+pub child-link : (links : List ℕ) (values : List Float) (i : ℕ) {j : ℕ} → entryAt links values i ≡ Child j → getD links i 0 ≡ suc j
+child-link links values i q = child-of (getD links i 0) (getD values i +0) q
+
+pub child-room : {e : Entry} {j n : ℕ} → e ≡ Child j → childIn e n → 32768 * j + 32768 ≤ n
+child-room {e} {j} {n} q h = subst (λ (e : Entry). childIn e n) q h
+
+room : (l : ℕ) (v : Float) (n : ℕ) → 32768 * l ≤ n → childIn (entryOf l v) n
+room zero v n h = omega arith
+room (suc l) v n h = omega arith
+
+pub linked-room : (links : List ℕ) (values : List Float) (i n : ℕ) → 32768 * getD links i 0 ≤ n → childIn (entryAt links values i) n
+linked-room links values i n h = room (getD links i 0) (getD values i +0) n h

@@ -1,0 +1,275 @@
+// The greatest of +0.0 and the voxels of a box, over the lent tables of a grid that passed validate.
+// Coordinates here are biased: a coordinate plus 2^31, so that blocks and slots are plain quotients and remainders.
+ghost use mathlib.Core.Path.{_≡_};
+ghost use mathlib.Core.Bool.{true};
+ghost use Prim.Native.Nat.{ℕ, _+_, _*_, _<_, _≤_};
+ghost use lib.ListN.{length};
+ghost use Rattle.sparse_grid.specs.Tables.{gridOf};
+ghost use Rattle.sparse_grid.specs.Validate.{validate, blockIn};
+ghost use Rattle.sparse_grid.specs.Lookup.{readIn};
+ghost use Rattle.sparse_grid.specs.Biased.{back};
+ghost use Rattle.sparse_grid.specs.Sound.{Sound};
+ghost use Rattle.sparse_grid.specs.Inner.{rootOf, Has, raised};
+ghost use Rattle.majorant.specs.Boxes.{boxMaximum};
+ghost use Rattle.majorant.specs.Maxima.{between};
+ghost use Rattle.majorant.specs.Most.{Most};
+ghost use Rattle.majorant.specs.RangeMax.{Within, Full, Ends, Clip, apart, empty, readAt, wide as wideS, CoveredIn};
+use crate::node_max::entry_at;
+use crate::node_max::greater;
+use crate::node_max::root_max;
+use sparse_grid::Root;
+
+// Biased coordinates from lo up to below hi.
+pub struct Span {
+    pub lo: usize,
+    pub hi: usize,
+}
+
+// What the roots so far hold of a box: its maximum, and how many blocks of the box it covers.
+pub struct Covered {
+    pub maximum: f32,
+    pub blocks: usize,
+}
+
+// A coordinate plus 2^31.
+fn biased(c: i32) -> usize
+    ensures { λ r. ⌜ (c ≡ back 2147483648 r) × (r < 4294967296) ⌝ }
+{
+    (c as i64 + 2147483648) as usize
+}
+
+// The coordinates from lo to hi, ends included.
+fn span_of(lo: i32, hi: i32) -> Span
+    ensures { λ r. ⌜ Ends lo hi r ⌝ }
+{
+    let a = biased(lo);
+    let e = biased(hi);
+    Span { lo: a, hi: e + 1 }
+}
+
+// Whether some axis has no place.
+fn is_empty(x: Span, y: Span, z: Span) -> bool
+    ensures { λ r. ⌜ r ≡ empty x y z ⌝ }
+{
+    if x.hi <= x.lo {
+        return true;
+    }
+    if y.hi <= y.lo {
+        return true;
+    }
+    z.hi <= z.lo
+}
+
+fn higher(a: usize, b: usize) -> usize
+    ensures { λ r. ⌜ (a ≤ r) × (b ≤ r) × ((x : ℕ) → a ≤ x → b ≤ x → r ≤ x) ⌝ }
+{
+    if a < b { b } else { a }
+}
+
+fn lesser(a: usize, b: usize) -> usize
+    ensures { λ r. ⌜ (r ≤ a) × (r ≤ b) × ((x : ℕ) → x < a → x < b → x < r) ⌝ }
+{
+    if a < b { a } else { b }
+}
+
+// A block's number plus 2^19.
+fn lifted(block: i32) -> usize
+    requires { ⌜ blockIn block ≡ true ⌝ }
+    ensures { λ r. ⌜ (r ≡ raised block) × (r < 1048576) ⌝ }
+{
+    (block + 524288) as usize
+}
+
+// Whether a span meets no coordinate of a block of 4,096.
+fn is_apart(block: i32, span: Span) -> bool
+    requires { ⌜ (blockIn block ≡ true) × (span .lo < span .hi) ⌝ }
+    ensures { λ r. ⌜ r ≡ apart (raised block) (span .lo) (span .hi) ⌝ }
+{
+    let b = lifted(block);
+    if b < span.lo / 4096 {
+        return true;
+    }
+    (span.hi - 1) / 4096 < b
+}
+
+// The part of a span in a block of 4,096 coordinates.
+fn intersect_bounds(block: i32, span: Span) -> Span
+    requires { ⌜ blockIn block ≡ true ⌝ }
+    ensures { λ r. ⌜ Clip (raised block) (span .lo) (span .hi) (r .lo) (r .hi) ⌝ }
+{
+    let start = lifted(block) * 4096;
+    let lo = higher(span.lo, start);
+    let hi = lesser(span.hi, start + 4096);
+    Span { lo: lo, hi: hi }
+}
+
+fn root_at(blocks: &[i32], root_links: &[u32], root_values: &[f32], i: usize) -> Root
+    requires { ⌜ Has (now blocks) (now «root_links») (now «root_values») i ⌝ }
+    ensures { λ r. ⌜ r ≡ rootOf (now (blocks .entry)) (now («root_links» .entry)) (now («root_values» .entry)) i ⌝ }
+{
+    let x = blocks[3 * i];
+    let y = blocks[3 * i + 1];
+    let z = blocks[3 * i + 2];
+    let entry = entry_at(root_links, root_values, i);
+    Root {
+        x: x,
+        y: y,
+        z: z,
+        entry: entry,
+    }
+}
+
+// Root i more. Blocks differ, so a root that meets the box covers one block of it that none before has.
+fn cover(
+    background: f32,
+    blocks: &[i32],
+    root_links: &[u32],
+    root_values: &[f32],
+    upper_links: &[u32],
+    upper_values: &[f32],
+    lower_links: &[u32],
+    lower_values: &[f32],
+    leaf_values: &[f32],
+    i: usize,
+    covered: Covered,
+    x: Span,
+    y: Span,
+    z: Span,
+) -> Covered
+    requires { ⌜ Sound (gridOf background (now blocks) (now «root_links») (now «root_values») (now «upper_links») (now «upper_values») (now «lower_links») (now «lower_values») (now «leaf_values»)) × (i < length (now «root_links»)) × Full x y z × CoveredIn (gridOf background (now blocks) (now «root_links») (now «root_values») (now «upper_links») (now «upper_values») (now «lower_links») (now «lower_values») (now «leaf_values»)) i x y z (covered .maximum) (covered .blocks) ⌝ }
+    ensures { λ r. ⌜ CoveredIn (gridOf background (now (blocks .entry)) (now («root_links» .entry)) (now («root_values» .entry)) (now («upper_links» .entry)) (now («upper_values» .entry)) (now («lower_links» .entry)) (now («lower_values» .entry)) (now («leaf_values» .entry))) (i + 1) x y z (r .maximum) (r .blocks) ⌝ }
+{
+    let root = root_at(blocks, root_links, root_values, i);
+    if is_apart(root.x, x) {
+        return covered;
+    }
+    if is_apart(root.y, y) {
+        return covered;
+    }
+    if is_apart(root.z, z) {
+        return covered;
+    }
+    let cx = intersect_bounds(root.x, x);
+    let cy = intersect_bounds(root.y, y);
+    let cz = intersect_bounds(root.z, z);
+    let entry = root.entry;
+    let held = root_max(
+        entry,
+        upper_links,
+        upper_values,
+        lower_links,
+        lower_values,
+        leaf_values,
+        cx,
+        cy,
+        cz,
+    );
+    let maximum = greater(covered.maximum, held);
+    let count = covered.blocks + 1;
+    Covered {
+        maximum: maximum,
+        blocks: count,
+    }
+}
+
+// How many blocks a span meets.
+fn blocks_along(span: Span) -> usize
+    requires { ⌜ (span .lo < span .hi) × (span .hi ≤ 4294967296) ⌝ }
+    ensures { λ r. ⌜ (r ≡ wideS (span .lo) (span .hi)) × (r ≤ 1048576) ⌝ }
+{
+    (span.hi - 1) / 4096 - span.lo / 4096 + 1
+}
+
+// The roots in order. Where they cover fewer blocks than the box has, some place of it lies in no root, and the background counts.
+fn roots_max(
+    background: f32,
+    blocks: &[i32],
+    root_links: &[u32],
+    root_values: &[f32],
+    upper_links: &[u32],
+    upper_values: &[f32],
+    lower_links: &[u32],
+    lower_values: &[f32],
+    leaf_values: &[f32],
+    x: Span,
+    y: Span,
+    z: Span,
+) -> f32
+    requires { ⌜ Sound (gridOf background (now blocks) (now «root_links») (now «root_values») (now «upper_links») (now «upper_values») (now «lower_links») (now «lower_values») (now «leaf_values»)) × Full x y z ⌝ }
+    ensures { λ r. ⌜ Most (readAt (gridOf background (now (blocks .entry)) (now («root_links» .entry)) (now («root_values» .entry)) (now («upper_links» .entry)) (now («upper_values» .entry)) (now («lower_links» .entry)) (now («lower_values» .entry)) (now («leaf_values» .entry)))) (Within x y z) r ⌝ }
+{
+    let mut covered = Covered {
+        maximum: 0.0f32,
+        blocks: 0,
+    };
+    let mut i: usize = 0;
+    while i < root_links.len() {
+        covered = cover(
+            background,
+            blocks,
+            root_links,
+            root_values,
+            upper_links,
+            upper_values,
+            lower_links,
+            lower_values,
+            leaf_values,
+            i,
+            covered,
+            x,
+            y,
+            z,
+        );
+        i += 1;
+    }
+    let maximum = covered.maximum;
+    let count = covered.blocks;
+    let total = blocks_along(x) * (blocks_along(y) * blocks_along(z));
+    if count < total {
+        return greater(maximum, background);
+    }
+    maximum
+}
+
+// The greatest of +0.0 and the voxels from the low corner to the high one, ends included; +0.0 where low is above high on some axis.
+pub(crate) fn range_max(
+    background: f32,
+    blocks: &[i32],
+    root_links: &[u32],
+    root_values: &[f32],
+    upper_links: &[u32],
+    upper_values: &[f32],
+    lower_links: &[u32],
+    lower_values: &[f32],
+    leaf_values: &[f32],
+    lx: i32,
+    ly: i32,
+    lz: i32,
+    hx: i32,
+    hy: i32,
+    hz: i32,
+) -> f32
+    requires { ⌜ validate (gridOf background (now blocks) (now «root_links») (now «root_values») (now «upper_links») (now «upper_values») (now «lower_links») (now «lower_values») (now «leaf_values»)) ≡ 0 ⌝ }
+    ensures { λ r. ⌜ r ≡ boxMaximum (readIn (gridOf background (now (blocks .entry)) (now («root_links» .entry)) (now («root_values» .entry)) (now («upper_links» .entry)) (now («upper_values» .entry)) (now («lower_links» .entry)) (now («lower_values» .entry)) (now («leaf_values» .entry)))) (between lx ly lz hx hy hz) ⌝ }
+{
+    let x = span_of(lx, hx);
+    let y = span_of(ly, hy);
+    let z = span_of(lz, hz);
+    if is_empty(x, y, z) {
+        return 0.0f32;
+    }
+    roots_max(
+        background,
+        blocks,
+        root_links,
+        root_values,
+        upper_links,
+        upper_values,
+        lower_links,
+        lower_values,
+        leaf_values,
+        x,
+        y,
+        z,
+    )
+}
