@@ -10,26 +10,14 @@
 //     checked_coordinate  the f64 pattern; the i32 as an f64's pattern, or 16 where it is refused
 // A NaN's answer is written as 7fc00000 or 7ff8000000000000, since Rust leaves its bits open.
 // Each list has picked edges first, with either sign, and is filled up by a seeded generator.
+mod random;
+
+use random::Random;
 use std::io::Write;
 
 const RECORDS: usize = 2048;
 
-// splitmix64
-struct Random(u64);
-
 impl Random {
-    fn next(&mut self) -> u64 {
-        self.0 = self.0.wrapping_add(0x9e37_79b9_7f4a_7c15);
-        let mut z = self.0;
-        z = (z ^ (z >> 30)).wrapping_mul(0xbf58_476d_1ce4_e5b9);
-        z = (z ^ (z >> 27)).wrapping_mul(0x94d0_49bb_1331_11eb);
-        z ^ (z >> 31)
-    }
-
-    fn below(&mut self, n: u64) -> u64 {
-        self.next() % n
-    }
-
     // A pattern with an exponent's field from low to high.
     fn f32_at(&mut self, low: u64, high: u64) -> u32 {
         let field = low + self.below(high - low + 1);

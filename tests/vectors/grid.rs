@@ -10,6 +10,9 @@
 //     those words, table by table, each an index and the word;
 //     the lookups, each x, y, z, the number of the refusal (0 for none) and the value's pattern.
 // A NaN's pattern is written as 7fc00000. Tables that are not paired are none of sparse_grid.rs's grids: their number is 18.
+mod random;
+
+use random::Random;
 use std::io::Write;
 
 mod util {
@@ -32,22 +35,7 @@ mod sparse_grid {
 use sparse_grid::{SparseGridEntry, SparseGridRoot, SparseScalarGrid};
 use util::error::PbrtError;
 
-// splitmix64
-struct Random(u64);
-
 impl Random {
-    fn next(&mut self) -> u64 {
-        self.0 = self.0.wrapping_add(0x9e37_79b9_7f4a_7c15);
-        let mut z = self.0;
-        z = (z ^ (z >> 30)).wrapping_mul(0xbf58_476d_1ce4_e5b9);
-        z = (z ^ (z >> 27)).wrapping_mul(0x94d0_49bb_1331_11eb);
-        z ^ (z >> 31)
-    }
-
-    fn below(&mut self, n: u64) -> u64 {
-        self.next() % n
-    }
-
     fn one_of<T: Copy>(&mut self, from: &[T]) -> T {
         from[self.below(from.len() as u64) as usize]
     }
