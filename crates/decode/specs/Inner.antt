@@ -4,3 +4,4 @@ pub mod Packed
 pub mod Filled
 pub mod Rooted
 pub mod TreeRead
+pub mod GridRead

@@ -11,6 +11,7 @@ use Rattle.refusals.specs.Faults.{unless, passing}
 use Rattle.float.specs.Zero.{+0}
 use Rattle.lent.specs.Padded.{padded}
 use Rattle.layout.specs.Coordinates.{Coord}
+use Rattle.sparse_grid.specs.Tables.{Grid}
 use Rattle.medium.specs.Medium.{Point, Medium}
 use Rattle.decode.specs.Nodes.{Places}
 use Rattle.decode.specs.Decode.{Accepted}
@@ -76,7 +77,8 @@ answerOf (refused n) = record { number = n; roots = 0; upper = 0; lower = 0; lea
 
 -- ---- what is left in the tables
 
-pub record Left : Type 0 where
+-- the lent tables
+pub record Tables : Type 0 where
   pub blocks : List ℤ
   pub rootLinks : List ℕ
   pub rootValues : List Float
@@ -87,20 +89,35 @@ pub record Left : Type 0 where
   pub leafValues : List Float
   pub work : List ℕ
 
--- the grid's tables with zeros past them, or zeros from end to end; the work table is always zeros
-abbrev pub leftOf : Lent → Result Accepted → Left
-leftOf l (ok t) = record {
-  blocks = padded (l .blocks) (pos 0) (t .grid .blocks);
-  rootLinks = padded (l .rootLinks) 0 (t .grid .rootLinks);
-  rootValues = padded (l .rootValues) +0 (t .grid .rootValues);
-  upperLinks = padded (l .upperLinks) 0 (t .grid .upperLinks);
-  upperValues = padded (l .upperValues) +0 (t .grid .upperValues);
-  lowerLinks = padded (l .lowerLinks) 0 (t .grid .lowerLinks);
-  lowerValues = padded (l .lowerValues) +0 (t .grid .lowerValues);
-  leafValues = padded (l .leafValues) +0 (t .grid .leafValues);
-  work = replicate (l .work) 0;
+abbrev pub tables : List ℤ → List ℕ → List Float → List ℕ → List Float → List ℕ → List Float → List Float → List ℕ → Tables
+tables blocks rootLinks rootValues upperLinks upperValues lowerLinks lowerValues leafValues work = record {
+  blocks = blocks;
+  rootLinks = rootLinks;
+  rootValues = rootValues;
+  upperLinks = upperLinks;
+  upperValues = upperValues;
+  lowerLinks = lowerLinks;
+  lowerValues = lowerValues;
+  leafValues = leafValues;
+  work = work;
 }
-leftOf l (refused n) = record {
+
+abbrev pub lengths : Tables → Lent
+lengths t = record {
+  blocks = length (t .blocks);
+  rootLinks = length (t .rootLinks);
+  rootValues = length (t .rootValues);
+  upperLinks = length (t .upperLinks);
+  upperValues = length (t .upperValues);
+  lowerLinks = length (t .lowerLinks);
+  lowerValues = length (t .lowerValues);
+  leafValues = length (t .leafValues);
+  work = length (t .work);
+}
+
+-- zeros from end to end
+abbrev pub zeros : Lent → Tables
+zeros l = record {
   blocks = replicate (l .blocks) (pos 0);
   rootLinks = replicate (l .rootLinks) 0;
   rootValues = replicate (l .rootValues) +0;
@@ -111,3 +128,21 @@ leftOf l (refused n) = record {
   leafValues = replicate (l .leafValues) +0;
   work = replicate (l .work) 0;
 }
+
+-- the grid's tables with zeros past them; the work table is zeros
+abbrev pub filled : Lent → Grid → Tables
+filled l g = record {
+  blocks = padded (l .blocks) (pos 0) (g .blocks);
+  rootLinks = padded (l .rootLinks) 0 (g .rootLinks);
+  rootValues = padded (l .rootValues) +0 (g .rootValues);
+  upperLinks = padded (l .upperLinks) 0 (g .upperLinks);
+  upperValues = padded (l .upperValues) +0 (g .upperValues);
+  lowerLinks = padded (l .lowerLinks) 0 (g .lowerLinks);
+  lowerValues = padded (l .lowerValues) +0 (g .lowerValues);
+  leafValues = padded (l .leafValues) +0 (g .leafValues);
+  work = replicate (l .work) 0;
+}
+
+abbrev pub leftOf : Lent → Result Accepted → Tables
+leftOf l (ok t) = filled l (t .grid)
+leftOf l (refused n) = zeros l

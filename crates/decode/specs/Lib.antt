@@ -4,6 +4,7 @@ pub mod Inner
 pub mod Tree
 pub mod Decode
 pub mod Lent
+pub mod Answers
 pub mod Agreement
 pub mod Growth
 pub mod Held

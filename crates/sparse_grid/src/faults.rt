@@ -8,7 +8,7 @@ ghost use Rattle.float.specs.Zero.{+0};
 ghost use lib.Ieee.{eq};
 ghost use Rattle.layout.specs.Coordinates.{sameBlock};
 ghost use Rattle.sparse_grid.specs.Tables.{gridOf};
-ghost use Rattle.sparse_grid.specs.Validate.{valueFault, negative, entriesFault, valuesFault, negativesFault, blockIn, earlier, pairFault, shapeFault, densityFault};
+ghost use Rattle.sparse_grid.specs.Validate.{valueFault, negative, entriesFault, valuesFault, negativesFault, blockIn, earlier, pairFault, shapeFault};
 ghost use Rattle.sparse_grid.specs.Answers.{at};
 ghost use Rattle.sparse_grid.specs.Inner.{blockOfRoot, rootBlock, blocksOf, faultOf, raised, ranged, rank, rootOf, rootsFault, tablesFault, contentsFault, Has, Topped};
 use crate::Entry;
@@ -52,7 +52,7 @@ fn entry_fault(entry: Entry, clear: bool, count: usize) -> u32
 }
 
 // -0.0 is not negative.
-fn negative_fault(v: f32) -> u32
+pub(crate) fn negative_fault(v: f32) -> u32
     ensures { λ r. ⌜ r ≡ negative v ⌝ }
 {
     if v < 0.0 { NEGATIVE } else { 0 }
@@ -204,7 +204,7 @@ fn values_fault(values: &[f32]) -> u32
     0
 }
 
-fn negatives_fault(values: &[f32]) -> u32
+pub(crate) fn negatives_fault(values: &[f32]) -> u32
     ensures { λ r. ⌜ r ≡ negativesFault (now (values .entry)) ⌝ }
 {
     let mut i = 0;
@@ -334,33 +334,4 @@ pub(crate) fn contents_fault(
         return outside;
     }
     values_fault(leaf_values)
-}
-
-// The background, and every value beside it in a table, also beside a child.
-pub(crate) fn density_fault(
-    background: f32,
-    root_values: &[f32],
-    upper_values: &[f32],
-    lower_values: &[f32],
-    leaf_values: &[f32],
-) -> u32
-    ensures { λ r. ⌜ r ≡ densityFault (gridOf background [] [] (now («root_values» .entry)) [] (now («upper_values» .entry)) [] (now («lower_values» .entry)) (now («leaf_values» .entry))) ⌝ }
-{
-    let outside = negative_fault(background);
-    if outside != 0 {
-        return outside;
-    }
-    let roots = negatives_fault(root_values);
-    if roots != 0 {
-        return roots;
-    }
-    let upper = negatives_fault(upper_values);
-    if upper != 0 {
-        return upper;
-    }
-    let lower = negatives_fault(lower_values);
-    if lower != 0 {
-        return lower;
-    }
-    negatives_fault(leaf_values)
 }

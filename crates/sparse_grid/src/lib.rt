@@ -1,10 +1,11 @@
 // A sparse grid of lent tables: entries, validate, validate_density, get_value (sparse_grid.rs).
 // A grid is its background and eight tables side by side, always in this order. A root's block is three numbers of `blocks`.
 ghost use mathlib.Core.Path.{_≡_};
+ghost use mathlib.Core.List.{[]};
 ghost use Prim.Native.Nat.{_<_};
 ghost use lib.ListN.{length};
 ghost use Rattle.sparse_grid.specs.Tables.{gridOf, entryAt};
-ghost use Rattle.sparse_grid.specs.Validate.{validate as validateS, validateDensity};
+ghost use Rattle.sparse_grid.specs.Validate.{validate as validateS, densityFault, validateDensity};
 ghost use Rattle.sparse_grid.specs.Lookup.{lookup as lookupS};
 ghost use Rattle.sparse_grid.specs.Answers.{answer, valueOnly, at};
 ghost use Rattle.sparse_grid.specs.Inner.{rootOf, Has};
@@ -13,7 +14,8 @@ mod faults;
 mod lookup;
 
 use faults::contents_fault;
-use faults::density_fault;
+use faults::negative_fault;
+use faults::negatives_fault;
 use faults::pair_fault;
 use faults::roots_fault;
 use faults::tables_fault;
@@ -109,6 +111,35 @@ pub fn validate(
         lower_values,
         leaf_values,
     )
+}
+
+// 15 where the background is negative, or a value in a table, also beside a child. Blocks and links play no part.
+pub fn density_fault(
+    background: f32,
+    root_values: &[f32],
+    upper_values: &[f32],
+    lower_values: &[f32],
+    leaf_values: &[f32],
+) -> u32
+    ensures { λ r. ⌜ r ≡ densityFault (gridOf background [] [] (now («root_values» .entry)) [] (now («upper_values» .entry)) [] (now («lower_values» .entry)) (now («leaf_values» .entry))) ⌝ }
+{
+    let outside = negative_fault(background);
+    if outside != 0 {
+        return outside;
+    }
+    let roots = negatives_fault(root_values);
+    if roots != 0 {
+        return roots;
+    }
+    let upper = negatives_fault(upper_values);
+    if upper != 0 {
+        return upper;
+    }
+    let lower = negatives_fault(lower_values);
+    if lower != 0 {
+        return lower;
+    }
+    negatives_fault(leaf_values)
 }
 
 // `validate`, and then 15 for a value below zero.

@@ -133,4 +133,4 @@ module _ (b w ul : List ℕ) (uv : List Float) (ll : List ℕ) (lv lf : List Flo
                 out-read f = λ p L Z.
                     let (n, read, holds, roots) = said (Step.the-variants.Next v) q p _ (begun p L Z) (no-roots Z) in
                     let tiled = tiles-read b p (rootPlace b) (u32At b (rootPlace b + 24)) _ n (begun p L Z .ready) read in
-                    (n, tree-read b p long (some p L) inside (claimed p L) (fewer p L) n read (sym (tests (n .state) holds) ∙ f), holds, roots, place, tiled .size ∙ sym counted)
+                    (n, tree-read b p long (some p L) inside (claimed p L) (fewer p L) n read (sym (tests (n .state) holds) ∙ f), holds, roots, place, omega arith, tiled .size ∙ sym counted)

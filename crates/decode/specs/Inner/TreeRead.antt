@@ -1,5 +1,5 @@
 -- What the contract of the tree reader says: from tables of zeros, the tree of the definition, held by the tables.
-use Prim.Native.Nat.{ℕ}
+use Prim.Native.Nat.{ℕ, _+_, _≤_}
 use mathlib.Core.Path.{_≡_}
 use mathlib.Core.List.{List, []}
 use lib.IntN.{pos}
@@ -31,5 +31,5 @@ pub record LendsAll (t : Tabs) (q : RootTabs) (p : Places) : Type 0 where
 
 abbrev pub TreeOut : List ℕ → Tabs → RootTabs → Tabs → RootTabs → Code.TreeRead → Type 0
 TreeOut b t q u v (Code.the-variants.Read x) = (p : Places) → LendsAll t q p → Zeroed t q
-    → (r : Roots) × (tree b p ≡ ok r) × Holds u (x .nodes) (r .state) [] [] × RootsHeld v (r .roots) × (x .root ≡ rootPlace b) × (length (r .roots) ≡ x .roots)
+    → (r : Roots) × (tree b p ≡ ok r) × Holds u (x .nodes) (r .state) [] [] × RootsHeld v (r .roots) × (x .root ≡ rootPlace b) × (x .root + 28 ≤ length b) × (length (r .roots) ≡ x .roots)
 TreeOut b t q u v (Code.the-variants.Refused n) = (p : Places) → LendsAll t q p → Zeroed t q → tree b p ≡ refused n

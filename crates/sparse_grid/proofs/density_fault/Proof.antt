@@ -1,4 +1,4 @@
--- `sparse_grid::faults::density_fault` meets its contract: test by test, the first fault is the answer. Assumes nothing.
+-- `sparse_grid::density_fault` meets its contract: test by test, the first fault is the answer. Assumes nothing.
 use mathlib.Core.Path.{_∙_}
 use mathlib.Core.List.{[]}
 use borrow.Author.Needs.{needs}
@@ -6,8 +6,8 @@ use Rattle.sparse_grid.specs.Tables.{gridOf}
 use Rattle.sparse_grid.specs.Validate.{negative, negativesFault}
 use Rattle.sparse_grid.proofs.Steps.{faulty, clean}
 use Rattle.sparse_grid.proofs.Whole.{fromRootValues, fromUpperValues, fromLowerValues, all-negative}
-use Rattle.sparse_grid.proofs.faults.density_fault.Statement.{statement}
-use Rattle.sparse_grid.proofs.faults.density_fault.Tie as tie
+use Rattle.sparse_grid.proofs.density_fault.Statement.{statement}
+use Rattle.sparse_grid.proofs.density_fault.Tie as tie
 
 negative-fault-requires : tie.Need-negative-fault-requires
 negative-fault-requires c κs = search needs
