@@ -74,7 +74,7 @@ fn answered(bytes: &[u8], read: TreeRead) -> Decoded
 }
 
 // Every table is set to zeros.
-fn clear(
+pub fn clear(
     blocks: &mut [i32],
     root_links: &mut [u32],
     root_values: &mut [f32],

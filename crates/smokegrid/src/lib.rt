@@ -1,11 +1,25 @@
 // The C interface (include/smokegrid.h). A slice passes as a pointer and a length, a `&mut f32` as a pointer; each function may be called with anything.
 ghost use mathlib.Core.Path.{_≡_};
+ghost use lib.ListN.{length};
 ghost use Rattle.refusals.specs.Results.{numberOf, valueOr};
 ghost use Rattle.float.specs.Zero.{+0};
 ghost use Rattle.sparse_grid.specs.Tables.{gridOf};
 ghost use Rattle.sparse_grid.specs.Validate.{validate as validateS, validateDensity};
 ghost use Rattle.sparse_grid.specs.Lookup.{lookup};
 ghost use Rattle.sparse_grid.specs.Answers.{answer, valueOnly, at};
+ghost use Rattle.decode.specs.Lent.{tables, lengths, leftOf};
+ghost use Rattle.majorant.specs.Build.{publicMaximum};
+ghost use Rattle.majorant.specs.Maxima.{maximumOf, between};
+ghost use Rattle.smokegrid.specs.Flat.{decodeFlat, countsLeft, backgroundLeft, mediumLeft, cornersLeft};
+
+mod flat;
+
+use flat::flat_fault;
+use flat::put_corners;
+use flat::put_counts;
+use flat::put_medium;
+use majorant::Maximum;
+use majorant::box_maximum;
 use sparse_grid::Answer;
 use sparse_grid::get_value;
 use sparse_grid::validate;
@@ -26,6 +40,86 @@ fn give(found: Answer, value: &mut f32) -> u32
             number
         }
     }
+}
+
+// The same of a box maximum.
+fn give_maximum(found: Maximum, value: &mut f32) -> u32
+    ensures { λ r. ⌜ r ≡ numberOf (maximumOf found) ⌝ }
+    ensures { λ _. ⌜ now (value .exit) ≡ valueOr +0 (maximumOf found) ⌝ }
+{
+    match found {
+        Maximum::Value(v) => {
+            *value = v;
+            0
+        }
+        Maximum::Refused(refusal) => {
+            *value = 0.0f32;
+            refusal
+        }
+    }
+}
+
+// Decodes a density grid into the lent tables: 0, or the number of the refusal. Counts, background, medium and corners are written through their pointers.
+#[no_mangle]
+pub extern "C" fn smokegrid_decode_density_grid(
+    bytes: &[u8],
+    blocks: &mut [i32],
+    root_links: &mut [u32],
+    root_values: &mut [f32],
+    upper_links: &mut [u32],
+    upper_values: &mut [f32],
+    lower_links: &mut [u32],
+    lower_values: &mut [f32],
+    leaf_values: &mut [f32],
+    work: &mut [u64],
+    counts: &mut [u64],
+    background: &mut f32,
+    medium: &mut [f32],
+    corners: &mut [i32],
+) -> u32
+    ensures { λ r. ⌜ r ≡ numberOf (decodeFlat (now (bytes .entry)) (lengths (tables (now (blocks .entry)) (now («root_links» .entry)) (now («root_values» .entry)) (now («upper_links» .entry)) (now («upper_values» .entry)) (now («lower_links» .entry)) (now («lower_values» .entry)) (now («leaf_values» .entry)) (now (work .entry)))) (length (now (counts .entry))) (length (now (medium .entry))) (length (now (corners .entry)))) ⌝ }
+    ensures { λ _. ⌜ tables (now (blocks .exit)) (now («root_links» .exit)) (now («root_values» .exit)) (now («upper_links» .exit)) (now («upper_values» .exit)) (now («lower_links» .exit)) (now («lower_values» .exit)) (now («leaf_values» .exit)) (now (work .exit)) ≡ leftOf (lengths (tables (now (blocks .entry)) (now («root_links» .entry)) (now («root_values» .entry)) (now («upper_links» .entry)) (now («upper_values» .entry)) (now («lower_links» .entry)) (now («lower_values» .entry)) (now («leaf_values» .entry)) (now (work .entry)))) (decodeFlat (now (bytes .entry)) (lengths (tables (now (blocks .entry)) (now («root_links» .entry)) (now («root_values» .entry)) (now («upper_links» .entry)) (now («upper_values» .entry)) (now («lower_links» .entry)) (now («lower_values» .entry)) (now («leaf_values» .entry)) (now (work .entry)))) (length (now (counts .entry))) (length (now (medium .entry))) (length (now (corners .entry)))) ⌝ }
+    ensures { λ _. ⌜ now (counts .exit) ≡ countsLeft (length (now (counts .entry))) (decodeFlat (now (bytes .entry)) (lengths (tables (now (blocks .entry)) (now («root_links» .entry)) (now («root_values» .entry)) (now («upper_links» .entry)) (now («upper_values» .entry)) (now («lower_links» .entry)) (now («lower_values» .entry)) (now («leaf_values» .entry)) (now (work .entry)))) (length (now (counts .entry))) (length (now (medium .entry))) (length (now (corners .entry)))) ⌝ }
+    ensures { λ _. ⌜ now (background .exit) ≡ backgroundLeft (decodeFlat (now (bytes .entry)) (lengths (tables (now (blocks .entry)) (now («root_links» .entry)) (now («root_values» .entry)) (now («upper_links» .entry)) (now («upper_values» .entry)) (now («lower_links» .entry)) (now («lower_values» .entry)) (now («leaf_values» .entry)) (now (work .entry)))) (length (now (counts .entry))) (length (now (medium .entry))) (length (now (corners .entry)))) ⌝ }
+    ensures { λ _. ⌜ now (medium .exit) ≡ mediumLeft (length (now (medium .entry))) (decodeFlat (now (bytes .entry)) (lengths (tables (now (blocks .entry)) (now («root_links» .entry)) (now («root_values» .entry)) (now («upper_links» .entry)) (now («upper_values» .entry)) (now («lower_links» .entry)) (now («lower_values» .entry)) (now («leaf_values» .entry)) (now (work .entry)))) (length (now (counts .entry))) (length (now (medium .entry))) (length (now (corners .entry)))) ⌝ }
+    ensures { λ _. ⌜ now (corners .exit) ≡ cornersLeft (length (now (corners .entry))) (decodeFlat (now (bytes .entry)) (lengths (tables (now (blocks .entry)) (now («root_links» .entry)) (now («root_values» .entry)) (now («upper_links» .entry)) (now («upper_values» .entry)) (now («lower_links» .entry)) (now («lower_values» .entry)) (now («leaf_values» .entry)) (now (work .entry)))) (length (now (counts .entry))) (length (now (medium .entry))) (length (now (corners .entry)))) ⌝ }
+{
+    lent::zero_u64(counts);
+    lent::zero_f32(medium);
+    lent::zero_i32(corners);
+    let fault = flat_fault(counts.len(), medium.len(), corners.len());
+    if fault != 0 {
+        *background = 0.0;
+        decode::clear(
+            blocks,
+            root_links,
+            root_values,
+            upper_links,
+            upper_values,
+            lower_links,
+            lower_values,
+            leaf_values,
+            work,
+        );
+        return fault;
+    }
+    let d = decode::decode_density_grid(
+        bytes,
+        blocks,
+        root_links,
+        root_values,
+        upper_links,
+        upper_values,
+        lower_links,
+        lower_values,
+        leaf_values,
+        work,
+    );
+    *background = d.background;
+    put_counts(counts, d);
+    put_medium(medium, d.medium);
+    put_corners(corners, d.medium);
+    d.number
 }
 
 // The number of the first fault, and 0 for none.
@@ -119,4 +213,47 @@ pub extern "C" fn smokegrid_get_value(
         z,
     );
     give(found, value)
+}
+
+// The greatest of +0.0 and the values of a box, ends included, through `value`, and 0; or the number of the refusal, and +0.0. The grid is validated first.
+#[no_mangle]
+pub extern "C" fn smokegrid_box_maximum(
+    background: f32,
+    blocks: &[i32],
+    root_links: &[u32],
+    root_values: &[f32],
+    upper_links: &[u32],
+    upper_values: &[f32],
+    lower_links: &[u32],
+    lower_values: &[f32],
+    leaf_values: &[f32],
+    lx: i32,
+    ly: i32,
+    lz: i32,
+    hx: i32,
+    hy: i32,
+    hz: i32,
+    value: &mut f32,
+) -> u32
+    ensures { λ r. ⌜ r ≡ numberOf (publicMaximum (gridOf background (now (blocks .entry)) (now («root_links» .entry)) (now («root_values» .entry)) (now («upper_links» .entry)) (now («upper_values» .entry)) (now («lower_links» .entry)) (now («lower_values» .entry)) (now («leaf_values» .entry))) (between lx ly lz hx hy hz)) ⌝ }
+    ensures { λ _. ⌜ now (value .exit) ≡ valueOr +0 (publicMaximum (gridOf background (now (blocks .entry)) (now («root_links» .entry)) (now («root_values» .entry)) (now («upper_links» .entry)) (now («upper_values» .entry)) (now («lower_links» .entry)) (now («lower_values» .entry)) (now («leaf_values» .entry))) (between lx ly lz hx hy hz)) ⌝ }
+{
+    let found = box_maximum(
+        background,
+        blocks,
+        root_links,
+        root_values,
+        upper_links,
+        upper_values,
+        lower_links,
+        lower_values,
+        leaf_values,
+        lx,
+        ly,
+        lz,
+        hx,
+        hy,
+        hz,
+    );
+    give_maximum(found, value)
 }

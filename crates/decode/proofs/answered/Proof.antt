@@ -1,4 +1,4 @@
--- `decode::answered` meets its contract. Assumes nothing.
+-- `decode::answered` meets its contract: a refusal, or the record of what was read. Assumes nothing.
 use native.Mathlib.Omega.{arith}
 use mathlib.Core.Path.{sym, ap, _∙_, subst}
 use Rattle.decode.specs.Inner.GridRead.{answerIn, RootIn}

@@ -1,4 +1,4 @@
--- `decode::clear` meets its contract. Assumes nothing.
+-- `decode::clear` meets its contract: table by table. Assumes nothing.
 use borrow.Author.Needs.{needs}
 use Rattle.decode.proofs.clear.Statement.{statement}
 use Rattle.decode.proofs.clear.Tie as tie

@@ -1,4 +1,4 @@
--- `decode::decode` meets its contract. Assumes nothing.
+-- `decode::decode` meets its contract: tables of zeros, the reader, and what it leaves. Assumes nothing.
 use mathlib.Core.Path.{ap, _∙_}
 use Rattle.decode.specs.Lent.{Lent, tables, lengths, decodeInto, answerOf, leftOf}
 use Rattle.decode.specs.Inner.GridRead.{decodeOf}

@@ -1,4 +1,4 @@
--- `decode::decode_density_grid` meets its contract. Assumes nothing.
+-- `decode::decode_density_grid` meets its contract: `decode` with 15. Assumes nothing.
 use borrow.Author.Needs.{needs}
 use Rattle.decode.proofs.decode_density_grid.Statement.{statement}
 use Rattle.decode.proofs.decode_density_grid.Tie as tie

@@ -1,4 +1,4 @@
--- `decode::decode_scalar_grid` meets its contract. Assumes nothing.
+-- `decode::decode_scalar_grid` meets its contract: `decode` without 15. Assumes nothing.
 use borrow.Author.Needs.{needs}
 use Rattle.decode.proofs.decode_scalar_grid.Statement.{statement}
 use Rattle.decode.proofs.decode_scalar_grid.Tie as tie

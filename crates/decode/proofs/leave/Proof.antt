@@ -1,4 +1,4 @@
--- `decode::leave` meets its contract. Assumes nothing.
+-- `decode::leave` meets its contract: the work table, or every table. Assumes nothing.
 use mathlib.Core.Path.{sym, ap, _∙_}
 use Rattle.decode.specs.Lent.{tables}
 use Rattle.decode.specs.Inner.GridRead.{leftIn}

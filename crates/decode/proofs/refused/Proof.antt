@@ -1,4 +1,4 @@
--- `decode::refused` meets its contract. Assumes nothing.
+-- `decode::refused` meets its contract: zeros beside the number. Assumes nothing.
 use lib.IntN.{pos}
 use lib.Ieee.{binary32}
 use mathlib.Core.List.{[], _∷_}

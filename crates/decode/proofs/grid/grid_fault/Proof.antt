@@ -1,4 +1,4 @@
--- `decode::grid::grid_fault` meets its contract. Assumes nothing.
+-- `decode::grid::grid_fault` meets its contract: the tests of the used parts, joined. Assumes nothing.
 use native.Mathlib.Omega.{arith}
 use mathlib.Core.Path.{sym}
 use lib.Seq.{length-take-le}

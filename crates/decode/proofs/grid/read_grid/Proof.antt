@@ -1,4 +1,4 @@
--- `decode::grid::read_grid` meets its contract. Assumes nothing.
+-- `decode::grid::read_grid` meets its contract: one law for each way out. Assumes nothing.
 use mathlib.Core.Path.{refl, sym, _∙_}
 use Rattle.decode.proofs.grid.Answers.{pairs, short, out-lent, paired-is, out-bytes, tree-used, out-tree, out-fault, out-accepted}
 use borrow.Author.Needs.{needs}

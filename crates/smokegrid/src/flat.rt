@@ -1,0 +1,68 @@
+// Flat arrays of the C interface: what a decode answers, stored in arrays of zeros.
+ghost use mathlib.Core.Path.{_≡_};
+ghost use Prim.Native.Nat.{_+_, _≤_};
+ghost use lib.IntN.{pos};
+ghost use lib.ListN.{length, set, replicate};
+ghost use Rattle.float.specs.Zero.{+0};
+ghost use Rattle.medium.specs.Record.{asMedium};
+ghost use Rattle.decode.specs.Answers.{answer};
+ghost use Rattle.smokegrid.specs.Flat.{countsOf, floatsOf, cornersOf, flatFault};
+use decode::Decoded;
+use medium::Medium;
+
+// 18 for an array of another length.
+pub(crate) fn flat_fault(counts: usize, medium: usize, corners: usize) -> u32
+    ensures { λ r. ⌜ r ≡ flatFault counts medium corners ⌝ }
+{
+    if counts != 4 {
+        return refusals::TABLES;
+    }
+    if medium != 18 {
+        return refusals::TABLES;
+    }
+    if corners != 6 { refusals::TABLES } else { 0 }
+}
+
+pub(crate) fn put_counts(counts: &mut [u64], d: Decoded)
+    requires { ⌜ now counts ≡ replicate 4 0 ⌝ }
+    ensures { λ _. ⌜ now (counts .exit) ≡ countsOf (answer d) ⌝ }
+{
+    counts[0] = d.roots as u64;
+    counts[1] = d.upper as u64;
+    counts[2] = d.lower as u64;
+    counts[3] = d.leaf as u64;
+}
+
+// Three numbers from `at` on.
+fn put_floats(to: &mut [f32], at: usize, x: f32, y: f32, z: f32)
+    requires { ⌜ at + 3 ≤ length (now to) ⌝ }
+    ensures { λ _. ⌜ now (to .exit) ≡ set (set (set (now (to .entry)) at x) (at + 1) y) (at + 2) z ⌝ }
+{
+    to[at] = x;
+    to[at + 1] = y;
+    to[at + 2] = z;
+}
+
+pub(crate) fn put_medium(to: &mut [f32], m: Medium)
+    requires { ⌜ now to ≡ replicate 18 +0 ⌝ }
+    ensures { λ _. ⌜ now (to .exit) ≡ floatsOf (asMedium m) ⌝ }
+{
+    put_floats(to, 0, m.low[0], m.low[1], m.low[2]);
+    put_floats(to, 3, m.high[0], m.high[1], m.high[2]);
+    put_floats(to, 6, m.map[0], m.map[1], m.map[2]);
+    put_floats(to, 9, m.map[3], m.map[4], m.map[5]);
+    put_floats(to, 12, m.map[6], m.map[7], m.map[8]);
+    put_floats(to, 15, m.translation[0], m.translation[1], m.translation[2]);
+}
+
+pub(crate) fn put_corners(to: &mut [i32], m: Medium)
+    requires { ⌜ now to ≡ replicate 6 (pos 0) ⌝ }
+    ensures { λ _. ⌜ now (to .exit) ≡ cornersOf (asMedium m) ⌝ }
+{
+    to[0] = m.index_low[0];
+    to[1] = m.index_low[1];
+    to[2] = m.index_low[2];
+    to[3] = m.index_high[0];
+    to[4] = m.index_high[1];
+    to[5] = m.index_high[2];
+}
