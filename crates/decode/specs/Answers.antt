@@ -1,6 +1,6 @@
 -- What the code's answer says: the record of the definition, with the medium that its arrays are.
 use Rattle.medium.specs.Record.{asMedium}
-use Rattle.decode.specs.Lent.{Answer}
+use Rattle.nanovdb.specs.Lent.{Answer}
 use Rattle.decode.specs.declared.Decoded as Code
 
 abbrev pub answer : Code.Decoded → Answer

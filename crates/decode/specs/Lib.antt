@@ -1,16 +1,2 @@
-pub mod Spans
-pub mod Nodes
-pub mod Inner
-pub mod Tree
-pub mod Decode
-pub mod Lent
 pub mod Answers
-pub mod Agreement
-pub mod Growth
-pub mod Held
-pub mod HeldNodes
-pub mod Keys
-pub mod HeldTiles
-pub mod Passed
-pub mod Lookups
-pub mod Examples
+pub mod Inner

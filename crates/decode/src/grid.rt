@@ -2,7 +2,7 @@
 ghost use mathlib.Core.Path.{_≡_};
 ghost use Prim.Native.Nat.{_<_};
 ghost use lib.ListN.{length};
-ghost use Rattle.decode.specs.Lent.{lentFault, tables};
+ghost use Rattle.nanovdb.specs.Lent.{lentFault, tables};
 ghost use Rattle.decode.specs.Inner.Filled.{tabs};
 ghost use Rattle.decode.specs.Inner.Rooted.{rootTabs};
 ghost use Rattle.decode.specs.Inner.TreeRead.{Zeroed};

@@ -6,7 +6,7 @@ ghost use lib.Dec.{eqb};
 ghost use Rattle.float.specs.Fused.{narrow as narrowS};
 ghost use Rattle.layout.specs.Bytes.{f64At};
 ghost use Rattle.medium.specs.Record.{asMedium};
-ghost use Rattle.decode.specs.Decode.{markPasses, headerPasses, boundAt, mediumAt, bytesFault};
+ghost use Rattle.nanovdb.specs.Decode.{markPasses, headerPasses, boundAt, mediumAt, bytesFault};
 use medium::Medium;
 use refusals::both;
 

@@ -1,8 +1,8 @@
 // From the bytes to the tables (nanovdb.rs, Decoder).
 ghost use mathlib.Core.Path.{_≡_};
 ghost use Rattle.refusals.specs.Results.{refused as refusedS};
-ghost use Rattle.decode.specs.Decode.{decodeScalar, decodeDensity};
-ghost use Rattle.decode.specs.Lent.{tables, lengths, zeros, decodeInto, answerOf, leftOf};
+ghost use Rattle.nanovdb.specs.Decode.{decodeScalar, decodeDensity};
+ghost use Rattle.nanovdb.specs.Lent.{tables, lengths, zeros, decodeInto, answerOf, leftOf};
 ghost use Rattle.decode.specs.Answers.{answer};
 ghost use Rattle.decode.specs.Inner.GridRead.{decodeOf, answerIn, leftIn, RootIn};
 

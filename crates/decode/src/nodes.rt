@@ -3,7 +3,7 @@ ghost use mathlib.Core.Path.{_≡_};
 ghost use Prim.Native.Nat.{ℕ, _+_, _-_, _*_, _/_, _<_, _≤_, _^_};
 ghost use lib.ListN.{length};
 ghost use Rattle.layout.specs.Bytes.{signed, f32At};
-ghost use Rattle.decode.specs.Nodes.{entriesOf, maskOf, tableOf, childTarget};
+ghost use Rattle.nanovdb.specs.Nodes.{entriesOf, maskOf, tableOf, childTarget};
 ghost use Rattle.decode.specs.Inner.Filled.{ofTarget, countIn, placesIn, grownBy, roomIn, atUpper, atLower, LeafFilled, tabs, Fit, NodeOut, SlotOut};
 use crate::spans;
 use crate::spans::Entered;

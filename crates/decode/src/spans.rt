@@ -5,7 +5,7 @@ ghost use mathlib.Core.List.{List, [], _∷_, _++_};
 ghost use Prim.Native.Nat.{ℕ, _+_, _-_, _*_, _/_, _%_, _<_, _≤_, _^_};
 ghost use lib.ListN.{length, getD};
 ghost use lib.Dec.{ltb, eqb};
-ghost use Rattle.decode.specs.Spans.{overlaps, seen};
+ghost use Rattle.nanovdb.specs.Spans.{overlaps, seen};
 ghost use Rattle.decode.specs.Inner.WorkTable.{size, spans, nodes, headerSpan, rootSpan, chainIn, Rep, MetIn, MetAt, FoundIn, seenOf, Small, putS, Pushed, ClaimOut, RootOut, EnterOut};
 
 pub enum Found {

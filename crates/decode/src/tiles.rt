@@ -5,7 +5,7 @@ ghost use mathlib.Core.Bool.{_&&_};
 ghost use Prim.Native.Nat.{ℕ, _+_, _*_, _/_, _%_, _<_, _≤_, _^_};
 ghost use lib.ListN.{length};
 ghost use Rattle.layout.specs.Bytes.{signed};
-ghost use Rattle.decode.specs.Tree.{keyPasses};
+ghost use Rattle.nanovdb.specs.Tree.{keyPasses};
 ghost use Rattle.decode.specs.Inner.Filled.{tabs, Fit};
 ghost use Rattle.decode.specs.Inner.Rooted.{rootTabs, RootPut, TileOut, TilesOut};
 use crate::nodes;

@@ -4,22 +4,22 @@ ghost use lib.IntN.{pos};
 ghost use lib.ListN.{length, replicate};
 ghost use Rattle.float.specs.Zero.{+0};
 
-pub fn zero_i32(s: &mut [i32])
-    ensures { λ _. ⌜ now (s .exit) ≡ replicate (length (now (s .entry))) (pos 0) ⌝ }
+pub fn zero_i32(numbers: &mut [i32])
+    ensures { λ _. ⌜ now (numbers .exit) ≡ replicate (length (now (numbers .entry))) (pos 0) ⌝ }
 {
     let mut i: usize = 0;
-    while i < s.len() {
-        s[i] = 0;
+    while i < numbers.len() {
+        numbers[i] = 0;
         i += 1;
     }
 }
 
-pub fn zero_u32(s: &mut [u32])
-    ensures { λ _. ⌜ now (s .exit) ≡ replicate (length (now (s .entry))) 0 ⌝ }
+pub fn zero_u32(links: &mut [u32])
+    ensures { λ _. ⌜ now (links .exit) ≡ replicate (length (now (links .entry))) 0 ⌝ }
 {
     let mut i: usize = 0;
-    while i < s.len() {
-        s[i] = 0;
+    while i < links.len() {
+        links[i] = 0;
         i += 1;
     }
 }

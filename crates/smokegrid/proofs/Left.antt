@@ -10,8 +10,8 @@ use Rattle.refusals.specs.Results.{Result, ok, refused, numberOf}
 use Rattle.refusals.specs.Faults.{passing}
 use Rattle.refusals.specs.FaultLaws.{unless-zero}
 use Rattle.refusals.specs.TestLaws.{and-l, and-r}
-use Rattle.decode.specs.Decode.{Accepted, decodeDensity}
-use Rattle.decode.specs.Lent.{Lent, Answer, answerOf, decodeInto}
+use Rattle.nanovdb.specs.Decode.{Accepted, decodeDensity}
+use Rattle.nanovdb.specs.Lent.{Lent, Answer, answerOf, decodeInto}
 use Rattle.smokegrid.specs.Flat.{countsOf, floatsOf, cornersOf, flatFault, decodeFlat, countsLeft, backgroundLeft, mediumLeft, cornersLeft}
 
 -- the arrays have their lengths where there is no fault

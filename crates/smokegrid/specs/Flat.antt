@@ -10,8 +10,8 @@ use Rattle.refusals.specs.Results.{Result, ok, refused}
 use Rattle.refusals.specs.Faults.{unless, passing}
 use Rattle.float.specs.Zero.{+0}
 use Rattle.medium.specs.Medium.{Medium}
-use Rattle.decode.specs.Decode.{Accepted, decodeDensity}
-use Rattle.decode.specs.Lent.{Lent, Answer, answerOf, decodeInto}
+use Rattle.nanovdb.specs.Decode.{Accepted, decodeDensity}
+use Rattle.nanovdb.specs.Lent.{Lent, Answer, answerOf, decodeInto}
 
 -- roots, upper, lower and leaf nodes used
 abbrev pub countsOf : Answer → List ℕ

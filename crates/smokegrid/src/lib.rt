@@ -7,7 +7,7 @@ ghost use Rattle.sparse_grid.specs.Tables.{gridOf};
 ghost use Rattle.sparse_grid.specs.Validate.{validate as validateS, validateDensity};
 ghost use Rattle.sparse_grid.specs.Lookup.{lookup};
 ghost use Rattle.sparse_grid.specs.Answers.{answer, valueOnly, at};
-ghost use Rattle.decode.specs.Lent.{tables, lengths, leftOf};
+ghost use Rattle.nanovdb.specs.Lent.{tables, lengths, leftOf};
 ghost use Rattle.majorant.specs.Build.{publicMaximum};
 ghost use Rattle.majorant.specs.Maxima.{maximumOf, between};
 ghost use Rattle.smokegrid.specs.Flat.{decodeFlat, countsLeft, backgroundLeft, mediumLeft, cornersLeft};

@@ -12,9 +12,9 @@ use Rattle.layout.specs.Coordinates.{Coord, Signed32}
 use Rattle.layout.specs.Walk.{voxel}
 use Rattle.sparse_grid.specs.Lookup.{lookup}
 use Rattle.medium.specs.Medium.{Medium, Point}
-use Rattle.decode.specs.Nodes.{Places}
-use Rattle.decode.specs.Decode.{Accepted, decodeDensity, mediumOf}
-use Rattle.decode.specs.Agreement.{ReadsAs}
+use Rattle.nanovdb.specs.Nodes.{Places}
+use Rattle.nanovdb.specs.Decode.{Accepted, decodeDensity, mediumOf}
+use Rattle.nanovdb.specs.Agreement.{ReadsAs}
 use Rattle.majorant.specs.Boxes.{Box, Greatest, boxMaximum}
 use Rattle.majorant.specs.Cells.{Cells, Between, EnclosesIn, AroundIn}
 use Rattle.majorant.specs.Build.{build, publicMaximum}

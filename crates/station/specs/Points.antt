@@ -7,7 +7,7 @@ use lib.Dec.{T, lit<, lit≤}
 use lib.ListN.{getD}
 use lib.Ieee.{Float, binary32, binary64, ofBits, lt, le, fits}
 use Rattle.float.specs.Integer.{floorZ}
-use Rattle.decode.specs.Passed.{density-passed}
+use Rattle.nanovdb.specs.Passed.{density-passed}
 use Rattle.sparse_grid.specs.Lookup.{lookup}
 use Rattle.float.specs.Numbers.{narrow-fits}
 use Rattle.float.specs.Zero.{+0}
@@ -19,9 +19,9 @@ use Rattle.layout.specs.Coordinates.{Coord, Signed32}
 use Rattle.layout.specs.Walk.{voxel}
 use Rattle.sparse_grid.specs.Lookup.{readIn}
 use Rattle.medium.specs.Medium.{Point, Medium, Axis, onPoint, onCoord}
-use Rattle.decode.specs.Nodes.{Places}
-use Rattle.decode.specs.Decode.{Accepted, decodeDensity, mediumOf, mediumAt}
-use Rattle.decode.specs.Agreement.{ReadsAs}
+use Rattle.nanovdb.specs.Nodes.{Places}
+use Rattle.nanovdb.specs.Decode.{Accepted, decodeDensity, mediumOf, mediumAt}
+use Rattle.nanovdb.specs.Agreement.{ReadsAs}
 use Rattle.majorant.specs.Cells.{corner, Cells, cellAxis, cellCorner, Between, AroundIn, EnclosesIn}
 use Rattle.majorant.specs.Index.{worldToIndex}
 use Rattle.majorant.specs.Build.{build, publicMaximum}

@@ -1,7 +1,7 @@
 -- The one claim, proved over the definitions that the contracts cite. Assumes nothing.
 use mathlib.Core.Path.{ap}
 use Rattle.sparse_grid.specs.Lookup.{valueIn}
-use Rattle.decode.specs.Lookups.{lookups, reads}
+use Rattle.nanovdb.specs.Lookups.{lookups, reads}
 use Rattle.station.specs.Claim.{Demand3}
 use Rattle.station.specs.Points.{holds}
 

@@ -1,6 +1,6 @@
 -- `decode::decode` meets its contract: tables of zeros, the reader, and what it leaves. Assumes nothing.
 use mathlib.Core.Path.{ap, _∙_}
-use Rattle.decode.specs.Lent.{Lent, tables, lengths, decodeInto, answerOf, leftOf}
+use Rattle.nanovdb.specs.Lent.{Lent, tables, lengths, decodeInto, answerOf, leftOf}
 use Rattle.decode.specs.Inner.GridRead.{decodeOf}
 use Rattle.decode.proofs.grid.Zeros.{zeroed, lengths-kept}
 use borrow.Author.Needs.{needs}

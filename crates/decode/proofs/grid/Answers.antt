@@ -16,11 +16,11 @@ use Rattle.refusals.specs.FaultLaws.{then-zero, unless-zero}
 use Rattle.refusals.specs.TestLaws.{and-l, and-r}
 use Rattle.layout.specs.Bytes.{f32At}
 use Rattle.medium.specs.Medium.{Medium}
-use Rattle.decode.specs.Nodes.{Places}
-use Rattle.decode.specs.Tree.{Roots, tree}
-use Rattle.decode.specs.Decode.{Accepted, bytesFault, rootPlace, mediumAt}
-use Rattle.decode.specs.HeldTiles.{tree-holds}
-use Rattle.decode.specs.Lent.{Answer, Lent, Tables, tables, lengths, zeros, lentFault, placesOf, decodeInto, answerOf, leftOf}
+use Rattle.nanovdb.specs.Nodes.{Places}
+use Rattle.nanovdb.specs.Tree.{Roots, tree}
+use Rattle.nanovdb.specs.Decode.{Accepted, bytesFault, rootPlace, mediumAt}
+use Rattle.nanovdb.specs.HeldTiles.{tree-holds}
+use Rattle.nanovdb.specs.Lent.{Answer, Lent, Tables, tables, lengths, zeros, lentFault, placesOf, decodeInto, answerOf, leftOf}
 use Rattle.decode.specs.Inner.Filled.{Tabs, tabs, Holds}
 use Rattle.decode.specs.Inner.Rooted.{RootTabs, rootTabs, RootsHeld}
 use Rattle.decode.specs.Inner.TreeRead.{Zeroed, LendsAll, TreeOut}

@@ -10,7 +10,7 @@ use Rattle.refusals.specs.FaultSteps.{then-stop}
 use Rattle.sparse_grid.specs.Tables.{gridOf}
 use Rattle.sparse_grid.specs.Validate.{validate, densityFault}
 use Rattle.medium.specs.Medium.{Medium, each, indexFault, mapFault}
-use Rattle.decode.specs.Decode.{Accepted, treeFault}
+use Rattle.nanovdb.specs.Decode.{Accepted, treeFault}
 use Rattle.decode.specs.Inner.GridRead.{gridFault}
 
 differ : true ≡ false → ⊥

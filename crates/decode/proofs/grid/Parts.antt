@@ -12,11 +12,11 @@ use Rattle.lent.specs.Padded.{padded}
 use Rattle.lent.specs.PaddedLaws.{padded-take, padded-fits}
 use Rattle.layout.specs.Bytes.{f32At}
 use Rattle.sparse_grid.specs.declared.Entry.{Entry}
-use Rattle.decode.specs.Nodes.{State}
-use Rattle.decode.specs.Tree.{Root, Roots}
-use Rattle.decode.specs.Decode.{linkOf, valueOf, blocksOf, tablesOf, mediumAt, mediumOf, rootPlace}
-use Rattle.decode.specs.Lent.{Answer, Lent, Tables, tables, lengths, answerOf, leftOf}
-use Rattle.decode.specs.HeldNodes.{Inv2}
+use Rattle.nanovdb.specs.Nodes.{State}
+use Rattle.nanovdb.specs.Tree.{Root, Roots}
+use Rattle.nanovdb.specs.Decode.{linkOf, valueOf, blocksOf, tablesOf, mediumAt, mediumOf, rootPlace}
+use Rattle.nanovdb.specs.Lent.{Answer, Lent, Tables, tables, lengths, answerOf, leftOf}
+use Rattle.nanovdb.specs.HeldNodes.{Inv2}
 use Rattle.decode.specs.Inner.Filled.{Tabs, Holds}
 use Rattle.decode.specs.Inner.Rooted.{RootTabs, RootsHeld}
 use Rattle.decode.specs.Inner.GridRead.{usedIn, Used, allTables, workless, answerIn}

@@ -9,10 +9,10 @@ use Rattle.refusals.specs.Faults.{_then_, passing}
 use Rattle.refusals.specs.FaultLaws.{then-zero}
 use Rattle.refusals.specs.FaultSteps.{then-next, then-stop}
 use Rattle.sparse_grid.specs.Validate.{densityFault}
-use Rattle.decode.specs.Nodes.{Places}
-use Rattle.decode.specs.Tree.{Roots, tree}
-use Rattle.decode.specs.Decode.{Accepted, tablesOf, mediumOf, bytesFault, treeFault, decodeScalar, decodeDensity}
-use Rattle.decode.specs.Lent.{Lent, lentFault, placesOf, decodeInto}
+use Rattle.nanovdb.specs.Nodes.{Places}
+use Rattle.nanovdb.specs.Tree.{Roots, tree}
+use Rattle.nanovdb.specs.Decode.{Accepted, tablesOf, mediumOf, bytesFault, treeFault, decodeScalar, decodeDensity}
+use Rattle.nanovdb.specs.Lent.{Lent, lentFault, placesOf, decodeInto}
 use Rattle.decode.specs.Inner.GridRead.{decodeOf, gridFault}
 
 -- what a tree gives

@@ -6,7 +6,7 @@ use lib.IntN.{ℤ, pos}
 use lib.ListN.{length, replicate, length-replicate}
 use lib.Ieee.{Float}
 use Rattle.float.specs.Zero.{+0}
-use Rattle.decode.specs.Lent.{Lent, Tables, tables, lengths, zeros}
+use Rattle.nanovdb.specs.Lent.{Lent, Tables, tables, lengths, zeros}
 use Rattle.decode.specs.Inner.Filled.{tabs}
 use Rattle.decode.specs.Inner.Rooted.{rootTabs}
 use Rattle.decode.specs.Inner.TreeRead.{Zeroed}

@@ -10,7 +10,7 @@ use lib.Ieee.{Float}
 use borrow.Author.Tests.{lt-ltb, le-ltb, le-leb, lt-leb}
 use Rattle.layout.specs.Bytes.{i32At, f32At}
 use Rattle.medium.specs.Medium.{Medium, each, boundsFault}
-use Rattle.decode.specs.Decode.{boundAt, mediumAt, mediumOf, headerPasses, bytesFault}
+use Rattle.nanovdb.specs.Decode.{boundAt, mediumAt, mediumOf, headerPasses, bytesFault}
 
 pub medium-is : (b : List ℕ) (root : ℕ) {l₀ l₁ l₂ h₀ h₁ h₂ m₀ m₁ m₂ m₃ m₄ m₅ m₆ m₇ m₈ t₀ t₁ t₂ : Float} {i₀ i₁ i₂ j₀ j₁ j₂ : ℤ}
     → l₀ ≡ boundAt b 560 → l₁ ≡ boundAt b 568 → l₂ ≡ boundAt b 576 → h₀ ≡ boundAt b 584 → h₁ ≡ boundAt b 592 → h₂ ≡ boundAt b 600

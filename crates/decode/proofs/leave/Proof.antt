@@ -1,6 +1,6 @@
 -- `decode::leave` meets its contract: the work table, or every table. Assumes nothing.
 use mathlib.Core.Path.{sym, ap, _∙_}
-use Rattle.decode.specs.Lent.{tables}
+use Rattle.nanovdb.specs.Lent.{tables}
 use Rattle.decode.specs.Inner.GridRead.{leftIn}
 use borrow.Author.Needs.{needs}
 use Rattle.decode.proofs.leave.Statement.{statement}

@@ -7,9 +7,9 @@ use lib.ListN.{length}
 use lib.Ieee.{Float}
 use Rattle.refusals.specs.Results.{ok}
 use Rattle.sparse_grid.specs.declared.Entry.{Entry}
-use Rattle.decode.specs.Spans.{Span, nowhere, seen}
-use Rattle.decode.specs.Nodes.{byLevel, Places, State, claim, withSpan, entriesOf, nodesAt, placesAt, leafPlaced, placed, slotsRead, node}
-use Rattle.decode.specs.HeldNodes.{spanOf, opening}
+use Rattle.nanovdb.specs.Spans.{Span, nowhere, seen}
+use Rattle.nanovdb.specs.Nodes.{byLevel, Places, State, claim, withSpan, entriesOf, nodesAt, placesAt, leafPlaced, placed, slotsRead, node}
+use Rattle.nanovdb.specs.HeldNodes.{spanOf, opening}
 use Rattle.decode.specs.Inner.WorkTable.{size, spans, nodeSpan, EnterOut, ClaimOut}
 use Rattle.decode.specs.Inner.Filled.{countIn, placesIn, grownBy, LeafFilled, Tabs, tabs, Fit, NodeFit, Holds, Lends, Reads, NodeOut, SlotOut}
 use Rattle.decode.specs.declared.spans.Spans.{Spans}

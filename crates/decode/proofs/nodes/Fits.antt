@@ -9,8 +9,8 @@ use lib.ListN.{length, drop, replicate, length-replicate}
 use lib.Ieee.{Float}
 use Rattle.refusals.specs.Results.{ok, need}
 use Rattle.refusals.specs.ResultLaws.{need-ok}
-use Rattle.decode.specs.Spans.{overlaps}
-use Rattle.decode.specs.Nodes.{byLevel, Places, State, claim, withSpan}
+use Rattle.nanovdb.specs.Spans.{overlaps}
+use Rattle.nanovdb.specs.Nodes.{byLevel, Places, State, claim, withSpan}
 use Rattle.decode.specs.Inner.WorkTable.{nodes, spans, size, headerSpan, rootSpan, nodeSpan, ClaimOut}
 use Rattle.decode.specs.Inner.Packed.{Packed, packed-more, packed-few, no-either}
 use Rattle.decode.specs.Inner.Filled.{tabs, Fit, countIn, grownBy, placesIn, roomIn}

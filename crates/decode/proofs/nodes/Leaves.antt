@@ -10,8 +10,8 @@ use Rattle.float.specs.Zero.{+0}
 use Rattle.lent.specs.Padded.{padded}
 use Rattle.lent.specs.PaddedLaws.{padded-push}
 use Rattle.layout.specs.Bytes.{f32At}
-use Rattle.decode.specs.Nodes.{leafValues}
-use Rattle.decode.specs.Held.{leafValues-length}
+use Rattle.nanovdb.specs.Nodes.{leafValues}
+use Rattle.nanovdb.specs.Held.{leafValues-length}
 use Rattle.decode.specs.Inner.Filled.{LeafFilled}
 
 -- the first i values stand behind base values

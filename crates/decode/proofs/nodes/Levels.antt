@@ -2,7 +2,7 @@
 use mathlib.Core.Path.{_≡_, refl}
 use Prim.Native.Nat.{ℕ, zero, suc, _-_, _<_}
 use native.Mathlib.Omega.{arith}
-use Rattle.decode.specs.Nodes.{byLevel}
+use Rattle.nanovdb.specs.Nodes.{byLevel}
 
 pub at-leaf : {A : Type 0} (level : ℕ) (a b c : A) → level ≡ 0 → a ≡ byLevel level a b c
 at-leaf zero a b c e = refl

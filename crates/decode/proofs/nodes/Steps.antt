@@ -9,9 +9,9 @@ use Rattle.refusals.specs.Results.{Result, ok, refused, bind}
 use Rattle.refusals.specs.ResultLaws.{run-more, run-stop}
 use Rattle.layout.specs.Bytes.{u64At, i64At, f32At, maskBit}
 use Rattle.sparse_grid.specs.declared.Entry.the-variants.{Child, Tile}
-use Rattle.decode.specs.Spans.{at, nowhere, seen}
-use Rattle.decode.specs.Nodes.{Places, State, Read, Slots, Reader, claim, withSpan, childTarget, entriesOf, maskOf, tableOf, nodesAt, placesAt, slotRead, slotsRead, placed, leafPlaced, opened, again, node}
-use Rattle.decode.specs.HeldNodes.{spanOf, opening}
+use Rattle.nanovdb.specs.Spans.{at, nowhere, seen}
+use Rattle.nanovdb.specs.Nodes.{Places, State, Read, Slots, Reader, claim, withSpan, childTarget, entriesOf, maskOf, tableOf, nodesAt, placesAt, slotRead, slotsRead, placed, leafPlaced, opened, again, node}
+use Rattle.nanovdb.specs.HeldNodes.{spanOf, opening}
 
 -- ---- one slot
 

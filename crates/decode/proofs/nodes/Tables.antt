@@ -11,9 +11,9 @@ use Rattle.lent.specs.Padded.{padded}
 use Rattle.lent.specs.PaddedLaws.{padded-push, padded-zero}
 use Rattle.sparse_grid.specs.declared.Entry.{Entry}
 use Rattle.sparse_grid.specs.declared.Entry.the-variants.{Child, Tile}
-use Rattle.decode.specs.Nodes.{byLevel, Places, State, Read, Slots, entriesOf, nodesAt, leafValues, leafPlaced, placed, slotsRead, node}
-use Rattle.decode.specs.Decode.{linkOf, valueOf}
-use Rattle.decode.specs.HeldNodes.{spanOf, opening, lower-filled, upper-filled, read-leaf, read-lower}
+use Rattle.nanovdb.specs.Nodes.{byLevel, Places, State, Read, Slots, entriesOf, nodesAt, leafValues, leafPlaced, placed, slotsRead, node}
+use Rattle.nanovdb.specs.Decode.{linkOf, valueOf}
+use Rattle.nanovdb.specs.HeldNodes.{spanOf, opening, lower-filled, upper-filled, read-leaf, read-lower}
 use Rattle.decode.specs.Inner.WorkTable.{spans, size, Pushed}
 use Rattle.decode.specs.Inner.Filled.{countIn, grownBy, roomIn, atLower, atUpper, LeafFilled, tabs, Holds, Ready, Shut, lowerOpen, upperOpen, before}
 use Rattle.decode.specs.declared.spans.Spans.{Spans}

@@ -6,7 +6,7 @@ use lib.IntN.{pos, negsuc}
 use borrow.Author.Tests.{lt-ltb, le-ltb, eq-eqb, ne-eqb}
 use Rattle.refusals.specs.Results.{ok, refused}
 use Rattle.layout.specs.Bytes.{signed}
-use Rattle.decode.specs.Nodes.{childTarget}
+use Rattle.nanovdb.specs.Nodes.{childTarget}
 
 module _ (base bits : ℕ) where
   rises : bits < 9223372036854775808 → signed 64 bits ≡ pos bits

@@ -8,7 +8,7 @@ use lib.Ieee.{Float}
 use Rattle.refusals.specs.Results.{ok, refused}
 use Rattle.layout.specs.Bytes.{u64At, i64At, f32At, maskBit}
 use Rattle.sparse_grid.specs.declared.Entry.{Entry}
-use Rattle.decode.specs.Nodes.{Places, State, Slots, childTarget, maskOf, tableOf, slotRead, slotsRead, node}
+use Rattle.nanovdb.specs.Nodes.{Places, State, Slots, childTarget, maskOf, tableOf, slotRead, slotsRead, node}
 use Rattle.decode.specs.Inner.WorkTable.{spans}
 use Rattle.decode.specs.Inner.Filled.{ofTarget, roomIn, atLower, atUpper, tabs, Fit, Kept, Holds, Lends, Ready, Reads, NodeOut, lowerOpen, upperOpen, before, ReadsSlot, SlotOut}
 use Rattle.decode.specs.declared.spans.Entered.the-variants.{Stop}

@@ -7,8 +7,8 @@ use native.Mathlib.Omega.{arith}
 use lib.ListN.{length, length-append}
 use lib.Dec.{ltb}
 use borrow.Author.Tests.{lt-ltb, le-ltb, le-leb, lt-leb}
-use Rattle.decode.specs.Nodes.{State, claim, withSpan}
-use Rattle.decode.specs.Spans.{Span, overlaps, Seen, at, nowhere}
+use Rattle.nanovdb.specs.Nodes.{State, claim, withSpan}
+use Rattle.nanovdb.specs.Spans.{Span, overlaps, Seen, at, nowhere}
 use Rattle.refusals.specs.Results.{ok, refused}
 use Rattle.decode.specs.declared.spans.Spans.{Spans}
 use Rattle.decode.specs.declared.spans.Found.{Found}

@@ -9,7 +9,7 @@ use native.Mathlib.Omega.{arith}
 use lib.ListN.{length}
 use lib.Dec.{ltb, eqb}
 use borrow.Author.Tests.{lt-ltb, le-ltb, ltb-true, ltb-false, ne-eqb, eqb-true}
-use Rattle.decode.specs.Spans.{Span, Seen, at, nowhere, overlaps, seen}
+use Rattle.nanovdb.specs.Spans.{Span, Seen, at, nowhere, overlaps, seen}
 use Rattle.decode.specs.Inner.WorkTable.{nodeStart, nodeLevel, nodeNumber, chainLink, chainHead, size, spanAt, nodes, headerSpan, rootSpan, spans, chainIn, chainOf, Rep, over, hits, MetIn, MetAt, FoundIn}
 
 -- ---- tests

@@ -4,8 +4,8 @@ use mathlib.Core.List.{List, [], _∷_, _++_}
 use Prim.Native.Nat.{ℕ, zero, suc, _/_, _<_}
 use lib.ListN.{length}
 use borrow.Author.Tests.{lt-ltb}
-use Rattle.decode.specs.Nodes.{State, Places, claim, withSpan, node, nodesAt, placesAt, counted, leafPlaced}
-use Rattle.decode.specs.Spans.{Span, nowhere, seen}
+use Rattle.nanovdb.specs.Nodes.{State, Places, claim, withSpan, node, nodesAt, placesAt, counted, leafPlaced}
+use Rattle.nanovdb.specs.Spans.{Span, nowhere, seen}
 use Rattle.refusals.specs.Results.{ok, refused}
 use Rattle.decode.specs.declared.spans.Spans.{Spans}
 use Rattle.decode.specs.declared.spans.Entered.the-variants.{Again, Fresh, Stop}

@@ -11,7 +11,7 @@ use lib.ListN.{length, getD, set, length-set}
 use lib.Seq.{getD-set-same, getD-set-other}
 use lib.Dec.{eqb}
 use borrow.Author.Tests.{eqb-true, eqb-false}
-use Rattle.decode.specs.Spans.{overlaps}
+use Rattle.nanovdb.specs.Spans.{overlaps}
 use Rattle.decode.specs.Inner.WorkTable.{nodeStart, nodeLevel, nodeNumber, chainLink, chainHead, size, spanAt, nodes, spans, chainIn, chainOf, Last, Rep, putS, Pushed}
 use Rattle.decode.specs.declared.spans.Spans.{Spans}
 use Rattle.decode.proofs.spans.Laws.{split, clear-of}

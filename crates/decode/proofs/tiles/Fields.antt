@@ -13,7 +13,7 @@ use mir.Facts.{toZ-ofZ, toZ-pos}
 use borrow.Author.Tests.{lt-ltb, le-ltb, eq-eqb, ne-eqb}
 use Rattle.layout.specs.Bytes.{signed}
 use Rattle.layout.specs.FieldLaws.{signed-low, signed-high}
-use Rattle.decode.specs.Tree.{keyPasses}
+use Rattle.nanovdb.specs.Tree.{keyPasses}
 
 pub field-low : (bits : ℕ) → bits < 524288 → toZ w32 bits ≡ signed 20 bits
 field-low bits h = toZ-pos w32 (omega arith) ∙ sym (signed-low 20 bits h)

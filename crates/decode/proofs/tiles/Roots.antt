@@ -11,8 +11,8 @@ use Rattle.lent.specs.Padded.{padded}
 use Rattle.lent.specs.PaddedLaws.{padded-push}
 use Rattle.layout.specs.Bytes.{signed}
 use Rattle.sparse_grid.specs.declared.Entry.{Entry}
-use Rattle.decode.specs.Tree.{Root, field, rootOf}
-use Rattle.decode.specs.Decode.{linkOf, valueOf, blocksOf}
+use Rattle.nanovdb.specs.Tree.{Root, field, rootOf}
+use Rattle.nanovdb.specs.Decode.{linkOf, valueOf, blocksOf}
 use Rattle.decode.specs.Inner.Rooted.{rootTabs, RootPut}
 use Rattle.decode.proofs.nodes.Tables.{map-snoc}
 

@@ -13,9 +13,9 @@ use Rattle.refusals.specs.ResultLaws.{run-more, run-stop}
 use Rattle.float.specs.Zero.{+0}
 use Rattle.layout.specs.Bytes.{signed, u64At, i64At, f32At}
 use Rattle.sparse_grid.specs.declared.Entry.the-variants.{Child, Tile}
-use Rattle.decode.specs.Nodes.{Places, State, Read, childTarget, node}
-use Rattle.decode.specs.Tree.{Roots, rootOf, keyPasses, tileRead, tilesRead}
-use Rattle.decode.specs.HeldTiles.{tiles-read}
+use Rattle.nanovdb.specs.Nodes.{Places, State, Read, childTarget, node}
+use Rattle.nanovdb.specs.Tree.{Roots, rootOf, keyPasses, tileRead, tilesRead}
+use Rattle.nanovdb.specs.HeldTiles.{tiles-read}
 use Rattle.decode.specs.Inner.Filled.{ofTarget, tabs, Fit, Kept, Holds, Reads, NodeFit, NodeSays, NodeOut, SlotFit}
 use Rattle.decode.specs.Inner.Rooted.{rootTabs, RootsHeld, RootPut, TileSays, TileOut, TilesOut}
 use Rattle.decode.specs.declared.nodes.State as Progress

@@ -12,9 +12,9 @@ use Rattle.refusals.specs.Results.{ok}
 use Rattle.float.specs.Zero.{+0}
 use Rattle.lent.specs.PaddedLaws.{padded-none}
 use Rattle.layout.specs.Bytes.{u32At, u64At}
-use Rattle.decode.specs.Nodes.{Places, State, empty, withSpan, claim}
-use Rattle.decode.specs.Decode.{rootPlace, blocksOf}
-use Rattle.decode.specs.HeldTiles.{start, tiles-read}
+use Rattle.nanovdb.specs.Nodes.{Places, State, empty, withSpan, claim}
+use Rattle.nanovdb.specs.Decode.{rootPlace, blocksOf}
+use Rattle.nanovdb.specs.HeldTiles.{start, tiles-read}
 use Rattle.decode.specs.Inner.WorkTable.{headerSpan, rootSpan, nodes, spans, RootOut}
 use Rattle.decode.specs.Inner.Packed.{Packed}
 use Rattle.decode.specs.Inner.Filled.{tabs, Fit, Holds, Reads}
@@ -72,7 +72,7 @@ module _ (b w ul : List ℕ) (uv : List Float) (ll : List ℕ) (lv lf : List Flo
 
           claimed : (p : Places) → LendsAll (tabs w ul uv ll lv lf) (rootTabs blocks rl rv) p
               → claim b p (withSpan empty headerSpan) (rootSpan (rootPlace b) (rootPlace b + 64 + 32 * u32At b (rootPlace b + 24))) ≡ ok (withSpan (withSpan empty headerSpan) (rootSpan (rootPlace b) (rootPlace b + 64 + 32 * u32At b (rootPlace b + 24))))
-          claimed p L = subst (λ (x : Rattle.decode.specs.Spans.Span). claim b p (withSpan empty headerSpan) x ≡ ok (withSpan (withSpan empty headerSpan) x)) (λ i. rootSpan (place i) (end i)) (granted .1 b p (withSpan empty headerSpan) refl (L .nodes .spans) refl)
+          claimed p L = subst (λ (x : Rattle.nanovdb.specs.Spans.Span). claim b p (withSpan empty headerSpan) x ≡ ok (withSpan (withSpan empty headerSpan) x)) (λ i. rootSpan (place i) (end i)) (granted .1 b p (withSpan empty headerSpan) refl (L .nodes .spans) refl)
 
           pub out-many : length rl < count → TreeOut b (tabs w ul uv ll lv lf) (rootTabs blocks rl rv) (tabs w₂ ul₂ uv₂ ll₂ lv₂ lf₂) (rootTabs blocks₂ rl₂ rv₂) (Refused 9)
           out-many h = λ p L Z. tree-many b p long (some p L) inside (claimed p L) (subst (λ (k : ℕ). p .roots < k) counted (omega (arith, L .roots)))

@@ -8,9 +8,9 @@ use lib.ListN.{length}
 use borrow.Author.Tests.{lt-ltb, le-ltb, le-leb, lt-leb}
 use Rattle.refusals.specs.Results.{ok, refused}
 use Rattle.layout.specs.Bytes.{u32At}
-use Rattle.decode.specs.Nodes.{Places, empty, withSpan, claim}
-use Rattle.decode.specs.Tree.{Roots, tilesRead, tree}
-use Rattle.decode.specs.Decode.{rootPlace}
+use Rattle.nanovdb.specs.Nodes.{Places, empty, withSpan, claim}
+use Rattle.nanovdb.specs.Tree.{Roots, tilesRead, tree}
+use Rattle.nanovdb.specs.Decode.{rootPlace}
 use Rattle.decode.specs.Inner.WorkTable.{headerSpan, rootSpan}
 
 module _ (b : List ℕ) (p : Places) where

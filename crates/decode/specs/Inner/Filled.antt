@@ -8,9 +8,9 @@ use Rattle.refusals.specs.Results.{Result, ok, refused}
 use Rattle.float.specs.Zero.{+0}
 use Rattle.lent.specs.Padded.{padded}
 use Rattle.sparse_grid.specs.declared.Entry.{Entry}
-use Rattle.decode.specs.Nodes.{byLevel, Places, State, Slots, leafValues, slotRead, node}
-use Rattle.decode.specs.Decode.{linkOf, valueOf}
-use Rattle.decode.specs.HeldNodes.{Inv0, Inv1, Inv2}
+use Rattle.nanovdb.specs.Nodes.{byLevel, Places, State, Slots, leafValues, slotRead, node}
+use Rattle.nanovdb.specs.Decode.{linkOf, valueOf}
+use Rattle.nanovdb.specs.HeldNodes.{Inv0, Inv1, Inv2}
 use Rattle.decode.specs.Inner.WorkTable.{Rep, nodes, spans}
 use Rattle.decode.specs.Inner.Packed.{Packed}
 use Rattle.decode.specs.declared.spans.Spans.{Spans}

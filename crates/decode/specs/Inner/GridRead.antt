@@ -11,9 +11,9 @@ use Rattle.refusals.specs.Faults.{_then_}
 use Rattle.layout.specs.Bytes.{f32At}
 use Rattle.sparse_grid.specs.Tables.{gridOf}
 use Rattle.sparse_grid.specs.Validate.{densityFault}
-use Rattle.decode.specs.Nodes.{Places}
-use Rattle.decode.specs.Decode.{Accepted, mediumAt, treeFault, decodeScalar, decodeDensity}
-use Rattle.decode.specs.Lent.{Answer, Lent, Tables, tables, lengths, decodeInto, answerOf, leftOf, zeros}
+use Rattle.nanovdb.specs.Nodes.{Places}
+use Rattle.nanovdb.specs.Decode.{Accepted, mediumAt, treeFault, decodeScalar, decodeDensity}
+use Rattle.nanovdb.specs.Lent.{Answer, Lent, Tables, tables, lengths, decodeInto, answerOf, leftOf, zeros}
 use Rattle.decode.specs.Inner.Filled.{Tabs}
 use Rattle.decode.specs.Inner.Rooted.{RootTabs}
 use Rattle.decode.specs.declared.tree.Tree as Tree

@@ -9,7 +9,7 @@ use lib.Dec.{eqb, ltb}
 use lib.ListN.{length}
 use borrow.Author.Tests.{eq-eqb, ne-eqb, lt-ltb}
 use Rattle.sparse_grid.specs.Count.{sum, bit, sum-one, sum-most, sum-nil, split-eq}
-use Rattle.decode.specs.Spans.{Span, overlaps}
+use Rattle.nanovdb.specs.Spans.{Span, overlaps}
 
 -- each span lies inside `len` bytes and overlaps none of those behind it
 unfoldable pub Packed : ℕ → List Span → Type 0

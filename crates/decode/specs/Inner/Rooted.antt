@@ -9,9 +9,9 @@ use Rattle.refusals.specs.Results.{ok, refused}
 use Rattle.float.specs.Zero.{+0}
 use Rattle.lent.specs.Padded.{padded}
 use Rattle.sparse_grid.specs.declared.Entry.{Entry}
-use Rattle.decode.specs.Nodes.{Places, State}
-use Rattle.decode.specs.Tree.{Root, Roots, rootOf, tileRead, tilesRead}
-use Rattle.decode.specs.Decode.{linkOf, valueOf, blocksOf}
+use Rattle.nanovdb.specs.Nodes.{Places, State}
+use Rattle.nanovdb.specs.Tree.{Root, Roots, rootOf, tileRead, tilesRead}
+use Rattle.nanovdb.specs.Decode.{linkOf, valueOf, blocksOf}
 use Rattle.decode.specs.Inner.Filled.{Tabs, Holds, Reads, SlotFit}
 use Rattle.decode.specs.declared.nodes.State as Progress
 use Rattle.decode.specs.declared.nodes.Step as Step

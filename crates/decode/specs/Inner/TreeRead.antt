@@ -6,9 +6,9 @@ use lib.IntN.{pos}
 use lib.ListN.{length, replicate}
 use Rattle.refusals.specs.Results.{ok, refused}
 use Rattle.float.specs.Zero.{+0}
-use Rattle.decode.specs.Nodes.{Places}
-use Rattle.decode.specs.Tree.{Roots, tree}
-use Rattle.decode.specs.Decode.{rootPlace}
+use Rattle.nanovdb.specs.Nodes.{Places}
+use Rattle.nanovdb.specs.Tree.{Roots, tree}
+use Rattle.nanovdb.specs.Decode.{rootPlace}
 use Rattle.decode.specs.Inner.Filled.{Tabs, Holds, Lends}
 use Rattle.decode.specs.Inner.Rooted.{RootTabs, RootsHeld}
 use Rattle.decode.specs.declared.tree.TreeRead as Code

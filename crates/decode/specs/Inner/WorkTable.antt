@@ -5,8 +5,8 @@ use mathlib.Core.Bool.{Bool, true, false, _&&_}
 use mathlib.Core.List.{List, [], _∷_, _++_}
 use lib.ListN.{length, getD, set}
 use lib.Dec.{ltb, eqb}
-use Rattle.decode.specs.Nodes.{sizeOf, State, Places, claim, withSpan}
-use Rattle.decode.specs.Spans.{Span, Seen, at, nowhere, overlaps, seen}
+use Rattle.nanovdb.specs.Nodes.{sizeOf, State, Places, claim, withSpan}
+use Rattle.nanovdb.specs.Spans.{Span, Seen, at, nowhere, overlaps, seen}
 use Rattle.refusals.specs.Results.{Result, ok, refused}
 use Rattle.decode.specs.declared.spans.Spans.{Spans}
 use Rattle.decode.specs.declared.spans.Claimed.{Claimed}

@@ -8,19 +8,19 @@ use Rattle.lent.proofs.zero_i32.Statement.{statement}
 use Rattle.lent.proofs.zero_i32.Tie as tie
 
 abbrev Inv-loop : tie.InvT-loop
-Inv-loop s₀ i₀ s i = Filled (pos 0) s₀ i s
+Inv-loop numbers₀ i₀ numbers i = Filled (pos 0) numbers₀ i numbers
 
 abbrev μ-loop : tie.MeasureT-loop
-μ-loop s₀ i₀ s i = length s₀ - i
+μ-loop numbers₀ i₀ numbers i = length numbers₀ - i
 
 loop-holds : tie.Need-loop-holds Inv-loop μ-loop
 loop-holds c = fill-none _ _
 
-mul-s : tie.Need-mul-s Inv-loop μ-loop
-mul-s c = omega arith
+mul-numbers : tie.Need-mul-numbers Inv-loop μ-loop
+mul-numbers c = omega arith
 
-slice-set-of-s : tie.Need-slice-set-of-s Inv-loop μ-loop
-slice-set-of-s c = omega arith
+slice-set-of-numbers : tie.Need-slice-set-of-numbers Inv-loop μ-loop
+slice-set-of-numbers c = omega arith
 
 add-i : tie.Need-add-i Inv-loop μ-loop
 add-i c = omega arith
@@ -38,4 +38,4 @@ returns : tie.Need-returns Inv-loop μ-loop
 returns c = fill-all _ _ _ _ (c .before .loop .inv) (omega arith)
 
 pub zero-i32-spec : {M : Type 1} → statement M
-zero-i32-spec = tie.close (tie.spec Inv-loop μ-loop loop-holds mul-s slice-set-of-s add-i loop-less loop-again same-length returns)
+zero-i32-spec = tie.close (tie.spec Inv-loop μ-loop loop-holds mul-numbers slice-set-of-numbers add-i loop-less loop-again same-length returns)

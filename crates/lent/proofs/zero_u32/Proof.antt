@@ -7,19 +7,19 @@ use Rattle.lent.proofs.zero_u32.Statement.{statement}
 use Rattle.lent.proofs.zero_u32.Tie as tie
 
 abbrev Inv-loop : tie.InvT-loop
-Inv-loop s₀ i₀ s i = Filled 0 s₀ i s
+Inv-loop links₀ i₀ links i = Filled 0 links₀ i links
 
 abbrev μ-loop : tie.MeasureT-loop
-μ-loop s₀ i₀ s i = length s₀ - i
+μ-loop links₀ i₀ links i = length links₀ - i
 
 loop-holds : tie.Need-loop-holds Inv-loop μ-loop
 loop-holds c = fill-none _ _
 
-mul-s : tie.Need-mul-s Inv-loop μ-loop
-mul-s c = omega arith
+mul-links : tie.Need-mul-links Inv-loop μ-loop
+mul-links c = omega arith
 
-slice-write-s : tie.Need-slice-write-s Inv-loop μ-loop
-slice-write-s c = omega arith
+slice-write-links : tie.Need-slice-write-links Inv-loop μ-loop
+slice-write-links c = omega arith
 
 add-i : tie.Need-add-i Inv-loop μ-loop
 add-i c = omega arith
@@ -37,4 +37,4 @@ returns : tie.Need-returns Inv-loop μ-loop
 returns c = fill-all _ _ _ _ (c .before .loop .inv) (omega arith)
 
 pub zero-u32-spec : {M : Type 1} → statement M
-zero-u32-spec = tie.close (tie.spec Inv-loop μ-loop loop-holds mul-s slice-write-s add-i loop-less loop-again same-length returns)
+zero-u32-spec = tie.close (tie.spec Inv-loop μ-loop loop-holds mul-links slice-write-links add-i loop-less loop-again same-length returns)

@@ -7,7 +7,7 @@ use lib.Ieee.{binary32}
 use Rattle.refusals.specs.Results.{numberOf}
 use Rattle.float.specs.Zero.{+0}
 use Rattle.float.specs.Literal.{zero-literal}
-use Rattle.decode.specs.Lent.{Answer, tables, lengths, answerOf, leftOf}
+use Rattle.nanovdb.specs.Lent.{Answer, tables, lengths, answerOf, leftOf}
 use Rattle.smokegrid.specs.Flat.{countsOf, floatsOf, cornersOf, flatFault, decodeFlat, countsLeft, backgroundLeft, mediumLeft, cornersLeft}
 use Rattle.smokegrid.proofs.Left.{sized, flat-stop, flat-on, number-is, counts-of, medium-of, corners-of}
 use borrow.Author.Needs.{needs}

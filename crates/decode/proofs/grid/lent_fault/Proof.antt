@@ -2,7 +2,7 @@
 use Prim.Native.Nat.{_*_}
 use native.Mathlib.Omega.{arith}
 use borrow.Author.Tests.{eq-eqb, ne-eqb}
-use Rattle.decode.specs.Lent.{lentFault}
+use Rattle.nanovdb.specs.Lent.{lentFault}
 use Rattle.decode.proofs.grid.lent_fault.Statement.{statement}
 use Rattle.decode.proofs.grid.lent_fault.Tie as tie
 

@@ -1,6 +1,6 @@
 use mathlib.Core.Path.{ap, _∙_}
 use Rattle.refusals.specs.TestLaws.{and-same}
-use Rattle.decode.specs.Decode.{markPasses, headerPasses}
+use Rattle.nanovdb.specs.Decode.{markPasses, headerPasses}
 use Prim.Native.Nat.{ℕ, _/_}
 use lib.Dec.{eqb, ltb}
 use lib.ListN.{length}

@@ -16,8 +16,8 @@ use Rattle.sparse_grid.specs.declared.Entry.the-variants.{Child, Tile}
 use Rattle.sparse_grid.specs.Tables.{Grid}
 use Rattle.sparse_grid.specs.Validate.{validate, densityFault}
 use Rattle.medium.specs.Medium.{Medium, each, boundsFault, indexFault, mapFault}
-use Rattle.decode.specs.Nodes.{Places}
-use Rattle.decode.specs.Tree.{Root, Roots, tree}
+use Rattle.nanovdb.specs.Nodes.{Places}
+use Rattle.nanovdb.specs.Tree.{Root, Roots, tree}
 
 -- an f64 of the world box, rounded to f32
 abbrev pub boundAt : List ℕ → ℕ → Float

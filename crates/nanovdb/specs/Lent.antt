@@ -13,8 +13,8 @@ use Rattle.lent.specs.Padded.{padded}
 use Rattle.layout.specs.Coordinates.{Coord}
 use Rattle.sparse_grid.specs.Tables.{Grid}
 use Rattle.medium.specs.Medium.{Point, Medium}
-use Rattle.decode.specs.Nodes.{Places}
-use Rattle.decode.specs.Decode.{Accepted}
+use Rattle.nanovdb.specs.Nodes.{Places}
+use Rattle.nanovdb.specs.Decode.{Accepted}
 
 -- ---- what is lent
 

@@ -11,9 +11,9 @@ use Rattle.refusals.specs.FaultLaws.{passing-ok, then-zero}
 use Rattle.sparse_grid.specs.Tables.{Grid}
 use Rattle.sparse_grid.specs.Validate.{validate, densityFault, validateDensity}
 use Rattle.medium.specs.Medium.{each, boundsFault, indexFault, mapFault}
-use Rattle.decode.specs.Nodes.{Places}
-use Rattle.decode.specs.Tree.{Roots, tree}
-use Rattle.decode.specs.Decode.{tablesOf, Accepted, mediumOf, headerPasses, bytesFault, treeFault, decodeScalar, decodeDensity}
+use Rattle.nanovdb.specs.Nodes.{Places}
+use Rattle.nanovdb.specs.Tree.{Roots, tree}
+use Rattle.nanovdb.specs.Decode.{tablesOf, Accepted, mediumOf, headerPasses, bytesFault, treeFault, decodeScalar, decodeDensity}
 
 pub record Passed (b : List ℕ) (p : Places) (t : Accepted) : Type 0 where
   pub roots : Roots

@@ -16,7 +16,7 @@ use Rattle.refusals.specs.TestLaws.{and-l, and-r, and-i, same-test, eq→eqb}
 use Rattle.layout.specs.Bytes.{le, signed, u32At, Bytes}
 use Rattle.layout.specs.Coordinates.{Coord, modZ, slot, eqZ, sameBlock, blockOf, Signed32}
 use Rattle.layout.specs.Walk.{key}
-use Rattle.decode.specs.Tree.{field, keyPasses}
+use Rattle.nanovdb.specs.Tree.{field, keyPasses}
 
 pub modZ-lt : (z : ℤ) (m : ℕ) → 0 < m → modZ z m < m
 modZ-lt (pos a) m h = mod-lt a h

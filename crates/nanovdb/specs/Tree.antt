@@ -9,7 +9,7 @@ use Rattle.refusals.specs.Results.{Result, ok, bind, need}
 use Rattle.layout.specs.Bytes.{signed, u32At, u64At, i64At, f32At}
 use Rattle.sparse_grid.specs.declared.Entry.{Entry}
 use Rattle.sparse_grid.specs.declared.Entry.the-variants.{Child, Tile}
-use Rattle.decode.specs.Nodes.{Places, State, empty, claim, childTarget, Read, node}
+use Rattle.nanovdb.specs.Nodes.{Places, State, empty, claim, childTarget, Read, node}
 
 -- the root record of a tile: its block and its entry
 pub record Root : Type 0 where

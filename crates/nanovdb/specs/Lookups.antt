@@ -24,15 +24,15 @@ use Rattle.sparse_grid.specs.Tables.{Grid, entryOf, entryAt, blockAt}
 use Rattle.sparse_grid.specs.Validate.{valueFault, entryFault, blockIn, earlier, rootFault, pairFault, shapeFault, validate}
 use Rattle.sparse_grid.specs.Lookup.{Found, value, refused, leafAt, lowerEntry, lowerAt, upperEntry, upperAt, rootEntry, rootsFrom, lookup}
 use Rattle.medium.specs.Medium.{each}
-use Rattle.decode.specs.Nodes.{entriesOf, maskOf, tableOf, Places}
-use Rattle.decode.specs.Tree.{Root, Roots, field}
-use Rattle.decode.specs.Decode.{linkOf, valueOf, blocksOf, tablesOf, Accepted, decodeDensity}
-use Rattle.decode.specs.Held.{Leaf, Node, Good, in-node}
-use Rattle.decode.specs.Agreement.{ReadsAs}
-use Rattle.decode.specs.Passed.{density-passed}
-use Rattle.decode.specs.HeldNodes.{UpperIn, LowerIn}
-use Rattle.decode.specs.HeldTiles.{noRoot, tileAt, Tiled, rootOfBytes, tree-holds}
-use Rattle.decode.specs.Keys.{key-same, slot-leaf, slot-lower, slot-upper, u32-lt, bits-kept}
+use Rattle.nanovdb.specs.Nodes.{entriesOf, maskOf, tableOf, Places}
+use Rattle.nanovdb.specs.Tree.{Root, Roots, field}
+use Rattle.nanovdb.specs.Decode.{linkOf, valueOf, blocksOf, tablesOf, Accepted, decodeDensity}
+use Rattle.nanovdb.specs.Held.{Leaf, Node, Good, in-node}
+use Rattle.nanovdb.specs.Agreement.{ReadsAs}
+use Rattle.nanovdb.specs.Passed.{density-passed}
+use Rattle.nanovdb.specs.HeldNodes.{UpperIn, LowerIn}
+use Rattle.nanovdb.specs.HeldTiles.{noRoot, tileAt, Tiled, rootOfBytes, tree-holds}
+use Rattle.nanovdb.specs.Keys.{key-same, slot-leaf, slot-lower, slot-upper, u32-lt, bits-kept}
 
 abbrev entryIn : Root → Entry
 entryIn r = r .entry

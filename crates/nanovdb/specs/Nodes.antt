@@ -10,7 +10,7 @@ use Rattle.refusals.specs.Results.{Result, ok, bind, need}
 use Rattle.layout.specs.Bytes.{u64At, i64At, f32At, maskBit}
 use Rattle.sparse_grid.specs.declared.Entry.{Entry}
 use Rattle.sparse_grid.specs.declared.Entry.the-variants.{Child, Tile}
-use Rattle.decode.specs.Spans.{Span, overlaps, Seen, at, nowhere, seen}
+use Rattle.nanovdb.specs.Spans.{Span, overlaps, Seen, at, nowhere, seen}
 
 -- how many spans, roots and nodes of each level the lent tables hold
 pub record Places : Type 0 where

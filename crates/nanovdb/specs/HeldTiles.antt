@@ -18,11 +18,11 @@ use Rattle.layout.specs.Bytes.{u32At, u64At, i64At}
 use Rattle.layout.specs.Walk.{shift}
 use Rattle.sparse_grid.specs.declared.Entry.{Entry}
 use Rattle.sparse_grid.specs.declared.Entry.the-variants.{Child, Tile}
-use Rattle.decode.specs.Spans.{Span, at, seen}
-use Rattle.decode.specs.Nodes.{Places, State, withSpan, claim, childTarget, Read, node, empty}
-use Rattle.decode.specs.Tree.{Root, Roots, field, keyPasses, rootOf, tileRead, tilesRead, tree}
-use Rattle.decode.specs.Held.{seen-other, not-seen, Good, good-map, target-is}
-use Rattle.decode.specs.HeldNodes.{claim-is, Inv2, Grown2, UpperIn, same2, stable2, read-upper}
+use Rattle.nanovdb.specs.Spans.{Span, at, seen}
+use Rattle.nanovdb.specs.Nodes.{Places, State, withSpan, claim, childTarget, Read, node, empty}
+use Rattle.nanovdb.specs.Tree.{Root, Roots, field, keyPasses, rootOf, tileRead, tilesRead, tree}
+use Rattle.nanovdb.specs.Held.{seen-other, not-seen, Good, good-map, target-is}
+use Rattle.nanovdb.specs.HeldNodes.{claim-is, Inv2, Grown2, UpperIn, same2, stable2, read-upper}
 
 abbrev pub noRoot : Root
 noRoot = record { x = pos 0; y = pos 0; z = pos 0; entry = Tile +0 }

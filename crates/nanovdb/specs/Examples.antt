@@ -15,10 +15,10 @@ use Rattle.layout.specs.Examples.{sample-walk}
 use Rattle.sparse_grid.specs.declared.Entry.{Entry}
 use Rattle.sparse_grid.specs.Validate.{validate, densityFault}
 use Rattle.medium.specs.Medium.{boundsFault, indexFault, mapFault}
-use Rattle.decode.specs.Nodes.{Places, childTarget}
-use Rattle.decode.specs.Tree.{rootOf, keyPasses}
-use Rattle.decode.specs.Decode.{decodeDensity}
-use Rattle.decode.specs.Keys.{key-same}
+use Rattle.nanovdb.specs.Nodes.{Places, childTarget}
+use Rattle.nanovdb.specs.Tree.{rootOf, keyPasses}
+use Rattle.nanovdb.specs.Decode.{decodeDensity}
+use Rattle.nanovdb.specs.Keys.{key-same}
 
 -- two spans (header and root), 999 roots and no nodes
 abbrev places : Places

@@ -9,10 +9,10 @@ use lib.Dec.{ltb, leb}
 use lib.ListN.{length, length-append}
 use Rattle.refusals.specs.Results.{Result, ok, bind, need}
 use Rattle.refusals.specs.ResultLaws.{ok-injective, bind-ok, need-ok}
-use Rattle.decode.specs.Spans.{Span, Seen, at, nowhere, seen, overlaps}
-use Rattle.decode.specs.Nodes.{Places, State, withSpan, claim, sizeOf, nodesAt, placesAt, counted, Read, Slots, slotsRead, leafValues, placed, leafPlaced, opened, again, node}
-use Rattle.decode.specs.Growth.{Prefix, prefix-same, prefix-more, prefix-trans}
-use Rattle.decode.specs.Held.{seen-new, seen-other, Leaf, Node, leaf-grown, node-grown, node-new, leaf-length, leaf-new, Step, Filled, slots-filled}
+use Rattle.nanovdb.specs.Spans.{Span, Seen, at, nowhere, seen, overlaps}
+use Rattle.nanovdb.specs.Nodes.{Places, State, withSpan, claim, sizeOf, nodesAt, placesAt, counted, Read, Slots, slotsRead, leafValues, placed, leafPlaced, opened, again, node}
+use Rattle.nanovdb.specs.Growth.{Prefix, prefix-same, prefix-more, prefix-trans}
+use Rattle.nanovdb.specs.Held.{seen-new, seen-other, Leaf, Node, leaf-grown, node-grown, node-new, leaf-length, leaf-new, Step, Filled, slots-filled}
 
 -- ---- what an accepted claim, opening and reuse say
 

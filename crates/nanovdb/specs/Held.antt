@@ -18,9 +18,9 @@ use Rattle.layout.specs.Bytes.{u32At, u64At, i64At, maskBit}
 use Rattle.layout.specs.Walk.{shift}
 use Rattle.sparse_grid.specs.declared.Entry.{Entry}
 use Rattle.sparse_grid.specs.declared.Entry.the-variants.{Child, Tile}
-use Rattle.decode.specs.Spans.{Span, Seen, at, nowhere, seen}
-use Rattle.decode.specs.Nodes.{State, Read, Slots, Reader, childTarget, entriesOf, maskOf, tableOf, slotRead, slotsRead, leafValues}
-use Rattle.decode.specs.Growth.{Prefix, prefix-length, prefix-at}
+use Rattle.nanovdb.specs.Spans.{Span, Seen, at, nowhere, seen}
+use Rattle.nanovdb.specs.Nodes.{State, Read, Slots, Reader, childTarget, entriesOf, maskOf, tableOf, slotRead, slotsRead, leafValues}
+use Rattle.nanovdb.specs.Growth.{Prefix, prefix-length, prefix-at}
 
 -- ---- spans
 

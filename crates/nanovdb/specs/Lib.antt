@@ -1,0 +1,17 @@
+-- Definitions that the contracts of `decode` cite.
+pub mod Spans
+pub mod Nodes
+pub mod Tree
+pub mod Decode
+pub mod Lent
+-- Laws: what an accepted decode passed, that its tables hold the nodes of the bytes, and that its lookup is the walk.
+pub mod Agreement
+pub mod Growth
+pub mod Held
+pub mod HeldNodes
+pub mod Keys
+pub mod HeldTiles
+pub mod Passed
+pub mod Lookups
+-- Worked examples.
+pub mod Examples
