@@ -1,5 +1,7 @@
 //! `oracle`: prints what the Rust modules answer, for a grid in a file or for generated cases.
 
+mod list;
+
 use oracle::generate;
 use oracle::loader::{decode_into, record, Grid, Held, Lengths, Loader, Rust, Words, CELLS};
 use oracle::random::Random;
@@ -15,6 +17,7 @@ const USAGE: &str = "usage:
   oracle write SEED NUMBER FILE
   oracle sample FILE
   oracle numbers SEED COUNT [BUILD-EVERY]
+  oracle list decode
 Points are eight hexadecimal digits an axis, the bits of an f32.";
 
 fn main() {
@@ -36,6 +39,7 @@ fn main() {
             case(seed, number).map(|(case, _)| write(path, &case.bytes))
         }
         ["sample", path] => Some(write(path, &generate::bench::sample())),
+        ["list", "decode"] => Some(list::decode()),
         ["numbers", seed, count] => numbers(seed, count, "16"),
         ["numbers", seed, count, every] => numbers(seed, count, every),
         _ => None,
@@ -94,7 +98,7 @@ fn bits(values: &[f32]) -> String {
     words.join(" ")
 }
 
-fn list(values: &[i32]) -> String {
+fn joined(values: &[i32]) -> String {
     let words: Vec<String> = values.iter().map(i32::to_string).collect();
     words.join(" ")
 }
@@ -107,7 +111,7 @@ fn print_record(held: &Held) {
     println!("world {}", bits(&medium[..6]));
     println!("map {}", bits(&medium[6..15]));
     println!("translation {}", bits(&medium[15..]));
-    println!("box {}", list(held.corners.table()));
+    println!("box {}", joined(held.corners.table()));
 }
 
 /// 64 bits that differ for tables that differ (FNV-1a, a word at a time).
@@ -120,7 +124,7 @@ fn hash(words: &Words) -> u64 {
 fn print_tables(held: &Held, whole: bool) {
     for (i, block) in held.blocks.table().chunks(3).enumerate() {
         let (link, value) = (held.root_links.table()[i], held.root_values.table()[i]);
-        println!("root {} {link} {:08x}", list(block), value.to_bits());
+        println!("root {} {link} {:08x}", joined(block), value.to_bits());
     }
     for (name, words) in held.words() {
         if !name.ends_with("links") && !name.ends_with("values") {
@@ -151,8 +155,8 @@ fn print_samples(grid: &Grid, near: &[[i32; 3]], random: &mut Random) {
 
 fn print_answer(name: &str, places: &[i32], (number, bits): (u32, u32)) {
     match number {
-        0 => println!("{name} {} {bits:08x}", list(places)),
-        _ => println!("{name} {} refused {number}", list(places)),
+        0 => println!("{name} {} {bits:08x}", joined(places)),
+        _ => println!("{name} {} refused {number}", joined(places)),
     }
 }
 

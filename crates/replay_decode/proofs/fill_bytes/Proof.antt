@@ -1,0 +1,53 @@
+-- `replay_decode::fill_bytes` meets its contract: the invariant: the bytes keep their length. Assumes nothing.
+use Prim.Native.Nat.{_-_, _≤_}
+use lib.ListN.{length}
+use mathlib.Core.Path.{_≡_, refl, _∙_}
+use native.Mathlib.Omega.{arith}
+use borrow.Author.Needs.{needs}
+use Rattle.replay_decode.proofs.fill_bytes.Statement.{statement}
+use Rattle.replay_decode.proofs.fill_bytes.Tie as tie
+
+abbrev Inv-loop : tie.InvT-loop
+Inv-loop n bytes₀ i₀ bytes i = (i ≤ n) × (length bytes ≡ length bytes₀)
+
+abbrev μ-loop : tie.MeasureT-loop
+μ-loop n bytes₀ i₀ bytes i = n - i
+
+loop-holds : tie.Need-loop-holds Inv-loop μ-loop
+loop-holds c = (omega arith, refl)
+
+read-place-requires : tie.Need-read-place-requires Inv-loop μ-loop
+read-place-requires c κs = search needs
+
+put-byte-requires : tie.Need-put-byte-requires Inv-loop μ-loop
+put-byte-requires c κs = search needs
+
+add-i : tie.Need-add-i Inv-loop μ-loop
+add-i c = omega arith
+
+loop-less : tie.Need-loop-less Inv-loop μ-loop
+loop-less c = omega arith
+
+loop-again : tie.Need-loop-again Inv-loop μ-loop
+loop-again c = (omega (arith, c .before .before .before .before .before .loop-test .taken), c .before .before .put-byte .kept .0 ∙ c .before .before .before .before .before .before .loop .inv .1)
+
+same-length : tie.Need-same-length Inv-loop μ-loop
+same-length c = c .before .loop .inv .1
+
+returns : tie.Need-returns Inv-loop μ-loop
+returns c = tt
+
+pub fill-bytes-spec : {M : Type 1} → statement M
+fill-bytes-spec =
+    tie.close
+    (tie.spec
+    Inv-loop
+    μ-loop
+    loop-holds
+    read-place-requires
+    put-byte-requires
+    add-i
+    loop-less
+    loop-again
+    same-length
+    returns)

@@ -1,0 +1,262 @@
+// Replays grids, whole and damaged, with what the Rust's decode answers and leaves in the tables, and says how many cases
+// there were and how many of their answers and tables differ. `oracle list decode` (tests/oracle) makes the list, which is
+// read from standard input.
+//
+// Everything is little-endian words of 32 bits. First the number of cases. A case is
+//     the length of the bytes; how many of them are not 0; those, each its place and its value;
+//     the number; how many roots, upper, lower and leaf nodes; the background; the medium, 18 words; the corners, 6 words;
+//     the words of each table that are not 0, each its place and its value, ended by the place ffffffff.
+ghost use Prim.Native.Nat.{_≤_};
+use decode::Decoded;
+use medium::Medium;
+use refusals::both;
+
+// How many cases the list may have.
+const MOST: u32 = 4096;
+
+// A place and the word there, without and with its sign.
+struct Word {
+    at: usize,
+    word: u32,
+    number: i32,
+}
+
+fn read_word() -> u32 {
+    let mut b = [0u8; 4];
+    io::read_full(libc::STDIN_FILENO, &mut b);
+    layout::u32_at(&b, 0)
+}
+
+fn read_place() -> Word {
+    let mut b = [0u8; 8];
+    io::read_full(libc::STDIN_FILENO, &mut b);
+    Word {
+        at: layout::u32_at(&b, 0) as usize,
+        word: layout::u32_at(&b, 4),
+        number: layout::i32_at(&b, 4),
+    }
+}
+
+fn put_byte(bytes: &mut [u8], at: usize, value: u32) {
+    if at < bytes.len() {
+        bytes[at] = (value % 256) as u8;
+    }
+}
+
+fn fill_bytes(n: u32, bytes: &mut [u8]) {
+    let mut i: u32 = 0;
+    while i < n {
+        let place = read_place();
+        put_byte(bytes, place.at, place.word);
+        i += 1;
+    }
+}
+
+fn first_bytes(bytes: &[u8], n: u32) -> &[u8] {
+    let end = n as usize;
+    if end < bytes.len() {
+        &bytes[..end]
+    } else {
+        bytes
+    }
+}
+
+// ---- what the answer says
+
+fn same(a: u32) -> bool {
+    let b = read_word();
+    a == b
+}
+
+fn same_float(a: f32) -> bool {
+    same(float::bits_of(a))
+}
+
+fn same_number(a: i32) -> bool {
+    let mut b = [0u8; 4];
+    io::read_full(libc::STDIN_FILENO, &mut b);
+    a == layout::i32_at(&b, 0)
+}
+
+fn same_count(a: usize) -> bool {
+    let b = read_word() as usize;
+    a == b
+}
+
+fn same_point(x: f32, y: f32, z: f32) -> bool {
+    let a = same_float(x);
+    let b = same_float(y);
+    let c = same_float(z);
+    both(a, both(b, c))
+}
+
+fn same_corner(x: i32, y: i32, z: i32) -> bool {
+    let a = same_number(x);
+    let b = same_number(y);
+    let c = same_number(z);
+    both(a, both(b, c))
+}
+
+fn same_medium(m: Medium) -> bool {
+    let low = same_point(m.low[0], m.low[1], m.low[2]);
+    let high = same_point(m.high[0], m.high[1], m.high[2]);
+    let x = same_point(m.map[0], m.map[1], m.map[2]);
+    let y = same_point(m.map[3], m.map[4], m.map[5]);
+    let z = same_point(m.map[6], m.map[7], m.map[8]);
+    let moved = same_point(m.translation[0], m.translation[1], m.translation[2]);
+    let index_low = same_corner(m.index_low[0], m.index_low[1], m.index_low[2]);
+    let index_high = same_corner(m.index_high[0], m.index_high[1], m.index_high[2]);
+    let world = both(low, high);
+    let map = both(both(x, y), both(z, moved));
+    both(both(world, map), both(index_low, index_high))
+}
+
+fn same_answer(d: Decoded) -> bool {
+    let number = same(d.number);
+    let roots = same_count(d.roots);
+    let upper = same_count(d.upper);
+    let lower = same_count(d.lower);
+    let leaf = same_count(d.leaf);
+    let background = same_float(d.background);
+    let medium = same_medium(d.medium);
+    let counts = both(both(roots, upper), both(lower, leaf));
+    both(both(number, counts), both(background, medium))
+}
+
+// ---- what is left in a table, word for word
+
+fn same_numbers(table: &[i32]) -> bool {
+    let mut same = true;
+    let mut next = read_place();
+    let mut i: usize = 0;
+    while i < table.len() {
+        if i == next.at {
+            same = both(same, table[i] == next.number);
+            next = read_place();
+        } else {
+            same = both(same, table[i] == 0);
+        }
+        i += 1;
+    }
+    same
+}
+
+fn same_links(table: &[u32]) -> bool {
+    let mut same = true;
+    let mut next = read_place();
+    let mut i: usize = 0;
+    while i < table.len() {
+        if i == next.at {
+            same = both(same, table[i] == next.word);
+            next = read_place();
+        } else {
+            same = both(same, table[i] == 0);
+        }
+        i += 1;
+    }
+    same
+}
+
+fn same_values(table: &[f32]) -> bool {
+    let mut same = true;
+    let mut next = read_place();
+    let mut i: usize = 0;
+    while i < table.len() {
+        if i == next.at {
+            same = both(same, float::bits_of(table[i]) == next.word);
+            next = read_place();
+        } else {
+            same = both(same, float::bits_of(table[i]) == 0);
+        }
+        i += 1;
+    }
+    same
+}
+
+// The work table is left with zeros.
+fn cleared(work: &[u64]) -> bool {
+    let mut same = true;
+    let mut i: usize = 0;
+    while i < work.len() {
+        same = both(same, work[i] == 0);
+        i += 1;
+    }
+    same
+}
+
+// ---- a case
+
+// Decodes the bytes, and says whether the answer and every table are as listed.
+fn replay_bytes(bytes: &[u8]) -> bool {
+    let mut blocks = [0i32; 24];
+    let mut root_links = [0u32; 8];
+    let mut root_values = [0.0f32; 8];
+    let mut upper_links = [0u32; 65536];
+    let mut upper_values = [0.0f32; 65536];
+    let mut lower_links = [0u32; 8192];
+    let mut lower_values = [0.0f32; 8192];
+    let mut leaf_values = [0.0f32; 4096];
+    let mut work = [0u64; 64];
+    let d = decode::decode_density_grid(
+        bytes,
+        &mut blocks,
+        &mut root_links,
+        &mut root_values,
+        &mut upper_links,
+        &mut upper_values,
+        &mut lower_links,
+        &mut lower_values,
+        &mut leaf_values,
+        &mut work,
+    );
+    let answer = same_answer(d);
+    let roots = same_numbers(&blocks);
+    let links = same_links(&root_links);
+    let values = same_values(&root_values);
+    let upper = same_links(&upper_links);
+    let above = same_values(&upper_values);
+    let lower = same_links(&lower_links);
+    let below = same_values(&lower_values);
+    let leaf = same_values(&leaf_values);
+    let top = both(both(answer, roots), both(links, values));
+    let nodes = both(both(upper, above), both(lower, below));
+    both(both(top, nodes), both(leaf, cleared(&work)))
+}
+
+// 1 where a case differs.
+fn replay() -> u32
+    ensures { λ r. ⌜ r ≤ 1 ⌝ }
+{
+    let mut bytes = [0u8; 655360];
+    let length = read_word();
+    let n = read_word();
+    fill_bytes(n, &mut bytes);
+    if replay_bytes(first_bytes(&bytes, length)) {
+        0
+    } else {
+        1
+    }
+}
+
+fn report(n: u32, name: &[u8]) {
+    io::print_decimal(libc::STDOUT_FILENO, n as u64);
+    io::write_all(libc::STDOUT_FILENO, name);
+}
+
+fn least(a: u32, b: u32) -> u32
+    ensures { λ r. ⌜ (r ≤ a) × (r ≤ b) ⌝ }
+{
+    if a < b { a } else { b }
+}
+
+fn main() {
+    let cases = least(read_word(), MOST);
+    let mut differ: u32 = 0;
+    let mut i: u32 = 0;
+    while i < cases {
+        differ += replay();
+        i += 1;
+    }
+    report(cases, b" cases, ");
+    report(differ, b" differ\n");
+}

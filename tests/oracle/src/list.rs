@@ -1,0 +1,90 @@
+//! The list that the program replay_decode replays: crates/replay_decode/src/main.rt says what a case holds.
+
+use oracle::generate::{self, Case};
+use oracle::loader::{decode_into, Held, Lengths, Rust};
+use oracle::walk::{self, Places};
+use std::io::Write;
+
+/// What the program lends.
+const LENT: Lengths = Lengths {
+    blocks: 24,
+    root_links: 8,
+    root_values: 8,
+    upper_links: 65536,
+    upper_values: 65536,
+    lower_links: 8192,
+    lower_values: 8192,
+    leaf_values: 4096,
+    work: 64,
+    counts: 4,
+    medium: 18,
+    corners: 6,
+};
+const BYTES: usize = 655360;
+/// A case that has more bytes than these that are not 0 would make the list long.
+const FULL: usize = 12000;
+/// The cases to choose from.
+const SEED: u64 = 1;
+const CASES: u64 = 20000;
+
+/// The sample; the first case for each refusal that comes up; and of each shape the first two that are accepted.
+pub fn decode() {
+    let mut cases = vec![generate::bench::sample()];
+    let mut chosen: Vec<(String, u32)> = Vec::new();
+    for number in 0..CASES {
+        let case = generate::case(SEED, number);
+        if !fits(&case) {
+            continue;
+        }
+        let (refusal, _) = decode_into(&Rust, &case.bytes, LENT);
+        let shape = case.name.split(',').next().unwrap_or_default();
+        let kind = if refusal == 0 { shape.to_string() } else { String::new() };
+        let wanted = if refusal == 0 { 2 } else { 1 };
+        if chosen.iter().filter(|c| **c == (kind.clone(), refusal)).count() < wanted {
+            chosen.push((kind, refusal));
+            cases.push(case.bytes);
+        }
+    }
+    write(&cases);
+}
+
+fn fits(case: &Case) -> bool {
+    let (_, places) = walk::reach(&case.bytes, walk::ROOMY);
+    let Places { roots, spans, nodes: [leaf, lower, upper] } = places;
+    let few = roots <= 8 && spans <= 16 && leaf <= 8 && lower <= 2 && upper <= 2;
+    few && case.bytes.len() <= BYTES && case.bytes.iter().filter(|b| **b != 0).count() <= FULL
+}
+
+fn write(cases: &[Vec<u8>]) {
+    let mut words = vec![cases.len() as u32];
+    for bytes in cases {
+        push_case(&mut words, bytes);
+    }
+    let list: Vec<u8> = words.iter().flat_map(|word| word.to_le_bytes()).collect();
+    std::io::stdout().write_all(&list).expect("the list cannot be written");
+}
+
+fn push_case(words: &mut Vec<u32>, bytes: &[u8]) {
+    let full: Vec<usize> = (0..bytes.len()).filter(|i| bytes[*i] != 0).collect();
+    words.extend([bytes.len() as u32, full.len() as u32]);
+    words.extend(full.iter().flat_map(|i| [*i as u32, u32::from(bytes[*i])]));
+    let (number, held) = decode_into(&Rust, bytes, LENT);
+    words.push(number);
+    words.extend(held.counts.table().iter().map(|count| *count as u32));
+    words.push(held.background.to_bits());
+    words.extend(held.medium.table().iter().map(|v| v.to_bits()));
+    words.extend(held.corners.table().iter().map(|c| *c as u32));
+    push_tables(words, &held);
+}
+
+fn push_tables(list: &mut Vec<u32>, held: &Held) {
+    for (name, words) in held.words() {
+        if !["blocks", "links", "values"].iter().any(|end| name.ends_with(end)) {
+            continue;
+        }
+        for i in (0..words.len()).filter(|i| words.at(*i) != 0) {
+            list.extend([i as u32, words.at(i) as u32]);
+        }
+        list.extend([u32::MAX, 0]);
+    }
+}
