@@ -8,14 +8,14 @@ use Rattle.refusals.specs.Results.{Result, ok, refused}
 use Rattle.float.specs.Fused.{plus, fma, narrow, trunc, floor}
 use Rattle.float.specs.Coordinate.{coordinate}
 
-abbrev mulAdd : ℕ → ℕ → ℕ → ℕ
+abbrev pub mulAdd : ℕ → ℕ → ℕ → ℕ
 mulAdd a b c = toBits binary32 (fma binary32 (ofBits binary32 a) (ofBits binary32 b) (ofBits binary32 c))
 
-abbrev narrowed : ℕ → ℕ
+abbrev pub narrowed : ℕ → ℕ
 narrowed b = toBits binary32 (narrow (ofBits binary64 b))
 
 -- ---- mul_add is rounded once: two roundings give 0
-fused-once : mulAdd 0x3f80_0001 0x3f80_0001 0xbf80_0002 ≡ 0x2880_0000
+pub fused-once : mulAdd 0x3f80_0001 0x3f80_0001 0xbf80_0002 ≡ 0x2880_0000
 unfolding fma plus sum add mul ofBits toBits
 fused-once = refl
 
@@ -38,7 +38,7 @@ unfolding fma add mul ofBits toBits
 no-product = refl
 
 -- ---- narrow: 1 + 2^-24 is a tie, and goes to the even 1
-narrow-tie : narrowed 0x3ff0_0000_1000_0000 ≡ 0x3f80_0000
+pub narrow-tie : narrowed 0x3ff0_0000_1000_0000 ≡ 0x3f80_0000
 unfolding narrow round ofBits toBits
 narrow-tie = refl
 
@@ -65,15 +65,15 @@ unfolding floor round
 floor-half = refl
 
 -- ---- the low end of the first box: less 1 in f64, truncated, as an i32
-abbrev low : ℕ → Result ℤ
+abbrev pub low : ℕ → Result ℤ
 low b = coordinate (trunc binary64 (sub binary64 (ofBits binary32 b) (ofInt binary64 (pos 1))))
 
 -- 0.5 gives 0, and -2147483648 is refused
-low-half : low 0x3f00_0000 ≡ ok (pos 0)
+pub low-half : low 0x3f00_0000 ≡ ok (pos 0)
 unfolding coordinate trunc floor sub ofBits ofInt le toSigned
 low-half = refl
 
-low-least : low 0xcf00_0000 ≡ refused 16
+pub low-least : low 0xcf00_0000 ≡ refused 16
 unfolding coordinate trunc floor sub ofBits ofInt le toSigned
 low-least = refl
 
@@ -82,7 +82,7 @@ tiny-less-one : sub binary64 (ofBits binary32 0x2480_0000) (ofInt binary64 (pos 
 unfolding sub ofBits ofInt
 tiny-less-one = refl
 
-low-tiny : low 0x2480_0000 ≡ ok (negsuc 0)
+pub low-tiny : low 0x2480_0000 ≡ ok (negsuc 0)
 unfolding coordinate trunc floor sub ofBits ofInt le toSigned
 low-tiny = refl
 

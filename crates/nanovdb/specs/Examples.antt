@@ -21,29 +21,29 @@ use Rattle.nanovdb.specs.Decode.{decodeDensity}
 use Rattle.nanovdb.specs.Keys.{key-same}
 
 -- two spans (header and root), 999 roots and no nodes
-abbrev places : Places
+abbrev pub places : Places
 places = record { spans = 2; roots = 999; upper = 0; lower = 0; leaf = 0 }
 
 -- ---- keys and targets
 
 -- the block of a key
-key-block : (e : Entry) → rootOf 0x3ffffc0000000000 e ≡ record { x = negsuc 0; y = pos 0; z = pos 0; entry = e }
+pub key-block : (e : Entry) → rootOf 0x3ffffc0000000000 e ≡ record { x = negsuc 0; y = pos 0; z = pos 0; entry = e }
 unfolding signed
 key-block e = refl
 
 bit-62 : keyPasses (2 ^ 62) ≡ false
 bit-62 = refl
 
-target : childTarget 736 (pos 96) ≡ ok 832
+pub target : childTarget 736 (pos 96) ≡ ok 832
 target = refl
 
-target-off : childTarget 736 (pos 80) ≡ refused 8
+pub target-off : childTarget 736 (pos 80) ≡ refused 8
 target-off = refl
 
 -- ---- the sample
 
 -- the sample is accepted
-accepted : numberOf (decodeDensity sample places) ≡ 0
+pub accepted : numberOf (decodeDensity sample places) ≡ 0
 unfolding decodeDensity sample le signed narrow validate densityFault boundsFault indexFault mapFault ofBits lt eq sub add
 accepted = refl
 
@@ -53,26 +53,30 @@ unfolding signed
 reads c s = sample-walk c ∙ ap (λ (t : Bool). cond t (record { bits = 0x3f000000; level = ofRoot }) (record { bits = 0; level = ofBackground })) (key-same 0x3ffffc0000000000 c tt s)
 
 -- bit 62 alone in the tile's key
-bit-62-refused : numberOf (decodeDensity (sampleWith (field 800 8 (2 ^ 62) ∷ [])) places) ≡ 7
+pub bit-62-refused : numberOf (decodeDensity (sampleWith (field 800 8 (2 ^ 62) ∷ [])) places) ≡ 7
 unfolding decodeDensity written le signed narrow validate densityFault boundsFault indexFault mapFault ofBits lt eq sub add
 bit-62-refused = refl
 
 -- versions: a major of 32 passes, one of 33 does not
-version-refused : numberOf (decodeDensity (sampleWith (field 16 4 69206016 ∷ [])) places) ≡ 3
+pub version-passes : numberOf (decodeDensity (sampleWith (field 16 4 67108864 ∷ [])) places) ≡ 0
+unfolding decodeDensity written le signed narrow validate densityFault boundsFault indexFault mapFault ofBits lt eq sub add
+version-passes = refl
+
+pub version-refused : numberOf (decodeDensity (sampleWith (field 16 4 69206016 ∷ [])) places) ≡ 3
 unfolding decodeDensity written le
 version-refused = refl
 
 -- ---- where the root may stand
 
 -- 832 bytes whose root of no tiles, its count field and its span, stands `offset` bytes behind the grid's header
-abbrev empty : ℕ → List ℕ
+abbrev pub empty : ℕ → List ℕ
 empty offset = bytesOf 832 (header 832 offset ++ rootAt (672 + offset) 0)
 
-offset-63 : numberOf (decodeDensity (empty 63) places) ≡ 6
+pub offset-63 : numberOf (decodeDensity (empty 63) places) ≡ 6
 unfolding decodeDensity written le signed narrow validate densityFault boundsFault indexFault mapFault ofBits lt eq sub add
 offset-63 = refl
 
-offset-64 : numberOf (decodeDensity (empty 64) places) ≡ 0
+pub offset-64 : numberOf (decodeDensity (empty 64) places) ≡ 0
 unfolding decodeDensity written le signed narrow validate densityFault boundsFault indexFault mapFault ofBits lt eq sub add
 offset-64 = refl
 

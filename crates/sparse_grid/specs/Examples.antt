@@ -14,10 +14,10 @@ use Rattle.sparse_grid.specs.Lookup.{value, refused, rootsFrom, lookup}
 use Rattle.sparse_grid.specs.Answers.{at}
 
 -- -4097 lies in block -2, -4096 and -1 in block -1, 4095 in 0, 4096 in 1
-blocks-below : blockOf (at (negsuc 4096) (negsuc 4095) (negsuc 0)) ≡ at (negsuc 1) (negsuc 0) (negsuc 0)
+pub blocks-below : blockOf (at (negsuc 4096) (negsuc 4095) (negsuc 0)) ≡ at (negsuc 1) (negsuc 0) (negsuc 0)
 blocks-below = refl
 
-blocks-above : blockOf (at (pos 0) (pos 4095) (pos 4096)) ≡ at (pos 0) (pos 0) (pos 1)
+pub blocks-above : blockOf (at (pos 0) (pos 4095) (pos 4096)) ≡ at (pos 0) (pos 0) (pos 1)
 blocks-above = refl
 
 -- coordinate -1 has slots 31, 15 and 7 at the three levels: on each axis, and so the last slot of its nodes

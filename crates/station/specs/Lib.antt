@@ -1,3 +1,4 @@
 pub mod Claim
 pub mod Points
 pub mod Theorem
+pub mod Bench
