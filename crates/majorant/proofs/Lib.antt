@@ -6,3 +6,5 @@ pub mod Corners
 pub mod Signs
 pub mod RootStep
 pub mod Refused
+pub mod Building
+pub mod Builds

@@ -28,12 +28,13 @@ use Rattle.sparse_grid.specs.Validate.{validate, densityFault}
 use Rattle.sparse_grid.specs.Lookup.{readIn}
 use Rattle.medium.specs.Medium.{Point, Medium, Axis, onCoord, boundsFault, indexFault, mapFault, mediumFault, each}
 use Rattle.majorant.specs.Boxes.{Box, boxMaximum}
-use Rattle.majorant.specs.Cells.{Cells, cellCorner, Ends, boxOf, one, firstEnds, secondEnds, figure, figures, AroundIn, EnclosesIn}
-use Rattle.majorant.specs.Index.{worldToIndex}
+use Rattle.majorant.specs.Figures.{boxOf, figure, figures}
+use Rattle.index.specs.Cells.{Cells, cellCorner, Ends, one, secondEnds, firstEnds, AroundIn, EnclosesIn}
+use Rattle.index.specs.Index.{worldToIndex}
 use Rattle.majorant.specs.Build.{build}
 use Rattle.majorant.specs.Offsets.{leZ-through, leZ-suc, suc-rises}
 use Rattle.majorant.specs.Maximum.{greatest, max-number}
-use Rattle.majorant.specs.Middle.{Scaled, scaled, index-mid}
+use Rattle.index.specs.Middle.{Scaled, scaled, index-mid}
 use Rattle.refusals.specs.Results.{Result, ok, bind, need}
 
 -- ---- the figures, one by one
@@ -143,7 +144,7 @@ pub record Built (g : Grid) (m : Medium) (n : Cells) (l : List Float) : Type 0 w
   pub bounds : (a : Axis) → boundsFault m a ≡ 0
   pub scale : Scaled m
   pub size : length l ≡ n .x * n .y * n .z
-  pub figure : (k : ℕ) → k < n .x * n .y * n .z → Rattle.majorant.specs.Cells.figure (boxMaximum (readIn g)) m n k ≡ ok (getD l k +0)
+  pub figure : (k : ℕ) → k < n .x * n .y * n .z → Rattle.majorant.specs.Figures.figure (boxMaximum (readIn g)) m n k ≡ ok (getD l k +0)
 
 each-none : (f : Axis → ℕ) → each f ≡ 0 → (a : Axis) → f a ≡ 0
 each-none f e =

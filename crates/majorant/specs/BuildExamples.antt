@@ -12,8 +12,9 @@ use Rattle.sparse_grid.specs.Tables.{Grid}
 use Rattle.sparse_grid.specs.Validate.{validate, densityFault}
 use Rattle.sparse_grid.specs.Lookup.{lookup}
 use Rattle.medium.specs.Medium.{Point, Medium, boundsFault, indexFault, mapFault}
-use Rattle.majorant.specs.Cells.{Cells, corner, figure, figures, firstEnds, secondEnds}
-use Rattle.majorant.specs.Index.{worldToIndex, majorantIndex}
+use Rattle.index.specs.Cells.{Cells, corner, firstEnds, secondEnds}
+use Rattle.majorant.specs.Figures.{figure, figures}
+use Rattle.index.specs.Index.{worldToIndex, majorantIndex}
 use Rattle.majorant.specs.Boxes.{boxMaximum}
 use Rattle.majorant.specs.Build.{build}
 use Rattle.float.specs.Zero.{+0}

@@ -1,12 +1,12 @@
 -- Definitions that the public contracts and the one claim cite.
 pub mod Boxes
-pub mod Index
-pub mod Cells
+pub mod Figures
 pub mod Build
 pub mod Maxima
 -- Definitions that only contracts within the crate cite.
 pub mod Most
 pub mod RangeMax
+pub mod Rows
 -- Worked examples.
 pub mod BoxExamples
 pub mod BuildExamples
@@ -15,7 +15,5 @@ pub mod Offsets
 pub mod Maximum
 pub mod Greatest
 pub mod FitLaws
-pub mod Corners
-pub mod Enclosed
-pub mod Middle
+pub mod RowLaws
 pub mod Bounded

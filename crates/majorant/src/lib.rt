@@ -1,12 +1,21 @@
-// The box maximum, the index position of a point, and the table of majorants (nanovdb.rs).
+// The box maximum and the table of majorants (nanovdb.rs).
 ghost use mathlib.Core.Path.{_≡_};
 ghost use Rattle.sparse_grid.specs.Tables.{gridOf};
-ghost use Rattle.majorant.specs.Build.{publicMaximum};
+ghost use lib.ListN.{length, replicate};
+ghost use Rattle.refusals.specs.Results.{numberOf, valueOr};
+ghost use Rattle.float.specs.Zero.{+0};
+ghost use Rattle.medium.specs.Record.{asMedium};
+ghost use Rattle.majorant.specs.Build.{publicMaximum, cube, buildInto};
 ghost use Rattle.majorant.specs.Maxima.{maximumOf, between};
 
+mod build;
 mod node_max;
 mod range_max;
 
+use build::build_fault;
+use build::cells;
+use lent::zero_f32;
+use medium::Medium;
 use range_max::range_max;
 use sparse_grid::validate;
 
@@ -68,4 +77,61 @@ pub fn box_maximum(
         hz,
     );
     Maximum::Value(maximum)
+}
+
+// The table of majorants, one figure for each of the 64 x 64 x 64 cells: cell x + 64y + 4096z. After a refusal its number, and the table is zero.
+pub fn build_majorant(
+    background: f32,
+    blocks: &[i32],
+    root_links: &[u32],
+    root_values: &[f32],
+    upper_links: &[u32],
+    upper_values: &[f32],
+    lower_links: &[u32],
+    lower_values: &[f32],
+    leaf_values: &[f32],
+    m: Medium,
+    majorants: &mut [f32],
+) -> u32
+    ensures number { λ r. ⌜ r ≡ numberOf (buildInto (gridOf background (now (blocks .entry)) (now («root_links» .entry)) (now («root_values» .entry)) (now («upper_links» .entry)) (now («upper_values» .entry)) (now («lower_links» .entry)) (now («lower_values» .entry)) (now («leaf_values» .entry))) (asMedium m) (cube 64) (length (now (majorants .entry)))) ⌝ }
+    ensures table { λ r. ⌜ now (majorants .exit) ≡ valueOr (replicate (length (now (majorants .entry))) +0) (buildInto (gridOf background (now (blocks .entry)) (now («root_links» .entry)) (now («root_values» .entry)) (now («upper_links» .entry)) (now («upper_values» .entry)) (now («lower_links» .entry)) (now («lower_values» .entry)) (now («leaf_values» .entry))) (asMedium m) (cube 64) (length (now (majorants .entry)))) ⌝ }
+{
+    let before = build_fault(
+        background,
+        blocks,
+        root_links,
+        root_values,
+        upper_links,
+        upper_values,
+        lower_links,
+        lower_values,
+        leaf_values,
+        m,
+        majorants.len(),
+        262144,
+    );
+    if before != 0 {
+        zero_f32(majorants);
+        return before;
+    }
+    let number = cells(
+        background,
+        blocks,
+        root_links,
+        root_values,
+        upper_links,
+        upper_values,
+        lower_links,
+        lower_values,
+        leaf_values,
+        m,
+        64,
+        64,
+        64,
+        majorants,
+    );
+    if number != 0 {
+        zero_f32(majorants);
+    }
+    number
 }

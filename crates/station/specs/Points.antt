@@ -22,10 +22,10 @@ use Rattle.medium.specs.Medium.{Point, Medium, Axis, onPoint, onCoord}
 use Rattle.nanovdb.specs.Nodes.{Places}
 use Rattle.nanovdb.specs.Decode.{Accepted, decodeDensity, mediumOf, mediumAt}
 use Rattle.nanovdb.specs.Agreement.{ReadsAs}
-use Rattle.majorant.specs.Cells.{corner, Cells, cellAxis, cellCorner, Between, AroundIn, EnclosesIn}
-use Rattle.majorant.specs.Index.{worldToIndex}
+use Rattle.index.specs.Cells.{corner, Cells, cellAxis, cellCorner, Between, AroundIn, EnclosesIn}
+use Rattle.index.specs.Index.{worldToIndex}
 use Rattle.majorant.specs.Build.{build, publicMaximum}
-use Rattle.majorant.specs.Enclosed.{Fitting, Numbered, enclosed}
+use Rattle.index.specs.Enclosed.{Fitting, Numbered, enclosed}
 use Rattle.majorant.specs.Boxes.{Box, Greatest, boxMaximum}
 use Rattle.majorant.specs.Maximum.{greatest, max-same}
 use Rattle.majorant.specs.Bounded.{bounded, built}

@@ -8,7 +8,7 @@ use lib.Ieee.{Float, binary32, le, isNan}
 use Rattle.float.specs.Ordered.{le-through, number-l, found}
 use Rattle.float.specs.Blend.{blend, part, Held, Same, blend-at, part-01, part-first, part-last, blend-number, blend-first, blend-last}
 use Rattle.medium.specs.Medium.{Medium, Axis, onPoint}
-use Rattle.majorant.specs.Cells.{corner}
+use Rattle.index.specs.Cells.{corner}
 
 corner-is : (m : Medium) (a : Axis) (n k : ℕ) → 0 < n → n ≤ 2 ^ 24 → k ≤ n → corner m a n k ≡ blend binary32 (part binary32 k n) (onPoint a (m .low)) (onPoint a (m .high))
 unfolding corner

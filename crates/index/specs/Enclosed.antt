@@ -12,8 +12,8 @@ use lib.Ieee.Fits.{and-l, and-r}
 use lib.Ieee.Scale.{finite}
 use Rattle.medium.specs.Medium.{xAxis, yAxis, zAxis}
 use Rattle.medium.specs.Medium.{Point, Medium, Axis, onPoint, boundsFault}
-use Rattle.majorant.specs.Cells.{corner, Cells, cellAxis, cellsOn, Between, EnclosesIn}
-use Rattle.majorant.specs.Corners.{on-axis}
+use Rattle.index.specs.Cells.{corner, Cells, cellAxis, cellsOn, Between, EnclosesIn}
+use Rattle.index.specs.Corners.{on-axis}
 use Rattle.refusals.specs.FaultLaws.{unless-zero}
 use Rattle.float.specs.Tests.{yes}
 use lib.Ieee.Bits.{is-true}
@@ -40,13 +40,13 @@ abbrev pub cellOf : Cells → ℕ → ℕ → ℕ → ℕ
 cellOf n x y z = (z * n .y + y) * n .x + x
 
 module _ (n : Cells) (x y z : ℕ) (X : x < n .x) (Y : y < n .y) (Z : z < n .z) where
-  cell-x : cellAxis n (cellOf n x y z) xAxis ≡ x
+  pub cell-x : cellAxis n (cellOf n x y z) xAxis ≡ x
   cell-x = digits-mod (z * n .y + y) X
 
-  cell-y : cellAxis n (cellOf n x y z) yAxis ≡ y
+  pub cell-y : cellAxis n (cellOf n x y z) yAxis ≡ y
   cell-y = ap (λ (k : ℕ). k % n .y) (digits-div (z * n .y + y) X) ∙ digits-mod z Y
 
-  cell-z : cellAxis n (cellOf n x y z) zAxis ≡ z
+  pub cell-z : cellAxis n (cellOf n x y z) zAxis ≡ z
   cell-z = sym (div-div-eq-div-mul (cellOf n x y z) (n .x) (n .y)) ∙ ap (λ (k : ℕ). k / n .y) (digits-div (z * n .y + y) X) ∙ digits-div z Y
 
   cell-lt : cellOf n x y z < n .x * n .y * n .z

@@ -1,20 +1,18 @@
--- The cells that the world box is cut into: corners, the two boxes of voxels of a cell, and its figure.
-use Prim.Native.Nat.{ℕ, zero, suc, _+_, _*_, _%_, _/_}
-use mathlib.Core.List.{List, [], _∷_, _++_}
+-- The cells that the world box is cut into: their corners, and the ends of a cell's two boxes of voxels on each axis.
+use Prim.Native.Nat.{ℕ, _+_, _*_, _%_, _/_}
 use mathlib.Core.Path.{_≡_}
-use mathlib.Core.Bool.{true, cond, not}
+use mathlib.Core.Bool.{true, cond}
 use mathlib.Core.Logic.{_⊎_}
 use lib.IntN.{ℤ, pos, sucℤ}
 use lib.Signed.{leZ}
-use lib.Ieee.{Float, binary32, binary64, add, sub, mul, div, lt, le, ofInt}
-use Rattle.refusals.specs.Results.{Result, ok, bind, need}
+use lib.Ieee.{Float, binary32, binary64, add, sub, mul, div, le, ofInt}
+use Rattle.refusals.specs.Results.{Result, ok, bind}
 use Rattle.float.specs.Fused.{trunc, floor}
 use Rattle.float.specs.Coordinate.{coordinate}
 use Rattle.float.specs.Integer.{floorZ}
 use Rattle.layout.specs.Coordinates.{Coord}
 use Rattle.medium.specs.Medium.{Point, Medium, Axis, xAxis, yAxis, zAxis, onPoint, onCoord}
-use Rattle.majorant.specs.Boxes.{Box}
-use Rattle.majorant.specs.Index.{worldToIndex, majorantIndex}
+use Rattle.index.specs.Index.{worldToIndex, majorantIndex}
 
 -- the corner k of n on one axis: (1 - t) * low + t * high with t = k / n, each step rounded
 unfoldable pub corner : Medium → Axis → ℕ → ℕ → Float
@@ -54,12 +52,6 @@ pub record Ends : Type 0 where
   pub lo : ℤ
   pub hi : ℤ
 
--- the box of its three axes, or the fault of the first axis that has one
-abbrev pub boxOf : (Axis → Result Ends) → Result Box
-boxOf f =
-    bind (f xAxis) (λ (x : Ends). bind (f yAxis) (λ (y : Ends). bind (f zAxis) (λ (z : Ends).
-    ok (record { lo = record { x = x .lo; y = y .lo; z = z .lo }; hi = record { x = x .hi; y = y .hi; z = z .hi } }))))
-
 abbrev pub one : Float
 one = ofInt binary64 (pos 1)
 
@@ -76,19 +68,6 @@ secondEnds m n k a =
     bind (coordinate (floor binary64 (worldToIndex m (cellCorner m n k 0) a))) (λ (l : ℤ).
     bind (coordinate (add binary64 (floor binary64 (worldToIndex m (cellCorner m n k 1) a)) one)) (λ (h : ℤ).
     ok (record { lo = l; hi = h })))
-
--- the figure of cell k: the maximum of the first box; 17 where that of the second is greater
-unfoldable pub figure : (Box → Float) → Medium → Cells → ℕ → Result Float
-figure maximum m n k =
-    bind (boxOf (firstEnds m n k)) (λ (f : Box).
-    bind (boxOf (secondEnds m n k)) (λ (s : Box).
-    need (not (lt (maximum f) (maximum s))) 17 (ok (maximum f))))
-
--- the first c figures, or the fault of the lowest cell that has one
-unfoldable pub figures : (Box → Float) → Medium → Cells → ℕ → Result (List Float)
-figures maximum m n zero = ok []
-figures maximum m n (suc c) =
-    bind (figures maximum m n c) (λ (l : List Float). bind (figure maximum m n c) (λ (v : Float). ok (l ++ (v ∷ []))))
 
 -- ---- where a point lies
 

@@ -18,8 +18,8 @@ use Rattle.float.specs.Middle.{mul-left, fma-left, fma-last, sub-left, Mid, mid
 use Rattle.medium.specs.Medium.{xAxis, yAxis, zAxis}
 use Rattle.medium.specs.Medium.{Point, Medium, Axis, onPoint, mapAt, mapFault, diagonal, zeroes}
 use Rattle.refusals.specs.FaultLaws.{unless-zero}
-use Rattle.majorant.specs.Index.{worldToIndex}
-use Rattle.majorant.specs.Cells.{Between}
+use Rattle.index.specs.Index.{worldToIndex}
+use Rattle.index.specs.Cells.{Between}
 
 -- ---- the map
 pub record Scaled (m : Medium) : Type 0 where
@@ -46,22 +46,55 @@ tests-at b [] h i = tt
 tests-at b (x ∷ l) h zero = and-r b x (tests-first (b && x) l h)
 tests-at b (x ∷ l) h (suc i) = tests-at (b && x) l h i
 
-pub scaled : (m : Medium) → mapFault m ≡ 0 → Scaled m
+abbrev real : Float → Bool
+real v = lib.Ieee.Scale.finite v
+
+-- the tests of the map after its first place, and of the translation
+abbrev rest : Medium → List Bool
+rest m =
+    let at : ℕ → Float = λ i. getD (m .map) i +0 in
+    zeroes (at 1) ∷ zeroes (at 2) ∷ zeroes (at 3) ∷ diagonal (at 4) ∷ zeroes (at 5) ∷ zeroes (at 6) ∷ zeroes (at 7) ∷ diagonal (at 8) ∷ real (m .translation .x) ∷ real (m .translation .y) ∷ real (m .translation .z) ∷ []
+
+all-passed : (m : Medium) → mapFault m ≡ 0 → T (tests (diagonal (getD (m .map) 0 +0)) (rest m))
 unfolding mapFault
+all-passed m e = unless-zero (tests (diagonal (getD (m .map) 0 +0)) (rest m)) 12 e
+
+first-passed : (m : Medium) → mapFault m ≡ 0 → T (diagonal (getD (m .map) 0 +0))
+first-passed m e = tests-first (diagonal (getD (m .map) 0 +0)) (rest m) (all-passed m e)
+
+passed : (m : Medium) → mapFault m ≡ 0 → (i : ℕ) → T (getD (rest m) i true)
+passed m e = tests-at (diagonal (getD (m .map) 0 +0)) (rest m) (all-passed m e)
+
+pub scaled : (m : Medium) → mapFault m ≡ 0 → Scaled m
 scaled m e =
     let at : ℕ → Float = λ i. getD (m .map) i +0 in
-    let l : List Bool = zeroes (at 1) ∷ zeroes (at 2) ∷ zeroes (at 3) ∷ diagonal (at 4) ∷ zeroes (at 5) ∷ zeroes (at 6) ∷ zeroes (at 7) ∷ diagonal (at 8) ∷ real (m .translation .x) ∷ real (m .translation .y) ∷ real (m .translation .z) ∷ [] in
-    let h : T (tests (diagonal (at 0)) l) = unless-zero (tests (diagonal (at 0)) l) 12 e in
     let z : (i : ℕ) → T (zeroes (at i)) → Factor (at i) = λ i t. inr (zeroes-zero (at i) t) in
     let d : (i : ℕ) → T (diagonal (at i)) → Factor (at i) = λ i t. inl (diagonal-unsigned (at i) t) in
-    let t : (i : ℕ) → T (getD l i true) = tests-at (diagonal (at 0)) l h in
+    let t : (i : ℕ) → T (getD (rest m) i true) = passed m e in
     record {
-      factor = λ a. elim a [ xAxis ↦ (d 0 (tests-first (diagonal (at 0)) l h), z 1 (t 0), z 2 (t 1)) | yAxis ↦ (z 3 (t 2), d 4 (t 3), z 5 (t 4)) | zAxis ↦ (z 6 (t 5), z 7 (t 6), d 8 (t 7)) ];
+      factor = λ a. elim a [ xAxis ↦ (d 0 (first-passed m e), z 1 (t 0), z 2 (t 1)) | yAxis ↦ (z 3 (t 2), d 4 (t 3), z 5 (t 4)) | zAxis ↦ (z 6 (t 5), z 7 (t 6), d 8 (t 7)) ];
       moved = λ a. elim a [ xAxis ↦ t 8 | yAxis ↦ t 9 | zAxis ↦ t 10 ];
     }
-  where
-    real : Float → Bool
-    real v = lib.Ieee.Scale.finite v
+
+-- the map is diagonal: finite there, and zeros of either sign elsewhere
+pub record Straight (m : Medium) : Type 0 where
+  pub xx : T (finite (mapAt m xAxis 0))
+  pub xy : T (isZero (mapAt m xAxis 1))
+  pub xz : T (isZero (mapAt m xAxis 2))
+  pub yx : T (isZero (mapAt m yAxis 0))
+  pub yy : T (finite (mapAt m yAxis 1))
+  pub yz : T (isZero (mapAt m yAxis 2))
+  pub zx : T (isZero (mapAt m zAxis 0))
+  pub zy : T (isZero (mapAt m zAxis 1))
+  pub zz : T (finite (mapAt m zAxis 2))
+
+pub straight : (m : Medium) → mapFault m ≡ 0 → Straight m
+straight m e =
+    let at : ℕ → Float = λ i. getD (m .map) i +0 in
+    let z : (i : ℕ) → T (zeroes (at i)) → T (isZero (at i)) = λ i t. zeroes-zero (at i) t in
+    let d : (i : ℕ) → T (diagonal (at i)) → T (finite (at i)) = λ i t. and-l (finite (at i)) (lt +0 (at i)) t in
+    let t : (i : ℕ) → T (getD (rest m) i true) = passed m e in
+    record { xx = d 0 (first-passed m e); xy = z 1 (t 0); xz = z 2 (t 1); yx = z 3 (t 2); yy = d 4 (t 3); yz = z 5 (t 4); zx = z 6 (t 5); zy = z 7 (t 6); zz = d 8 (t 7) }
 
 -- ---- one axis of the map. Nothing but this axis's two ends need be finite: an infinity or a NaN on the way would be seen in the end
 pub index-mid : (m : Medium) → Scaled m → (l h p : Point) → Between l h p → (a : Axis) → T (finite (worldToIndex m l a)) → T (finite (worldToIndex m h a)) → Mid (worldToIndex m l a) (worldToIndex m p a) (worldToIndex m h a)

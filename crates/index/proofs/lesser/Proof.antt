@@ -1,0 +1,13 @@
+-- `index::lesser` meets its contract. Assumes nothing.
+use Rattle.index.proofs.Ends.{lesser-first, lesser-second}
+use Rattle.index.proofs.lesser.Statement.{statement}
+use Rattle.index.proofs.lesser.Tie as tie
+
+returns : tie.Need-returns
+returns c = lesser-first (c .before .args .a) (c .before .args .b) (c .before .good .0) (c .before .good .1 .0) (c .if1 .taken)
+
+returns-2 : tie.Need-returns-2
+returns-2 c = lesser-second (c .before .args .a) (c .before .args .b) (c .before .good .0) (c .before .good .1 .0) (c .if1 .left)
+
+pub lesser-spec : {M : Type 1} → statement M
+lesser-spec = tie.close (tie.spec returns returns-2)

@@ -1,0 +1,64 @@
+-- Ends, positions and refusals that the papers name. Each is computed.
+use mathlib.Core.Path.{_≡_, refl}
+use mathlib.Core.List.{[], _∷_}
+use mathlib.Core.Bool.{true, false}
+use lib.IntN.{pos, negsuc}
+use lib.Ieee.{Float, inf, fin, binary32, add, sub, mul, lt, le, eq, ofInt, toSigned, ofBits, toBits}
+use Rattle.refusals.specs.Results.{ok, refused}
+use Rattle.float.specs.Zero.{+0}
+use Rattle.float.specs.Fused as F
+use Rattle.float.specs.Coordinate.{coordinate}
+use Rattle.layout.specs.Coordinates.{Coord}
+use Rattle.medium.specs.Medium.{Point, Medium, mapFault}
+use Rattle.index.specs.Index.{worldToIndex}
+use Rattle.index.specs.Axes.{Line, firstLow, indexOn, majorantOn}
+use Rattle.index.specs.Answers.{indexBits}
+
+-- ---- the low end of the first box: less 1 in f64, truncated
+
+-- 1 / 2 less 1 is -1 / 2, which truncates to 0; its floor would be -1
+half-low : firstLow (fin false 1 (negsuc 0)) ≡ ok (pos 0)
+unfolding firstLow coordinate F.trunc add sub le lt eq ofInt toSigned
+half-low = refl
+
+-- -2147483648 less 1 is no i32
+least-low : firstLow (fin true 1 (pos 31)) ≡ refused 16
+unfolding firstLow coordinate F.trunc add sub le lt eq ofInt toSigned
+least-low = refl
+
+-- 2 ^ -54 less 1 rounds to -1; the next f32 above it does not
+tiny-low : firstLow (ofBits binary32 612368384) ≡ ok (negsuc 0)
+unfolding firstLow coordinate F.trunc add sub le lt eq ofInt toSigned ofBits
+tiny-low = refl
+
+above-tiny-low : firstLow (ofBits binary32 612368385) ≡ ok (pos 0)
+unfolding firstLow coordinate F.trunc add sub le lt eq ofInt toSigned ofBits
+above-tiny-low = refl
+
+-- ---- on z the two ways differ: the product is rounded in f64 first
+
+abbrev zLine : Line
+zLine = record { last = true; low = +0; high = +0; translation = ofBits binary32 3011510270; factor = ofBits binary32 1065353217; indexLow = pos 0; indexHigh = pos 0 }
+
+z-differs : (toBits binary32 (majorantOn zLine (ofBits binary32 1065353216)) ≡ 1065353218) × (toBits binary32 (indexOn zLine (ofBits binary32 1065353216)) ≡ 1065353217)
+unfolding majorantOn indexOn F.narrow add sub mul ofBits toBits
+z-differs = (refl, refl)
+
+-- ---- world_to_index_f: an infinity on one axis is a NaN on the others; 13 comes first
+
+abbrev unit : Medium
+unit = record { low = at +0; high = at +0; indexLow = here; indexHigh = here; map = fin false 1 (pos 0) ∷ +0 ∷ +0 ∷ +0 ∷ fin false 1 (pos 0) ∷ +0 ∷ +0 ∷ +0 ∷ fin false 1 (pos 0) ∷ []; translation = at +0 }
+  where
+    at : Float → Point
+    at v = record { x = v; y = v; z = v }
+
+    here : Coord
+    here = record { x = pos 0; y = pos 0; z = pos 0 }
+
+far : indexBits unit (record { x = inf false; y = +0; z = +0 }) ≡ ok (2139095040 ∷ 2143289344 ∷ 2143289344 ∷ [])
+unfolding indexBits mapFault worldToIndex F.fma F.plus add sub mul le lt eq toBits
+far = refl
+
+skewed : indexBits (record { low = unit .low; high = unit .high; indexLow = unit .indexLow; indexHigh = unit .indexHigh; map = fin false 1 (pos 0) ∷ fin false 1 (pos 0) ∷ []; translation = unit .translation }) (record { x = inf false; y = +0; z = +0 }) ≡ refused 13
+unfolding indexBits mapFault worldToIndex F.fma F.plus add sub mul le lt eq toBits
+skewed = refl

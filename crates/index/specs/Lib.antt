@@ -1,0 +1,15 @@
+-- Definitions that the public contracts and the one claim cite.
+pub mod Index
+pub mod Cells
+pub mod Axes
+pub mod Answers
+-- Worked examples.
+pub mod Examples
+-- Laws.
+pub mod Corners
+pub mod Enclosed
+pub mod Middle
+pub mod Alike
+pub mod Sixteen
+pub mod Alone
+pub mod Whole
