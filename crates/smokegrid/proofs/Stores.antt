@@ -19,6 +19,9 @@ module _ {A : Type 0} where
   pub six : (l : List A) (z a b c d e f : A) → l ≡ replicate 6 z → set (set (set (set (set (set l 0 a) 1 b) 2 c) 3 d) 4 e) 5 f ≡ a ∷ b ∷ c ∷ d ∷ e ∷ f ∷ []
   six l z a b c d e f h = ap (λ (x : List A). set (set (set (set (set (set x 0 a) 1 b) 2 c) 3 d) 4 e) 5 f) h
 
+  pub each-of-three : (l : List A) (z a b c : A) → l ≡ replicate 3 z → set (set (set l 0 a) 1 b) 2 c ≡ a ∷ b ∷ c ∷ []
+  each-of-three l z a b c e = ap (λ (x : List A). set (set (set x 0 a) 1 b) 2 c) e
+
   -- three numbers from k on
   abbrev pub three : List A → ℕ → A → A → A → List A
   three l k x y z = set (set (set l k x) (k + 1) y) (k + 2) z
@@ -30,10 +33,10 @@ module _ {A : Type 0} where
       e₆ ∙ ap (λ (x : List A). three x 15 b₅ b₆ b₇) (e₅ ∙ ap (λ (x : List A). three x 12 b₂ b₃ b₄) (e₄ ∙ ap (λ (x : List A). three x 9 a₉ b₀ b₁) (e₃ ∙ ap (λ (x : List A). three x 6 a₆ a₇ a₈)
       (e₂ ∙ ap (λ (x : List A). three x 3 a₃ a₄ a₅) (e₁ ∙ ap (λ (x : List A). three x 0 a₀ a₁ a₂) e)))))
 
--- six i32, which locals hold as bits
+-- an i32 that a local holds as bits
+pub seen : (z : ℤ) → mag z < 2 ^ 31 → toZ w32 (ofZ w32 z) ≡ z
+seen z h = toZ-ofZ {w = w32} {z = z} (record { sfits = h })
+
 pub six-signed : (l : List ℤ) (a b c d e f : ℤ) → mag a < 2 ^ 31 → mag b < 2 ^ 31 → mag c < 2 ^ 31 → mag d < 2 ^ 31 → mag e < 2 ^ 31 → mag f < 2 ^ 31 → l ≡ replicate 6 (pos 0)
     → set (set (set (set (set (set l 0 (toZ w32 (ofZ w32 a))) 1 (toZ w32 (ofZ w32 b))) 2 (toZ w32 (ofZ w32 c))) 3 (toZ w32 (ofZ w32 d))) 4 (toZ w32 (ofZ w32 e))) 5 (toZ w32 (ofZ w32 f)) ≡ a ∷ b ∷ c ∷ d ∷ e ∷ f ∷ []
 six-signed l a b c d e f A B C D E F h = six l (pos 0) _ _ _ _ _ _ h ∙ (λ i. seen a A i ∷ seen b B i ∷ seen c C i ∷ seen d D i ∷ seen e E i ∷ seen f F i ∷ [])
-  where
-    seen : (z : ℤ) → mag z < 2 ^ 31 → toZ w32 (ofZ w32 z) ≡ z
-    seen z h = toZ-ofZ {w = w32} {z = z} (record { sfits = h })

@@ -1,17 +1,21 @@
--- What the C interface hands over in flat arrays: counts, medium and corners of a decode, or zeros after a refusal.
-use Prim.Native.Nat.{ℕ}
+-- Flat arrays of the C interface: counts, medium and corners of a decode, or zeros after a refusal; and the medium that C hands over.
+use Prim.Native.Nat.{ℕ, _+_}
 use mathlib.Core.List.{List, [], _∷_, _++_}
 use mathlib.Core.Bool.{_&&_}
 use lib.Dec.{eqb}
 use lib.IntN.{ℤ, pos}
-use lib.ListN.{replicate}
-use lib.Ieee.{Float}
+use lib.ListN.{length, getD, replicate}
+use lib.Ieee.{Float, nan}
 use Rattle.refusals.specs.Results.{Result, ok, refused}
 use Rattle.refusals.specs.Faults.{unless, passing}
 use Rattle.float.specs.Zero.{+0}
-use Rattle.medium.specs.Medium.{Medium}
+use Rattle.layout.specs.Coordinates.{Coord}
+use Rattle.sparse_grid.specs.Tables.{Grid}
+use Rattle.medium.specs.Medium.{Point, Medium}
 use Rattle.nanovdb.specs.Decode.{Accepted, decodeDensity}
 use Rattle.nanovdb.specs.Lent.{Lent, Answer, answerOf, decodeInto}
+use Rattle.index.specs.Answers.{indexBits}
+use Rattle.majorant.specs.Build.{cube, buildInto}
 
 -- roots, upper, lower and leaf nodes used
 abbrev pub countsOf : Answer → List ℕ
@@ -48,3 +52,30 @@ mediumLeft n (refused k) = replicate n +0
 abbrev pub cornersLeft : ℕ → Result Accepted → List ℤ
 cornersLeft n (ok t) = cornersOf (t .medium)
 cornersLeft n (refused k) = replicate n (pos 0)
+
+-- ---- what C hands over in flat arrays
+
+abbrev three : List ℤ → ℕ → Coord
+three l k = record { x = getD l k (pos 0); y = getD l (k + 1) (pos 0); z = getD l (k + 2) (pos 0) }
+
+abbrev point : List Float → ℕ → Point
+point l k = record { x = getD l k nan; y = getD l (k + 1) nan; z = getD l (k + 2) nan }
+
+-- the medium of 18 numbers and 6 corners: an array of that length has every place that is read, so the defaults are never met
+abbrev pub mediumFrom : List Float → List ℤ → Medium
+mediumFrom l c = record {
+  low = point l 0;
+  high = point l 3;
+  indexLow = three c 0;
+  indexHigh = three c 3;
+  map = getD l 6 nan ∷ getD l 7 nan ∷ getD l 8 nan ∷ getD l 9 nan ∷ getD l 10 nan ∷ getD l 11 nan ∷ getD l 12 nan ∷ getD l 13 nan ∷ getD l 14 nan ∷ [];
+  translation = point l 15;
+}
+
+-- 18 for a medium or index bits of another length; the corners play no part
+unfoldable pub indexFlat : List Float → Point → ℕ → Result (List ℕ)
+indexFlat m p bits = passing (unless (eqb (length m) 18 && eqb bits 3) 18) (indexBits (mediumFrom m (replicate 6 (pos 0))) p)
+
+-- 18 for a medium or corners of another length, and then the build into a table of so many places
+unfoldable pub buildFlat : Grid → List Float → List ℤ → ℕ → Result (List Float)
+buildFlat g m c places = passing (unless (eqb (length m) 18 && eqb (length c) 6) 18) (buildInto g (mediumFrom m c) (cube 64) places)

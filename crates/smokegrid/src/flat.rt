@@ -1,13 +1,15 @@
 // Flat arrays of the C interface: what a decode answers, stored in arrays of zeros.
 ghost use mathlib.Core.Path.{_≡_};
+ghost use mathlib.Core.List.{[], _∷_};
 ghost use Prim.Native.Nat.{_+_, _≤_};
 ghost use lib.IntN.{pos};
-ghost use lib.ListN.{length, set, replicate};
+ghost use lib.ListN.{length, set, getD, replicate};
 ghost use Rattle.float.specs.Zero.{+0};
 ghost use Rattle.medium.specs.Record.{asMedium};
 ghost use Rattle.decode.specs.Answers.{answer};
-ghost use Rattle.smokegrid.specs.Flat.{countsOf, floatsOf, cornersOf, flatFault};
+ghost use Rattle.smokegrid.specs.Flat.{countsOf, floatsOf, cornersOf, flatFault, mediumFrom};
 use decode::Decoded;
+use index::Position;
 use medium::Medium;
 
 // 18 for an array of another length.
@@ -65,4 +67,30 @@ pub(crate) fn put_corners(to: &mut [i32], m: Medium)
     to[3] = m.index_high[0];
     to[4] = m.index_high[1];
     to[5] = m.index_high[2];
+}
+
+// The medium of 18 numbers and 6 corners.
+pub(crate) fn medium_from(m: &[f32], c: &[i32]) -> Medium
+    requires { ⌜ (length (now m) ≡ 18) × (length (now c) ≡ 6) ⌝ }
+    ensures { λ r. ⌜ asMedium r ≡ mediumFrom (now (m .entry)) (now (c .entry)) ⌝ }
+{
+    let map = [m[6], m[7], m[8], m[9], m[10], m[11], m[12], m[13], m[14]];
+    Medium {
+        low: [m[0], m[1], m[2]],
+        high: [m[3], m[4], m[5]],
+        index_low: [c[0], c[1], c[2]],
+        index_high: [c[3], c[4], c[5]],
+        map: map,
+        translation: [m[15], m[16], m[17]],
+    }
+}
+
+// The three bit patterns of a position.
+pub(crate) fn put_bits(to: &mut [u32], p: Position)
+    requires { ⌜ now to ≡ replicate 3 0 ⌝ }
+    ensures { λ _. ⌜ now (to .exit) ≡ (getD (p .bits) 0 0 ∷ getD (p .bits) 1 0 ∷ getD (p .bits) 2 0 ∷ []) ⌝ }
+{
+    to[0] = p.bits[0];
+    to[1] = p.bits[1];
+    to[2] = p.bits[2];
 }

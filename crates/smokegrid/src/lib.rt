@@ -1,6 +1,6 @@
 // The C interface (include/smokegrid.h). A slice passes as a pointer and a length, a `&mut f32` as a pointer; each function may be called with anything.
 ghost use mathlib.Core.Path.{_≡_};
-ghost use lib.ListN.{length};
+ghost use lib.ListN.{length, replicate};
 ghost use Rattle.refusals.specs.Results.{numberOf, valueOr};
 ghost use Rattle.float.specs.Zero.{+0};
 ghost use Rattle.sparse_grid.specs.Tables.{gridOf};
@@ -10,16 +10,20 @@ ghost use Rattle.sparse_grid.specs.Answers.{answer, valueOnly, at};
 ghost use Rattle.nanovdb.specs.Lent.{tables, lengths, leftOf};
 ghost use Rattle.majorant.specs.Build.{publicMaximum};
 ghost use Rattle.majorant.specs.Maxima.{maximumOf, between};
-ghost use Rattle.smokegrid.specs.Flat.{decodeFlat, countsLeft, backgroundLeft, mediumLeft, cornersLeft};
+ghost use Rattle.smokegrid.specs.Flat.{decodeFlat, indexFlat, buildFlat, countsLeft, backgroundLeft, mediumLeft, cornersLeft};
 
 mod flat;
 
 use flat::flat_fault;
+use flat::medium_from;
+use flat::put_bits;
 use flat::put_corners;
 use flat::put_counts;
 use flat::put_medium;
+use index::world_to_index_f;
 use majorant::Maximum;
 use majorant::box_maximum;
+use majorant::build_majorant;
 use sparse_grid::Answer;
 use sparse_grid::get_value;
 use sparse_grid::validate;
@@ -256,4 +260,71 @@ pub extern "C" fn smokegrid_box_maximum(
         hz,
     );
     give_maximum(found, value)
+}
+
+// The index position of a world point, as the bits of three floats, and 0; or the number of the refusal, and zeros.
+#[no_mangle]
+pub extern "C" fn smokegrid_world_to_index_f(
+    medium: &[f32],
+    x: f32,
+    y: f32,
+    z: f32,
+    index_bits: &mut [u32],
+) -> u32
+    ensures { λ r. ⌜ r ≡ numberOf (indexFlat (now (medium .entry)) (record { x = x; y = y; z = z }) (length (now («index_bits» .entry)))) ⌝ }
+    ensures { λ _. ⌜ now («index_bits» .exit) ≡ valueOr (replicate (length (now («index_bits» .entry))) 0) (indexFlat (now (medium .entry)) (record { x = x; y = y; z = z }) (length (now («index_bits» .entry)))) ⌝ }
+{
+    lent::zero_u32(index_bits);
+    if medium.len() != 18 {
+        return refusals::TABLES;
+    }
+    if index_bits.len() != 3 {
+        return refusals::TABLES;
+    }
+    let corners = [0i32; 6];
+    let p = world_to_index_f(medium_from(medium, &corners), x, y, z);
+    put_bits(index_bits, p);
+    p.number
+}
+
+// The figures of the 64 x 64 x 64 cells, and 0; or the number of the refusal, and a table of zeros.
+#[no_mangle]
+pub extern "C" fn smokegrid_build_majorant(
+    background: f32,
+    blocks: &[i32],
+    root_links: &[u32],
+    root_values: &[f32],
+    upper_links: &[u32],
+    upper_values: &[f32],
+    lower_links: &[u32],
+    lower_values: &[f32],
+    leaf_values: &[f32],
+    medium: &[f32],
+    corners: &[i32],
+    majorants: &mut [f32],
+) -> u32
+    ensures { λ r. ⌜ r ≡ numberOf (buildFlat (gridOf background (now (blocks .entry)) (now («root_links» .entry)) (now («root_values» .entry)) (now («upper_links» .entry)) (now («upper_values» .entry)) (now («lower_links» .entry)) (now («lower_values» .entry)) (now («leaf_values» .entry))) (now (medium .entry)) (now (corners .entry)) (length (now (majorants .entry)))) ⌝ }
+    ensures { λ _. ⌜ now (majorants .exit) ≡ valueOr (replicate (length (now (majorants .entry))) +0) (buildFlat (gridOf background (now (blocks .entry)) (now («root_links» .entry)) (now («root_values» .entry)) (now («upper_links» .entry)) (now («upper_values» .entry)) (now («lower_links» .entry)) (now («lower_values» .entry)) (now («leaf_values» .entry))) (now (medium .entry)) (now (corners .entry)) (length (now (majorants .entry)))) ⌝ }
+{
+    if medium.len() != 18 {
+        lent::zero_f32(majorants);
+        return refusals::TABLES;
+    }
+    if corners.len() != 6 {
+        lent::zero_f32(majorants);
+        return refusals::TABLES;
+    }
+    build_majorant(
+        background,
+        blocks,
+        root_links,
+        root_values,
+        upper_links,
+        upper_values,
+        lower_links,
+        lower_values,
+        leaf_values,
+        medium_from(medium, corners),
+        majorants,
+    )
 }
