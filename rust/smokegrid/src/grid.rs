@@ -1,0 +1,137 @@
+//! An accepted grid, its medium record, and what can be asked of it.
+
+use crate::ffi::{self, Record};
+use crate::majorant::{Majorant, CELLS};
+use crate::refusal::Refusal;
+use crate::tables::{Places, Tables};
+
+/// A grid that the library accepted. It owns its tables and keeps nothing of the bytes.
+#[derive(Clone, Debug)]
+pub struct Grid {
+    tables: Tables,
+    used: Places,
+    medium: [f32; 18],
+    corners: [i32; 6],
+}
+
+/// How many roots and nodes a grid has.
+#[derive(Clone, Copy, Debug, PartialEq, Eq)]
+pub struct Counts {
+    pub roots: usize,
+    pub upper: usize,
+    pub lower: usize,
+    pub leaf: usize,
+}
+
+/// Where a grid stands in the world. Both boxes have their ends inside.
+#[derive(Clone, Copy, Debug, PartialEq)]
+pub struct Medium {
+    pub world_min: [f32; 3],
+    pub world_max: [f32; 3],
+    /// Row after row, from world to index.
+    pub inverse_map: [[f32; 3]; 3],
+    pub translation: [f32; 3],
+    pub index_min: [i32; 3],
+    pub index_max: [i32; 3],
+}
+
+/// More tiles than lent root places, or no place for a node or a span.
+const NO_PLACE: u32 = 9;
+
+impl Grid {
+    /// Decodes one raw grid. Whatever the bytes say, no more than four times their length is lent:
+    /// tables for the node counts that they state, and where those are wrong, for the most nodes
+    /// that they can hold.
+    pub fn decode(bytes: &[u8]) -> Result<Grid, Refusal> {
+        // With no table but two spans, only a grid with tiles, whose header and root pass, is 9.
+        let mut answer = decode_into(bytes, Places::default());
+        for places in [Places::stated, Places::most] {
+            match answer {
+                Err(refusal) if refusal.number() == NO_PLACE => {
+                    answer = decode_into(bytes, places(bytes))
+                }
+                _ => break,
+            }
+        }
+        answer
+    }
+
+    pub fn counts(&self) -> Counts {
+        let [upper, lower, leaf] = self.used.nodes;
+        Counts { roots: self.used.roots, upper, lower, leaf }
+    }
+
+    /// What a coordinate in no root block reads.
+    pub fn background(&self) -> f32 {
+        self.tables.background
+    }
+
+    pub fn medium(&self) -> Medium {
+        let three = |at: usize| [self.medium[at], self.medium[at + 1], self.medium[at + 2]];
+        let corner = |at: usize| [self.corners[at], self.corners[at + 1], self.corners[at + 2]];
+        Medium {
+            world_min: three(0),
+            world_max: three(3),
+            inverse_map: [three(6), three(9), three(12)],
+            translation: three(15),
+            index_min: corner(0),
+            index_max: corner(3),
+        }
+    }
+
+    /// The bytes of its tables.
+    pub fn table_bytes(&self) -> usize {
+        self.used.table_bytes()
+    }
+
+    pub fn validate(&self) -> Result<(), Refusal> {
+        Refusal::check(ffi::validate(&self.tables))
+    }
+
+    pub fn validate_density(&self) -> Result<(), Refusal> {
+        Refusal::check(ffi::validate_density(&self.tables))
+    }
+
+    /// The density at a voxel.
+    #[inline]
+    pub fn get_value(&self, coordinate: [i32; 3]) -> Result<f32, Refusal> {
+        value(|place| ffi::get_value(&self.tables, coordinate, place))
+    }
+
+    /// The greatest of zero and the densities from `low` to `high`, ends included.
+    pub fn box_maximum(&self, low: [i32; 3], high: [i32; 3]) -> Result<f32, Refusal> {
+        value(|place| ffi::box_maximum(&self.tables, low, high, place))
+    }
+
+    /// The index position of a world point.
+    pub fn world_to_index_f(&self, point: [f32; 3]) -> Result<[f32; 3], Refusal> {
+        let mut bits = [0; 3];
+        Refusal::check(ffi::world_to_index_f(&self.medium, point, &mut bits))?;
+        Ok(bits.map(f32::from_bits))
+    }
+
+    /// The figures of the 64 x 64 x 64 cells of the world box.
+    pub fn build_majorant(&self) -> Result<Majorant, Refusal> {
+        let mut figures = vec![0.0; CELLS];
+        let number = ffi::build_majorant(&self.tables, &self.medium, &self.corners, &mut figures);
+        Refusal::check(number).map(|()| Majorant::new(figures))
+    }
+}
+
+#[inline]
+fn value(call: impl FnOnce(&mut f32) -> u32) -> Result<f32, Refusal> {
+    let mut value = 0.0;
+    Refusal::check(call(&mut value)).map(|()| value)
+}
+
+/// A decode with places for so much, and a work table to match.
+fn decode_into(bytes: &[u8], places: Places) -> Result<Grid, Refusal> {
+    let mut tables = Tables::new(places);
+    let mut work = vec![0; places.work_words(bytes)];
+    let mut record = Record::default();
+    Refusal::check(ffi::decode_density_grid(bytes, &mut tables, &mut work, &mut record))?;
+    let [roots, upper, lower, leaf] = record.counts.map(|count| count as usize);
+    let used = Places { roots, nodes: [upper, lower, leaf] };
+    tables.truncate(used);
+    Ok(Grid { tables, used, medium: record.medium, corners: record.corners })
+}

@@ -1,0 +1,21 @@
+//! A proved loader of NanoVDB density grids (ABI 32) and of the majorant cells built over them. The
+//! work is done by the static library that `rt staticlib smokegrid` makes; here stand the types. It
+//! is looked for in target/staticlib of the repository, or in the folder SMOKEGRID_LIB_DIR.
+//!
+//! ```no_run
+//! let bytes = std::fs::read("hall.grid")?;
+//! let grid = smokegrid::Grid::decode(&bytes)?;
+//! let cells = grid.build_majorant()?;
+//! println!("{} of {} cells are clear air", cells.clear(), smokegrid::CELLS);
+//! # Ok::<(), Box<dyn std::error::Error>>(())
+//! ```
+
+mod ffi;
+mod grid;
+mod majorant;
+mod refusal;
+mod tables;
+
+pub use grid::{Counts, Grid, Medium};
+pub use majorant::{Majorant, CELLS, CELLS_PER_AXIS};
+pub use refusal::Refusal;

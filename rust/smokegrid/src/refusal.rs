@@ -1,0 +1,217 @@
+//! The refusals in words.
+
+use std::fmt;
+
+/// Why an input was turned away: a number from 1 to 18.
+#[derive(Clone, Copy, Debug, PartialEq, Eq, Hash)]
+pub struct Refusal {
+    number: u32,
+}
+
+struct Words {
+    name: &'static str,
+    meaning: &'static str,
+    advice: &'static str,
+}
+
+const DAMAGED: &str = "The file was cut off or damaged: copy or export it again.";
+
+const fn words(name: &'static str, meaning: &'static str, advice: &'static str) -> Words {
+    Words { name, meaning, advice }
+}
+
+/// By number, from 1.
+const WORDS: [Words; 18] = [
+    words(
+        "TOO_LONG",
+        "more than 4,294,967,295 bytes",
+        "Export a smaller part of the hall, or larger voxels.",
+    ),
+    words("TOO_SHORT", "fewer than 672 bytes: no grid header", DAMAGED),
+    words(
+        "HEADER",
+        "a header field that does not pass: mark, version, size, type, class, index or count",
+        "Hand over one raw Float grid of NanoVDB ABI 32 with its whole length: a density, not a \
+         level set, and not an .nvdb file or a compressed one.",
+    ),
+    words(
+        "WORLD_BOX",
+        "the world box: not finite as f32, a minimum not below its maximum, or an infinite width",
+        "Export the grid with its bounding box worked out; a grid without active voxels has none.",
+    ),
+    words("PAST_END", "a field or a span past the end of the bytes", DAMAGED),
+    words("OVERLAP", "two spans overlap", DAMAGED),
+    words("KEY_BIT", "a bit of a root key that must be 0", DAMAGED),
+    words(
+        "CHILD_TARGET",
+        "a child's target: zero in a node, negative, or not a multiple of 32",
+        DAMAGED,
+    ),
+    words(
+        "NO_PLACE",
+        "more tiles than lent root places, or no whole place for the next node or span",
+        "The program lent tables that are too short: a fault of the program, not of the grid. \
+         Report it.",
+    ),
+    words(
+        "NODE_COUNTS",
+        "the node counts in the bytes differ from the nodes that were reached",
+        DAMAGED,
+    ),
+    words(
+        "RECORD",
+        "a block repeated or out of range, a link past its table, a child with a nonzero value \
+         beside it",
+        "The grid holds one block twice: export it again, and report it to the exporter's maker.",
+    ),
+    words(
+        "NOT_FINITE",
+        "a value that is not finite",
+        "The simulation left a NaN or an infinity in the grid: replace it there and export again.",
+    ),
+    words(
+        "MAP",
+        "the map or the translation: not finite, a diagonal that is not positive, another place \
+         that is not zero",
+        "Export the grid without rotation, shear or mirroring, with voxels of a positive size.",
+    ),
+    words(
+        "INDEX_BOX",
+        "an index minimum above its maximum",
+        "Export the grid with its bounding box worked out; a grid without active voxels has none.",
+    ),
+    words(
+        "NEGATIVE",
+        "a negative density",
+        "Export the smoke density and no other field, with values below zero set to zero.",
+    ),
+    words(
+        "COORDINATE",
+        "a coordinate that is not finite or lies outside i32",
+        "World box, voxel size and translation do not belong together: check the export's units.",
+    ),
+    words(
+        "SECOND_BOX",
+        "a cell's second box has a greater maximum than its first",
+        "Rounding under this map would let a cell read low. Export with a voxel size that is a \
+         power of two and a translation of whole voxels, zero for one.",
+    ),
+    words(
+        "TABLES",
+        "paired tables of unequal length, blocks that are not three a root, a table that is not of \
+         whole nodes",
+        "The program lent tables that do not belong together: a fault of the program, not of the \
+         grid. Report it.",
+    ),
+];
+
+impl Refusal {
+    /// The most bytes that are not refused as too long.
+    pub const LONGEST: u64 = u32::MAX as u64;
+
+    /// The refusal of more than `LONGEST` bytes, for a caller who will not read them first.
+    pub const TOO_LONG: Refusal = Refusal { number: 1 };
+
+    /// The refusal of a number from 1 to 18.
+    pub fn new(number: u32) -> Option<Self> {
+        (1..=WORDS.len() as u32).contains(&number).then_some(Refusal { number })
+    }
+
+    /// `Ok` for 0, which every function of the library answers where it gave a value.
+    #[inline]
+    pub(crate) fn check(number: u32) -> Result<(), Refusal> {
+        match number {
+            0 => Ok(()),
+            number => Err(Refusal { number }),
+        }
+    }
+
+    pub fn number(self) -> u32 {
+        self.number
+    }
+
+    /// Its name in the proofs.
+    pub fn name(self) -> &'static str {
+        self.words().map_or("UNKNOWN", |words| words.name)
+    }
+
+    /// What was found.
+    pub fn meaning(self) -> &'static str {
+        self.words().map_or("a number that the library does not have", |words| words.meaning)
+    }
+
+    /// What to do about it.
+    pub fn advice(self) -> &'static str {
+        let other = "Crate and library are of different versions: build both again.";
+        self.words().map_or(other, |words| words.advice)
+    }
+
+    fn words(self) -> Option<&'static Words> {
+        WORDS.get((self.number as usize).wrapping_sub(1))
+    }
+}
+
+impl fmt::Display for Refusal {
+    fn fmt(&self, f: &mut fmt::Formatter) -> fmt::Result {
+        write!(f, "refused {}: {}. {}", self.number, self.meaning(), self.advice())
+    }
+}
+
+impl std::error::Error for Refusal {}
+
+#[cfg(test)]
+mod tests {
+    use super::*;
+
+    /// The numbers, meanings and names of README.md's table.
+    fn readme() -> Vec<(u32, String, String)> {
+        let text = include_str!("../../../README.md");
+        let cells = |line: &str| -> Option<(u32, String, String)> {
+            let mut cells = line.strip_prefix('|')?.strip_suffix('|')?.split('|').map(str::trim);
+            let number = cells.next()?.parse().ok()?;
+            let (meaning, name) = (cells.next()?, cells.next()?);
+            Some((number, meaning.to_string(), name.trim_matches('`').to_string()))
+        };
+        text.lines().filter_map(cells).collect()
+    }
+
+    #[test]
+    fn the_words_are_those_of_the_readme() {
+        let rows = readme();
+        assert_eq!(rows.len(), WORDS.len());
+        for (number, meaning, name) in rows {
+            let refusal = Refusal::new(number).unwrap();
+            assert_eq!((refusal.meaning(), refusal.name()), (&*meaning, &*name), "number {number}");
+        }
+    }
+
+    #[test]
+    fn numbers_run_from_1_to_18() {
+        let known: Vec<u32> = (0..100).filter(|n| Refusal::new(*n).is_some()).collect();
+        assert_eq!(known, (1..=18).collect::<Vec<_>>());
+        assert_eq!(Refusal::new(u32::MAX), None);
+    }
+
+    #[test]
+    fn zero_is_no_refusal_and_an_unknown_number_is_one() {
+        assert_eq!(Refusal::check(0), Ok(()));
+        assert_eq!(Refusal::check(7).unwrap_err().number(), 7);
+        assert_eq!(Refusal::check(99).unwrap_err().name(), "UNKNOWN");
+    }
+
+    #[test]
+    fn a_refusal_says_its_number_what_it_means_and_what_to_do() {
+        let error: Box<dyn std::error::Error> = Box::new(Refusal::new(15).unwrap());
+        assert_eq!(
+            error.to_string(),
+            "refused 15: a negative density. Export the smoke density and no other field, with \
+             values below zero set to zero."
+        );
+    }
+
+    #[test]
+    fn each_sentence_of_advice_ends() {
+        assert!(WORDS.iter().all(|words| words.advice.ends_with('.')));
+        assert!(WORDS.iter().all(|words| !words.meaning.ends_with('.')));
+    }
+}

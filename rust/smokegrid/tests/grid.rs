@@ -1,0 +1,203 @@
+//! Grids by hand and the sample that ships, through the library.
+
+mod common;
+
+use common::{chain, put32, put64, put_float, resize, tile, LEAF, LOWER, UPPER};
+use smokegrid::{Counts, Grid, CELLS};
+
+fn number(bytes: &[u8]) -> u32 {
+    Grid::decode(bytes).map_or_else(|refusal| refusal.number(), |_| 0)
+}
+
+fn edited(mut bytes: Vec<u8>, edit: impl FnOnce(&mut Vec<u8>)) -> Vec<u8> {
+    edit(&mut bytes);
+    bytes
+}
+
+#[test]
+fn a_tile_is_read() {
+    let grid = Grid::decode(&tile()).unwrap();
+    assert_eq!(grid.counts(), Counts { roots: 1, upper: 0, lower: 0, leaf: 0 });
+    assert_eq!(grid.background(), 0.0);
+    assert_eq!(grid.table_bytes(), 20);
+    assert_eq!(grid.get_value([-1, 0, 0]), Ok(0.5));
+    assert_eq!(grid.get_value([-4096, 4095, 4095]), Ok(0.5));
+    assert_eq!(grid.get_value([-4097, 0, 0]), Ok(0.0));
+    assert_eq!(grid.get_value([0, 0, 0]), Ok(0.0));
+    assert_eq!((grid.validate(), grid.validate_density()), (Ok(()), Ok(())));
+}
+
+#[test]
+fn the_medium_is_that_of_the_header() {
+    let medium = Grid::decode(&tile()).unwrap().medium();
+    assert_eq!((medium.world_min, medium.world_max), ([-8.0, 0.0, 0.0], [0.0, 8.0, 8.0]));
+    assert_eq!((medium.index_min, medium.index_max), ([-8, 0, 0], [-1, 7, 7]));
+    assert_eq!(medium.inverse_map, [[1.0, 0.0, 0.0], [0.0, 1.0, 0.0], [0.0, 0.0, 1.0]]);
+    assert_eq!(medium.translation, [0.0; 3]);
+}
+
+#[test]
+fn world_points_become_index_positions() {
+    let bytes = edited(tile(), |b| {
+        put_float(b, 332, 2.0);
+        put_float(b, 368, 0.5);
+    });
+    let grid = Grid::decode(&bytes).unwrap();
+    assert_eq!(grid.world_to_index_f([-1.0, 2.0, 3.5]), Ok([-3.0, 2.0, 3.5]));
+}
+
+#[test]
+fn a_box_has_its_greatest_density_and_no_less_than_zero() {
+    let grid = Grid::decode(&chain()).unwrap();
+    assert_eq!(grid.box_maximum([-4096, 0, 0], [-4096, 0, 0]), Ok(0.25));
+    assert_eq!(grid.box_maximum([-4096, 0, 0], [-3969, 127, 127]), Ok(0.75));
+    assert_eq!(grid.box_maximum([-4095, 0, 0], [-4090, 7, 7]), Ok(0.0));
+    assert_eq!(grid.box_maximum([1, 0, 0], [0, 9, 9]), Ok(0.0));
+    assert_eq!(grid.box_maximum([i32::MIN; 3], [i32::MAX; 3]), Ok(0.75));
+}
+
+#[test]
+fn a_value_of_each_level_is_read() {
+    let grid = Grid::decode(&chain()).unwrap();
+    assert_eq!(grid.counts(), Counts { roots: 1, upper: 1, lower: 1, leaf: 1 });
+    assert_eq!(grid.get_value([-4096, 0, 0]), Ok(0.25));
+    assert_eq!(grid.get_value([-4096, 0, 1]), Ok(0.0));
+    assert_eq!(grid.get_value([-3969, 127, 127]), Ok(0.75));
+    assert_eq!(grid.get_value([-1, 4095, 4095]), Ok(0.125));
+}
+
+#[test]
+fn two_roots_may_share_a_node() {
+    let bytes = edited(chain(), |b| {
+        let length = b.len() + 64 + 64;
+        resize(b, length);
+        let root = length - 128;
+        b.copy_within(736..832, root);
+        put64(b, 696, (root - 672) as u64);
+        put32(b, root + 24, 2);
+        put64(b, root + 72, (UPPER as u64).wrapping_sub(root as u64));
+        put64(b, root + 96, 7);
+        put64(b, root + 104, (UPPER as u64).wrapping_sub(root as u64));
+    });
+    let grid = Grid::decode(&bytes).unwrap();
+    assert_eq!(grid.counts(), Counts { roots: 2, upper: 1, lower: 1, leaf: 1 });
+    assert_eq!(grid.get_value([0, 0, 7 * 4096]), Ok(0.25));
+    assert_eq!(grid.get_value([-4096, 0, 0]), Ok(0.25));
+}
+
+/// 9 would say that our tables were too short.
+#[test]
+fn node_counts_that_lie_are_10_and_never_9() {
+    for at in [704, 708, 712] {
+        for count in [0, 2, 3, 1000, u32::MAX] {
+            let bytes = edited(chain(), |b| put32(b, at, count));
+            assert_eq!(number(&bytes), 10, "count {count} at {at}");
+        }
+    }
+}
+
+#[test]
+fn a_tile_count_past_the_end_is_5() {
+    for count in [2, 1000, u32::MAX] {
+        assert_eq!(number(&edited(tile(), |b| put32(b, 760, count))), 5, "{count} tiles");
+    }
+}
+
+#[test]
+fn a_cut_file_is_refused() {
+    let whole = chain();
+    for length in [0, 1, 671] {
+        assert_eq!(number(&whole[..length]), 2, "{length} bytes");
+    }
+    for length in [672, 736, 831, whole.len() - 1] {
+        assert_eq!(number(&whole[..length]), 3, "{length} bytes");
+        assert_eq!(number(&edited(whole.clone(), |b| resize(b, length))), 5, "{length} bytes");
+    }
+}
+
+#[test]
+fn each_fault_has_its_number() {
+    let nan = f32::NAN.to_bits();
+    for (due, edit) in [
+        (3, &(|b: &mut Vec<u8>| b[0] ^= 1) as &dyn Fn(&mut Vec<u8>)),
+        (4, &|b| put64(b, 560, 8f64.to_bits())),
+        (6, &|b| put64(b, UPPER + 8_256, 32)),
+        (7, &|b| put64(b, 800, 1 << 62)),
+        (8, &|b| put64(b, LOWER + 1_088, (LEAF - LOWER + 16) as u64)),
+        (12, &|b| put32(b, LEAF + 96 + 4 * 511, nan)),
+        (13, &|b| put_float(b, 332, -1.0)),
+        (14, &|b| put32(b, 736, 100)),
+        (15, &|b| put_float(b, LOWER + 1_088 + 8, -0.5)),
+    ] {
+        let bytes = edited(chain(), |b| edit(b));
+        assert_eq!(number(&bytes), due);
+    }
+}
+
+#[test]
+fn a_repeated_block_is_11() {
+    let bytes = edited(tile(), |b| {
+        resize(b, 864);
+        put32(b, 760, 2);
+        b.copy_within(800..832, 832);
+    });
+    assert_eq!(number(&bytes), 11);
+}
+
+#[test]
+fn the_cells_of_a_tile_all_have_its_density() {
+    let cells = Grid::decode(&tile()).unwrap().build_majorant().unwrap();
+    assert_eq!(cells.figures(), [0.5; CELLS]);
+    assert_eq!((cells.clear(), cells.greatest()), (0, (0.5, [0, 0, 0])));
+}
+
+#[test]
+fn a_build_outside_i32_is_16() {
+    let bytes = edited(tile(), |b| put64(b, 560, (-2147483648f64).to_bits()));
+    let refusal = Grid::decode(&bytes).unwrap().build_majorant().unwrap_err();
+    assert_eq!(refusal.number(), 16);
+}
+
+/// The voxel of a grid of one upper and one lower node at block (0, 0, 0), read from the bytes.
+fn voxel(bytes: &[u8], at: [i32; 3]) -> f32 {
+    let u64_at = |at: usize| u64::from_le_bytes(bytes[at..at + 8].try_into().unwrap());
+    let f32_at = |at: usize| f32::from_le_bytes(bytes[at..at + 4].try_into().unwrap());
+    let root = 672 + u64_at(696) as usize;
+    if at.iter().any(|c| !(0..4096).contains(c)) {
+        return f32_at(root + 28);
+    }
+    let mut node = root + u64_at(root + 72) as usize;
+    for (mask, table, side, voxels) in [(4_128, 8_256, 32, 128), (544, 1_088, 16, 8)] {
+        let [x, y, z] = at.map(|c| (c / voxels) as usize % side);
+        let slot = (x * side + y) * side + z;
+        if bytes[node + mask + slot / 8] >> (slot % 8) & 1 == 0 {
+            return f32_at(node + table + 8 * slot);
+        }
+        node += u64_at(node + table + 8 * slot) as usize;
+    }
+    let [x, y, z] = at.map(|c| c as usize % 8);
+    f32_at(node + 96 + 4 * ((x * 8 + y) * 8 + z))
+}
+
+#[test]
+fn the_sample_reads_as_its_bytes_do() {
+    let bytes = std::fs::read(concat!(env!("CARGO_MANIFEST_DIR"), "/../../samples/plume.grid"));
+    let bytes = bytes.unwrap();
+    let grid = Grid::decode(&bytes).unwrap();
+    let (mut greatest, mut smoky) = (0f32, 0);
+    for x in -2..27 {
+        for y in -2..27 {
+            for z in -2..27 {
+                let due = voxel(&bytes, [x, y, z]);
+                assert_eq!(grid.get_value([x, y, z]), Ok(due), "({x}, {y}, {z})");
+                greatest = greatest.max(due);
+                smoky += usize::from(due > 0.0);
+            }
+        }
+    }
+    assert!(smoky > 1000);
+    assert_eq!(grid.box_maximum([-2; 3], [26; 3]), Ok(greatest));
+    let cells = grid.build_majorant().unwrap();
+    assert_eq!(cells.greatest().0, greatest);
+    assert!(cells.clear() > 0);
+}

@@ -1,0 +1,86 @@
+//! The lines that are printed.
+
+use smokegrid::{Grid, Majorant, CELLS};
+use std::fmt::Display;
+use std::path::Path;
+
+const LABEL: usize = 16;
+
+pub fn line(label: &str, text: &str) -> String {
+    format!("{label:LABEL$} {text}\n")
+}
+
+pub fn file(path: &Path, length: usize) -> String {
+    line("file", &path.display().to_string())
+        + &line("length", &format!("{} bytes", counted(length)))
+}
+
+pub fn grid(grid: &Grid) -> String {
+    let (counts, medium) = (grid.counts(), grid.medium());
+    let [upper, lower, leaf] = [counts.upper, counts.lower, counts.leaf].map(counted);
+    let between = |low: String, high: String| format!("{low} to {high}");
+    let world = [medium.world_min, medium.world_max].map(|corner| triple(&corner.map(number)));
+    let [world_min, world_max] = world;
+    line("roots", &counted(counts.roots))
+        + &line("nodes", &format!("{upper} upper, {lower} lower, {leaf} leaf"))
+        + &line("index box", &between(triple(&medium.index_min), triple(&medium.index_max)))
+        + &line("world box", &between(world_min, world_max))
+        + &line("background", &number(grid.background()))
+}
+
+pub fn cells(cells: &Majorant) -> String {
+    let (greatest, cell) = cells.greatest();
+    let (clear, all) = (cells.clear(), CELLS);
+    let share = 100.0 * clear as f64 / all as f64;
+    let clear = format!("{} of {} cells ({share:.1} %)", counted(clear), counted(all));
+    line("greatest figure", &format!("{} in cell {}", number(greatest), triple(&cell)))
+        + &line("clear air", &clear)
+}
+
+pub fn triple<T: Display>([x, y, z]: &[T; 3]) -> String {
+    format!("({x}, {y}, {z})")
+}
+
+/// A float in its shortest form, with an exponent where it would be long.
+pub fn number(value: f32) -> String {
+    match value.abs() {
+        size if size == 0.0 || (1e-4..1e7).contains(&size) => format!("{value}"),
+        _ => format!("{value:e}"),
+    }
+}
+
+/// A count with a comma after each three digits.
+pub fn counted(count: usize) -> String {
+    let digits = count.to_string();
+    let mut text = String::new();
+    for (i, digit) in digits.chars().enumerate() {
+        if i > 0 && (digits.len() - i) % 3 == 0 {
+            text.push(',');
+        }
+        text.push(digit);
+    }
+    text
+}
+
+#[cfg(test)]
+mod tests {
+    use super::*;
+
+    #[test]
+    fn counts_have_commas() {
+        let text = [0, 7, 999, 1000, 262_144, 4_294_967_295].map(counted);
+        assert_eq!(text, ["0", "7", "999", "1,000", "262,144", "4,294,967,295"]);
+    }
+
+    #[test]
+    fn floats_are_short() {
+        let text = [0.0, 0.1, -8.0, 1.5e-7, 3.4028235e38, 16777216.0].map(number);
+        assert_eq!(text, ["0", "0.1", "-8", "1.5e-7", "3.4028235e38", "1.6777216e7"]);
+    }
+
+    #[test]
+    fn lines_are_aligned() {
+        assert_eq!(line("at (1, 2, 3)", "0.5"), "at (1, 2, 3)     0.5\n");
+        assert_eq!(triple(&[-1, 0, 7]), "(-1, 0, 7)");
+    }
+}

@@ -1,0 +1,166 @@
+//! The program as it is called: what it prints, and its exit status.
+
+use std::path::{Path, PathBuf};
+use std::process::{Command, Output};
+
+const SAMPLE: &str = concat!(env!("CARGO_MANIFEST_DIR"), "/../../samples/plume.grid");
+
+fn station(words: &[&str]) -> Output {
+    Command::new(env!("CARGO_BIN_EXE_station")).args(words).output().unwrap()
+}
+
+fn out(output: &Output) -> String {
+    String::from_utf8(output.stdout.clone()).unwrap()
+}
+
+fn err(output: &Output) -> String {
+    String::from_utf8(output.stderr.clone()).unwrap()
+}
+
+/// A file with the sample's bytes after an edit.
+fn edited(name: &str, edit: impl FnOnce(&mut Vec<u8>)) -> PathBuf {
+    let mut bytes = std::fs::read(SAMPLE).unwrap();
+    edit(&mut bytes);
+    let path = Path::new(env!("CARGO_TARGET_TMPDIR")).join(name);
+    std::fs::write(&path, bytes).unwrap();
+    path
+}
+
+/// Refused: status 1, the number and what to do on standard error, and no figures.
+fn assert_refused(path: &Path, number: u32) -> String {
+    let output = station(&[path.to_str().unwrap()]);
+    let err = err(&output);
+    assert_eq!(output.status.code(), Some(1), "{err}");
+    let start = format!("station: {}: refused {number}: ", path.display());
+    assert!(err.starts_with(&start), "{err}");
+    assert!(err.lines().nth(1).is_some_and(|line| line.starts_with("what to do: ")), "{err}");
+    assert!(!out(&output).contains("greatest figure"), "{}", out(&output));
+    out(&output)
+}
+
+/// The figures are those of the Rust modules (tests/oracle).
+#[test]
+fn the_sample_is_shown() {
+    let output = station(&[SAMPLE]);
+    assert_eq!((output.status.code(), err(&output).as_str()), (Some(0), ""));
+    let text = out(&output);
+    let lines: Vec<&str> = text.lines().collect();
+    assert_eq!(lines[0], format!("file             {SAMPLE}"));
+    assert_eq!(
+        lines[1..9],
+        [
+            "length           345,824 bytes",
+            "roots            1",
+            "nodes            1 upper, 1 lower, 19 leaf",
+            "index box        (0, 0, 0) to (23, 23, 23)",
+            "world box        (0, 0, 0) to (6, 6, 6)",
+            "background       0",
+            "greatest figure  1 in cell (26, 21, 0)",
+            "clear air        131,269 of 262,144 cells (50.1 %)",
+        ]
+    );
+}
+
+#[test]
+fn each_step_has_its_time_and_memory() {
+    let text = out(&station(&[SAMPLE]));
+    let lines: Vec<&str> = text.lines().skip(10).collect();
+    assert_eq!(
+        lines[0].split_whitespace().collect::<Vec<_>>(),
+        ["step", "time", "it", "holds", "peak", "memory"]
+    );
+    for (line, (name, holds)) in
+        lines[1..].iter().zip([("read", "345,824"), ("decode", "333,844"), ("build", "1,048,576")])
+    {
+        let words: Vec<&str> = line.split_whitespace().collect();
+        assert_eq!((words[0], words[2], words[3]), (name, "ms", holds), "{line}");
+        assert!(words[1].parse::<f64>().is_ok_and(|time| time >= 0.0), "{line}");
+    }
+    assert_eq!(lines.len(), 4);
+}
+
+#[test]
+fn questions_are_answered_in_their_order() {
+    let words = "--at 11 9 0 --box 0 0 0 23 23 23 --at -1 0 0 --cell 26 21 0 --box 9 0 0 8 0 0";
+    let mut all = vec![SAMPLE];
+    all.extend(words.split(' '));
+    let output = station(&all);
+    let text = out(&output);
+    let answers: Vec<&str> = text.lines().skip(9).take(5).collect();
+    assert_eq!(output.status.code(), Some(0));
+    assert_eq!(
+        answers,
+        [
+            "at (11, 9, 0)    1",
+            "box (0, 0, 0) to (23, 23, 23) 1",
+            "at (-1, 0, 0)    0",
+            "cell (26, 21, 0) 1",
+            "box (9, 0, 0) to (8, 0, 0) 0",
+        ]
+    );
+}
+
+#[test]
+fn a_cut_file_is_refused() {
+    let shown = assert_refused(&edited("cut", |bytes| bytes.truncate(500)), 2);
+    assert!(shown.contains("length           500 bytes\n"), "{shown}");
+    assert_refused(&edited("short", |bytes| bytes.truncate(300_000)), 3);
+}
+
+#[test]
+fn damage_is_refused() {
+    assert_refused(&edited("mark", |bytes| bytes[7] = b'1'), 3);
+    assert_refused(&edited("count", |bytes| bytes[704] += 1), 10);
+    assert_refused(&edited("nothing", Vec::clear), 2);
+}
+
+/// The lookup is answered all the same, and the cell has no figure.
+#[test]
+fn a_refused_build_hides_nothing_else() {
+    let far = (-2147483648f64).to_bits().to_le_bytes();
+    let path = edited("far", |bytes| bytes[560..568].copy_from_slice(&far));
+    let shown = assert_refused(&path, 16);
+    assert!(shown.contains("roots            1\n"), "{shown}");
+    let output =
+        station(&[path.to_str().unwrap(), "--at", "11", "9", "0", "--cell", "0", "0", "0"]);
+    assert_eq!(output.status.code(), Some(1));
+    assert!(out(&output).contains("at (11, 9, 0)    1\n"), "{}", out(&output));
+    assert!(out(&output).contains("cell (0, 0, 0)   none\n"), "{}", out(&output));
+}
+
+#[test]
+fn a_file_too_long_is_refused_unread() {
+    let path = edited("long", Vec::clear);
+    // Only its length is set: it takes no room on the disk.
+    std::fs::File::options().write(true).open(&path).unwrap().set_len(1 << 32).unwrap();
+    let shown = assert_refused(&path, 1);
+    std::fs::remove_file(&path).unwrap();
+    assert_eq!(shown, "");
+}
+
+#[test]
+fn a_wrong_call_shows_the_usage() {
+    for words in [&[][..], &[SAMPLE, "--at", "1", "2"], &[SAMPLE, SAMPLE], &[SAMPLE, "--cells"]] {
+        let output = station(words);
+        assert_eq!(output.status.code(), Some(2), "{words:?}");
+        assert!(err(&output).contains("\nusage: station FILE "), "{}", err(&output));
+        assert_eq!(out(&output), "", "{words:?}");
+    }
+}
+
+#[test]
+fn a_file_that_is_not_there_is_named() {
+    let output = station(&["no such file"]);
+    assert_eq!(output.status.code(), Some(2));
+    assert!(err(&output).starts_with("station: no such file: "), "{}", err(&output));
+}
+
+#[test]
+fn help_is_printed() {
+    let output = station(&["--help"]);
+    assert_eq!((output.status.code(), err(&output).as_str()), (Some(0), ""));
+    assert!(out(&output).starts_with("usage: station FILE "), "{}", out(&output));
+    for option in ["--at X Y Z", "--box LX LY LZ HX HY HZ", "--cell X Y Z"] {
+        assert!(out(&output).contains(option), "{option}");
+    }
+}
