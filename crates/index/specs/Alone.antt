@@ -243,11 +243,11 @@ module _ (m : Medium) (s : Straight m) (p q : Point) where
       )
 
 -- ---- a value, or 16
-only-first : (m : Medium) (n : Cells) (k : ℕ) (a : Axis) → Only (firstEnds m n k a)
+pub only-first : (m : Medium) (n : Cells) (k : ℕ) (a : Axis) → Only (firstEnds m n k a)
 unfolding firstEnds
 only-first m n k a = only-two (trunc binary64 (sub binary64 (majorantIndex m (cellCorner m n k 0) a) one)) (trunc binary64 (add binary64 (majorantIndex m (cellCorner m n k 1) a) one)) (clipped (lineOf m a))
 
-only-second : (m : Medium) (n : Cells) (k : ℕ) (a : Axis) → Only (secondEnds m n k a)
+pub only-second : (m : Medium) (n : Cells) (k : ℕ) (a : Axis) → Only (secondEnds m n k a)
 unfolding secondEnds
 only-second m n k a = only-two (floor binary64 (worldToIndex m (cellCorner m n k 0) a)) (add binary64 (floor binary64 (worldToIndex m (cellCorner m n k 1) a)) one) plain
 

@@ -23,6 +23,7 @@ use Rattle.index.specs.Cells.{Cells}
 use Rattle.majorant.specs.Boxes.{boxMaximum}
 use Rattle.majorant.specs.Figures.{figures}
 use Rattle.majorant.specs.Build.{build, buildInto}
+use Rattle.majorant.proofs.Refused as Refused
 
 -- ---- 18 first
 pub other-places : (p n r : ℕ) → (p ≡ n → ⊥) → 18 ≡ (unless (eqb p n) 18 then r)
@@ -36,8 +37,7 @@ passing-then zero b r = refl
 passing-then (suc a) b r = ap (λ (k : ℕ). passing k r) (then-stop (suc a) b (λ (e : suc a ≡ 0). omega arith))
 
 refused-is : {A : Type 0} (f : ℕ) (r : Result A) → (f ≡ 0 → ⊥) → passing f r ≡ refused f
-refused-is zero r h = absurd (h refl)
-refused-is (suc f) r h = refl
+refused-is f r h = sym (Refused.stopped r refl h)
 
 module _ (g : Grid) (m : Medium) (n : Cells) (places : ℕ) {f : ℕ} (e : f ≡ (unless (eqb places (n .x * n .y * n .z)) 18 then (validate g then (densityFault g then mediumFault m)))) where
   into-is : buildInto g m n places ≡ passing f (figures (boxMaximum (readIn g)) m n (n .x * n .y * n .z))

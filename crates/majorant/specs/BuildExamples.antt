@@ -16,7 +16,7 @@ use Rattle.index.specs.Cells.{Cells, corner, firstEnds, secondEnds}
 use Rattle.majorant.specs.Figures.{figure, figures}
 use Rattle.index.specs.Index.{worldToIndex, majorantIndex}
 use Rattle.majorant.specs.Boxes.{boxMaximum}
-use Rattle.majorant.specs.Build.{build}
+use Rattle.majorant.specs.Build.{build, buildInto}
 use Rattle.float.specs.Zero.{+0}
 use Rattle.float.specs.Coordinate.{coordinate}
 use Rattle.refusals.specs.Results.{ok, refused}
@@ -46,6 +46,11 @@ two = record { x = 2; y = 1; z = 1 }
 accepted : build smoke box two ≡ ok (half ∷ half ∷ [])
 unfolding build two validate densityFault boundsFault indexFault mapFault figures figure firstEnds secondEnds coordinate majorantIndex worldToIndex corner boxMaximum lookup F.trunc F.floor F.fma F.plus F.narrow add sub mul div lt le eq ofInt toSigned
 accepted = refl
+
+-- a table of another length than the cells
+too-long : buildInto smoke box two 3 ≡ refused 18
+unfolding buildInto two
+too-long = refl
 
 -- an index box that the cells miss: the first box is empty, the second is not
 abbrev aside : Medium

@@ -16,4 +16,5 @@ pub mod Maximum
 pub mod Greatest
 pub mod FitLaws
 pub mod RowLaws
+pub mod Accepted
 pub mod Bounded

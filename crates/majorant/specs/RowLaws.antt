@@ -54,10 +54,6 @@ unfolding figure cellFigure
 cell-alone maximum m M n k = boxes-alone m M n k boxMade (boxFigure maximum)
 
 -- ---- the figures from a place on
-chain-next : {A : Type 0} (step : ℕ → A → Result A) (c : ℕ) (l : A) → chain step (suc c) l ≡ bind (chain step c l) (step c)
-unfolding chain
-chain-next step c l = refl
-
 bind-again : {A B C : Type 0} (r : Result A) (f : A → Result B) (g : B → Result C) → bind (bind r f) g ≡ bind r (λ (a : A). bind (f a) g)
 bind-again (ok a) f g = refl
 bind-again (refused n) f g = refl

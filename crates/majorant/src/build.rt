@@ -3,6 +3,7 @@ ghost use mathlib.Core.Path.{_≡_};
 ghost use Prim.Native.Nat.{ℕ, _+_, _*_, _<_, _≤_};
 ghost use lib.Dec.{eqb};
 ghost use lib.ListN.{length, take};
+ghost use lib.Ieee.{lt};
 ghost use Rattle.refusals.specs.Results.{ok};
 ghost use Rattle.refusals.specs.Faults.{_then_, unless, passing};
 ghost use Rattle.sparse_grid.specs.Tables.{gridOf};
@@ -115,7 +116,55 @@ fn second_maximum(
     )
 }
 
-// A second box within the first is not searched: its maximum is not greater.
+// Whether the second box's maximum is above that of the first, `first`. A second box within the first is not searched: its maximum is not greater.
+fn second_above(
+    background: f32,
+    blocks: &[i32],
+    root_links: &[u32],
+    root_values: &[f32],
+    upper_links: &[u32],
+    upper_values: &[f32],
+    lower_links: &[u32],
+    lower_values: &[f32],
+    leaf_values: &[f32],
+    x: AxisEnds,
+    y: AxisEnds,
+    z: AxisEnds,
+    first: f32,
+) -> bool
+    requires { ⌜ (validate (gridOf background (now blocks) (now «root_links») (now «root_values») (now «upper_links») (now «upper_values») (now «lower_links») (now «lower_values») (now «leaf_values»)) ≡ 0) × (first ≡ boxMaximum (readIn (gridOf background (now blocks) (now «root_links») (now «root_values») (now «upper_links») (now «upper_values») (now «lower_links») (now «lower_values») (now «leaf_values»))) (firstBox x y z)) ⌝ }
+    ensures { λ r. ⌜ r ≡ lt (boxMaximum (readIn (gridOf background (now (blocks .entry)) (now («root_links» .entry)) (now («root_values» .entry)) (now («upper_links» .entry)) (now («upper_values» .entry)) (now («lower_links» .entry)) (now («lower_values» .entry)) (now («leaf_values» .entry)))) (firstBox x y z)) (boxMaximum (readIn (gridOf background (now (blocks .entry)) (now («root_links» .entry)) (now («root_values» .entry)) (now («upper_links» .entry)) (now («upper_values» .entry)) (now («lower_links» .entry)) (now («lower_values» .entry)) (now («leaf_values» .entry)))) (secondBox x y z)) ⌝ }
+{
+    if both(both(first_holds(x), first_holds(y)), first_holds(z)) {
+        return false;
+    }
+    let second = second_maximum(
+        background,
+        blocks,
+        root_links,
+        root_values,
+        upper_links,
+        upper_values,
+        lower_links,
+        lower_values,
+        leaf_values,
+        x,
+        y,
+        z,
+    );
+    first < second
+}
+
+fn refusal(fault: u32) -> Figure
+    ensures { λ r. ⌜ r .fault ≡ fault ⌝ }
+{
+    Figure {
+        fault: fault,
+        value: 0.0,
+    }
+}
+
+// An axis's fault, the maximum of the first box, or 17.
 fn cell_figure(
     background: f32,
     blocks: &[i32],
@@ -135,10 +184,7 @@ fn cell_figure(
 {
     let fault = first_fault(x.fault, first_fault(y.fault, z.fault));
     if fault != 0 {
-        return Figure {
-            fault: fault,
-            value: 0.0,
-        };
+        return refusal(fault);
     }
     let first = first_maximum(
         background,
@@ -154,13 +200,7 @@ fn cell_figure(
         y,
         z,
     );
-    if both(both(first_holds(x), first_holds(y)), first_holds(z)) {
-        return Figure {
-            fault: 0,
-            value: first,
-        };
-    }
-    let second = second_maximum(
+    if second_above(
         background,
         blocks,
         root_links,
@@ -173,12 +213,9 @@ fn cell_figure(
         x,
         y,
         z,
-    );
-    if first < second {
-        return Figure {
-            fault: refusals::SECOND_BOX,
-            value: 0.0,
-        };
+        first,
+    ) {
+        return refusal(refusals::SECOND_BOX);
     }
     Figure {
         fault: 0,

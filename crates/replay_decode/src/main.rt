@@ -1,11 +1,12 @@
-// Replays grids, whole and damaged, with what the Rust's decode answers and leaves in the tables, and says how many cases
-// there were and how many of their answers and tables differ. `oracle list decode` (tests/oracle) makes the list, which is
-// read from standard input.
+// Replays grids, whole and damaged, with what the Rust's decode answers and leaves in the tables and what its build of them
+// answers, and says how many cases there were and how many differ. `oracle list decode` (tests/oracle) makes the list, which
+// is read from standard input.
 //
 // Everything is little-endian words of 32 bits. First the number of cases. A case is
 //     the length of the bytes; how many of them are not 0; those, each its place and its value;
 //     the number; how many roots, upper, lower and leaf nodes; the background; the medium, 18 words; the corners, 6 words;
-//     the words of each table that are not 0, each its place and its value, ended by the place ffffffff.
+//     the words of each table that are not 0, each its place and its value, ended by the place ffffffff;
+//     the number of the build of the used parts; how many figures are listed; those, each its cell and its value.
 ghost use Prim.Native.Nat.{_≤_};
 use decode::Decoded;
 use medium::Medium;
@@ -184,9 +185,94 @@ fn cleared(work: &[u64]) -> bool {
     same
 }
 
+// ---- the build
+
+// A count that leaves room for the entries of its nodes.
+fn small(n: usize) -> usize
+    ensures { λ r. ⌜ r ≤ 65536 ⌝ }
+{
+    if n < 65536 { n } else { 0 }
+}
+
+fn first_numbers(table: &[i32], end: usize) -> &[i32] {
+    if end < table.len() {
+        &table[..end]
+    } else {
+        table
+    }
+}
+
+fn first_links(table: &[u32], end: usize) -> &[u32] {
+    if end < table.len() {
+        &table[..end]
+    } else {
+        table
+    }
+}
+
+fn first_values(table: &[f32], end: usize) -> &[f32] {
+    if end < table.len() {
+        &table[..end]
+    } else {
+        table
+    }
+}
+
+fn figure_is(majorants: &[f32], cell: usize, bits: u32) -> bool {
+    if cell < majorants.len() {
+        return float::bits_of(majorants[cell]) == bits;
+    }
+    false
+}
+
+// The listed figures.
+fn same_figures(majorants: &[f32]) -> bool {
+    let mut same = true;
+    let n = read_word();
+    let mut i: u32 = 0;
+    while i < n {
+        let place = read_place();
+        same = both(same, figure_is(majorants, place.at, place.word));
+        i += 1;
+    }
+    same
+}
+
+// Builds the used parts, and says whether the number and the listed figures are the Rust's.
+fn same_build(
+    d: Decoded,
+    blocks: &[i32],
+    root_links: &[u32],
+    root_values: &[f32],
+    upper_links: &[u32],
+    upper_values: &[f32],
+    lower_links: &[u32],
+    lower_values: &[f32],
+    leaf_values: &[f32],
+) -> bool {
+    let upper = small(d.upper) * 32768;
+    let lower = small(d.lower) * 4096;
+    let mut majorants = [0.0f32; 262144];
+    let number = majorant::build_majorant(
+        d.background,
+        first_numbers(blocks, small(d.roots) * 3),
+        first_links(root_links, d.roots),
+        first_values(root_values, d.roots),
+        first_links(upper_links, upper),
+        first_values(upper_values, upper),
+        first_links(lower_links, lower),
+        first_values(lower_values, lower),
+        first_values(leaf_values, small(d.leaf) * 512),
+        d.medium,
+        &mut majorants,
+    );
+    let answer = same(number);
+    both(answer, same_figures(&majorants))
+}
+
 // ---- a case
 
-// Decodes the bytes, and says whether the answer and every table are as listed.
+// Decodes the bytes and builds the grid, and says whether the answers, every table and the figures are as listed.
 fn replay_bytes(bytes: &[u8]) -> bool {
     let mut blocks = [0i32; 24];
     let mut root_links = [0u32; 8];
@@ -220,7 +306,18 @@ fn replay_bytes(bytes: &[u8]) -> bool {
     let leaf = same_values(&leaf_values);
     let top = both(both(answer, roots), both(links, values));
     let nodes = both(both(upper, above), both(lower, below));
-    both(both(top, nodes), both(leaf, cleared(&work)))
+    let built = same_build(
+        d,
+        &blocks,
+        &root_links,
+        &root_values,
+        &upper_links,
+        &upper_values,
+        &lower_links,
+        &lower_values,
+        &leaf_values,
+    );
+    both(both(top, nodes), both(both(leaf, built), cleared(&work)))
 }
 
 // 1 where a case differs.

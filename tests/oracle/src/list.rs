@@ -1,7 +1,7 @@
 //! The list that the program replay_decode replays: crates/replay_decode/src/main.rt says what a case holds.
 
 use oracle::generate::{self, Case};
-use oracle::loader::{decode_into, Held, Lengths, Rust};
+use oracle::loader::{decode_into, Held, Lengths, Loader, Rust, CELLS};
 use oracle::walk::{self, Places};
 use std::io::Write;
 
@@ -75,6 +75,7 @@ fn push_case(words: &mut Vec<u32>, bytes: &[u8]) {
     words.extend(held.medium.table().iter().map(|v| v.to_bits()));
     words.extend(held.corners.table().iter().map(|c| *c as u32));
     push_tables(words, &held);
+    push_build(words, &held);
 }
 
 fn push_tables(list: &mut Vec<u32>, held: &Held) {
@@ -87,4 +88,21 @@ fn push_tables(list: &mut Vec<u32>, held: &Held) {
         }
         list.extend([u32::MAX, 0]);
     }
+}
+
+/// The build of what was decoded: every 4,099th figure, and the first of each value, up to 64.
+fn push_build(list: &mut Vec<u32>, held: &Held) {
+    let grid = held.grid();
+    let mut figures = vec![0.0; CELLS];
+    let number = Rust.build_majorant(grid.tables(), &grid.medium, &grid.corners, &mut figures);
+    let mut seen = Vec::new();
+    let mut cells: Vec<usize> = (0..CELLS).step_by(4099).collect();
+    for (cell, figure) in figures.iter().enumerate() {
+        if seen.len() < 64 && !seen.contains(&figure.to_bits()) {
+            seen.push(figure.to_bits());
+            cells.push(cell);
+        }
+    }
+    list.extend([number, cells.len() as u32]);
+    list.extend(cells.iter().flat_map(|cell| [*cell as u32, figures[*cell].to_bits()]));
 }
