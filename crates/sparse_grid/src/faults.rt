@@ -86,7 +86,7 @@ fn lifted(b: i32) -> u64
 }
 
 // Whether a root's block is this one.
-pub(crate) fn is_block(root: Root, x: i32, y: i32, z: i32) -> bool
+fn is_block(root: Root, x: i32, y: i32, z: i32) -> bool
     ensures { λ r. ⌜ r ≡ sameBlock (blockOfRoot root) (at x y z) ⌝ }
 {
     if root.x != x {
@@ -233,10 +233,7 @@ pub(crate) fn pair_fault(
     if root_links.len() != root_values.len() {
         return TABLES;
     }
-    if blocks.len() % 3 != 0 {
-        return TABLES;
-    }
-    if blocks.len() / 3 != root_links.len() {
+    if blocks.len() != 3 * root_links.len() {
         return TABLES;
     }
     if upper_links.len() != upper_values.len() {

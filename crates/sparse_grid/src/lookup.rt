@@ -1,18 +1,17 @@
 // A lookup: the root whose block a coordinate lies in, and the nodes below it.
 ghost use mathlib.Core.Path.{_≡_};
-ghost use Prim.Native.Nat.{_*_};
+ghost use Prim.Native.Nat.{_+_, _*_, _≤_};
 ghost use mathlib.Core.List.{[]};
 ghost use lib.ListN.{length};
 ghost use lib.Signed.{shrZ};
-ghost use Rattle.layout.specs.Coordinates.{blockOf};
+ghost use Rattle.layout.specs.Coordinates.{blockOf, sameBlock};
 ghost use Rattle.sparse_grid.specs.Lookup.{leafAt, lowerAt, upperAt, rootEntry};
 ghost use Rattle.sparse_grid.specs.Answers.{answer, valueOnly, at};
 ghost use Rattle.sparse_grid.specs.Biased.{back};
-ghost use Rattle.sparse_grid.specs.Inner.{entryFrom, nodesOf, placed};
+ghost use Rattle.sparse_grid.specs.Inner.{entryFrom, nodesOf, placed, rootBlock};
 use crate::Answer;
 use crate::Entry;
 use crate::entry_at;
-use crate::faults::is_block;
 use crate::root_at;
 use refusals::RECORD;
 
@@ -45,6 +44,20 @@ pub(crate) fn place_of(x: i32, y: i32, z: i32) -> Place
     Place { x: a, y: b, z: c }
 }
 
+// Whether root i's block is this one. The block is compared before the root's entry is read.
+fn stands_at(blocks: &[i32], i: usize, x: i32, y: i32, z: i32) -> bool
+    requires { ⌜ 3 * i + 3 ≤ length (now blocks) ⌝ }
+    ensures { λ r. ⌜ r ≡ sameBlock (rootBlock (now (blocks .entry)) i) (at x y z) ⌝ }
+{
+    if blocks[3 * i] != x {
+        return false;
+    }
+    if blocks[3 * i + 1] != y {
+        return false;
+    }
+    blocks[3 * i + 2] == z
+}
+
 // The entry of the first root whose block the coordinate lies in. The background stands for one where there is none.
 pub(crate) fn root_entry(
     background: f32,
@@ -63,8 +76,8 @@ pub(crate) fn root_entry(
     let c = block_of(z);
     let mut i = 0;
     while i < links.len() {
-        let root = root_at(blocks, links, values, i);
-        if is_block(root, a, b, c) {
+        if stands_at(blocks, i, a, b, c) {
+            let root = root_at(blocks, links, values, i);
             return root.entry;
         }
         i += 1;

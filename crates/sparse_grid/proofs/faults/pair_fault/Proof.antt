@@ -1,7 +1,5 @@
--- `sparse_grid::faults::pair_fault` meets its contract: each length is tested in turn; blocks by remainder and quotient, so that no product wraps. Assumes nothing.
-use Prim.Native.Nat.{_*_}
+-- `sparse_grid::faults::pair_fault` meets its contract: each length is tested in turn. Assumes nothing.
 use native.Mathlib.Omega.{arith}
-use lib.ListN.{length}
 use borrow.Author.Tests.{eq-eqb, ne-eqb}
 use Rattle.sparse_grid.specs.Validate.{pairFault}
 use Rattle.sparse_grid.proofs.faults.pair_fault.Statement.{statement}
@@ -11,35 +9,24 @@ returns : tie.Need-returns
 unfolding pairFault
 returns c = simp (ne-eqb _ _ (c .if1 .taken))
 
+mul-if2 : tie.Need-mul-if2
+mul-if2 c = omega arith
+
 returns-2 : tie.Need-returns-2
 unfolding pairFault
-returns-2 c =
-    let a = c .before .before .args in
-    simp (eq-eqb _ _ (c .before .if1 .left), ne-eqb (length (a .blocks .now)) (3 * length (a .root-links .now)) (λ e. c .if2 .taken (omega arith)))
+returns-2 c = simp (eq-eqb _ _ (c .before .if1 .left), ne-eqb _ _ (c .if2 .taken))
 
 returns-3 : tie.Need-returns-3
 unfolding pairFault
-returns-3 c =
-    let a = c .before .before .before .args in
-    simp (eq-eqb _ _ (c .before .before .if1 .left), ne-eqb (length (a .blocks .now)) (3 * length (a .root-links .now)) (λ e. c .if3 .taken (omega arith)))
+returns-3 c = simp (eq-eqb _ _ (c .before .before .if1 .left), eq-eqb _ _ (c .before .if2 .left), ne-eqb _ _ (c .if3 .taken))
 
 returns-4 : tie.Need-returns-4
 unfolding pairFault
-returns-4 c =
-    let a = c .before .before .before .before .args in
-    simp (eq-eqb _ _ (c .before .before .before .if1 .left), eq-eqb (length (a .blocks .now)) (3 * length (a .root-links .now)) (omega (arith, c .before .before .if2 .left, c .before .if3 .left)), ne-eqb _ _ (c .if4 .taken))
+returns-4 c = simp (eq-eqb _ _ (c .before .before .before .if1 .left), eq-eqb _ _ (c .before .before .if2 .left), eq-eqb _ _ (c .before .if3 .left), ne-eqb _ _ (c .if4 .taken))
 
 returns-5 : tie.Need-returns-5
 unfolding pairFault
-returns-5 c =
-    let a = c .before .before .before .before .before .args in
-    simp (eq-eqb _ _ (c .before .before .before .before .if1 .left), eq-eqb (length (a .blocks .now)) (3 * length (a .root-links .now)) (omega (arith, c .before .before .before .if2 .left, c .before .before .if3 .left)), eq-eqb _ _ (c .before .if4 .left), ne-eqb _ _ (c .if5 .taken))
-
-returns-6 : tie.Need-returns-6
-unfolding pairFault
-returns-6 c =
-    let a = c .before .before .before .before .before .args in
-    simp (eq-eqb _ _ (c .before .before .before .before .if1 .left), eq-eqb (length (a .blocks .now)) (3 * length (a .root-links .now)) (omega (arith, c .before .before .before .if2 .left, c .before .before .if3 .left)), eq-eqb _ _ (c .before .if4 .left), eq-eqb _ _ (c .if5 .left))
+returns-5 c = simp (eq-eqb _ _ (c .before .before .before .if1 .left), eq-eqb _ _ (c .before .before .if2 .left), eq-eqb _ _ (c .before .if3 .left), eq-eqb _ _ (c .if4 .left))
 
 pub pair-fault-spec : {M : Type 1} → statement M
-pair-fault-spec = tie.close (tie.spec returns returns-2 returns-3 returns-4 returns-5 returns-6)
+pair-fault-spec = tie.close (tie.spec returns mul-if2 returns-2 returns-3 returns-4 returns-5)
