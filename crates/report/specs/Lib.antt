@@ -1,0 +1,5 @@
+pub mod Report
+pub mod Inner
+pub mod Room
+pub mod Numbers
+pub mod Examples

@@ -1,0 +1,82 @@
+// The text that says what a grid holds, or why it was refused (document 01, `gridreport`).
+ghost use mathlib.Core.Path.{_≡_};
+ghost use mathlib.Core.List.{_++_};
+ghost use Prim.Native.Nat.{_≤_, min};
+ghost use lib.ListN.{length, take, drop};
+ghost use Rattle.decode.specs.Answers.{answer};
+ghost use Rattle.text.specs.Page.{page, puts};
+ghost use Rattle.report.specs.Report.{reportOf};
+ghost use Rattle.report.specs.Inner.{linesIn, textIn};
+ghost use Rattle.report.specs.Room.{Counted};
+
+mod lines;
+
+use decode::Decoded;
+
+// The most bytes that are read.
+pub const MOST: usize = 32768;
+
+// The lines of a grid of n bytes.
+fn put_lines(out: &mut [u8], n: u64, d: Decoded, blocks: &[i32], values: &[f32]) -> usize
+    requires { ⌜ (d .roots ≤ 999) × (2997 ≤ length (now blocks)) × (999 ≤ length (now values)) ⌝ }
+    ensures { λ r. ⌜ page (now (out .exit)) r ≡ puts (page (now (out .entry)) 0) (linesIn n (answer d) (now (blocks .entry)) (now (values .entry))) ⌝ }
+{
+    let second = lines::put_grid(out, 0, n);
+    let third = lines::put_nodes(
+        out,
+        second,
+        d.roots as u64,
+        d.upper as u64,
+        d.lower as u64,
+        d.leaf as u64,
+    );
+    let fourth = lines::put_box(out, third, d.medium);
+    let fifth = lines::put_back(out, fourth, d.background);
+    lines::put_roots(out, fifth, blocks, values, d.roots)
+}
+
+// The text of what was decoded from n bytes.
+fn put_text(out: &mut [u8], n: u64, d: Decoded, blocks: &[i32], values: &[f32]) -> usize
+    requires { ⌜ (d .roots ≤ 999) × (2997 ≤ length (now blocks)) × (999 ≤ length (now values)) ⌝ }
+    ensures { λ r. ⌜ page (now (out .exit)) r ≡ puts (page (now (out .entry)) 0) (textIn n (answer d) (now (blocks .entry)) (now (values .entry))) ⌝ }
+    ensures { λ _. ⌜ Counted (answer d) ⌝ }
+{
+    if d.number != 0 {
+        return lines::put_refused(out, 0, d.number as u64);
+    }
+    put_lines(out, n, d, blocks, values)
+}
+
+// Writes the text to the front of `out` and answers how many bytes of `out` it takes. What has no room is dropped, and
+// 65,536 bytes hold every text.
+pub fn report(bytes: &[u8], out: &mut [u8]) -> usize
+    ensures { λ r. ⌜ r ≡ min (length (reportOf (now (bytes .entry)))) (length (now (out .entry))) ⌝ }
+    ensures { λ _. ⌜ now (out .exit) ≡ take (length (now (out .entry))) (reportOf (now (bytes .entry))) ++ drop (length (reportOf (now (bytes .entry)))) (now (out .entry)) ⌝ }
+    ensures { λ _. ⌜ length (reportOf (now (bytes .entry))) ≤ 65536 ⌝ }
+{
+    if bytes.len() > MOST {
+        return lines::put_long(out, 0);
+    }
+    let mut blocks = [0i32; 2997];
+    let mut root_links = [0u32; 999];
+    let mut root_values = [0.0f32; 999];
+    let mut upper_links = [0u32; 0];
+    let mut upper_values = [0.0f32; 0];
+    let mut lower_links = [0u32; 0];
+    let mut lower_values = [0.0f32; 0];
+    let mut leaf_values = [0.0f32; 0];
+    let mut work = [0u64; 8];
+    let d = decode::decode_density_grid(
+        bytes,
+        &mut blocks,
+        &mut root_links,
+        &mut root_values,
+        &mut upper_links,
+        &mut upper_values,
+        &mut lower_links,
+        &mut lower_values,
+        &mut leaf_values,
+        &mut work,
+    );
+    put_text(out, bytes.len() as u64, d, &blocks, &root_values)
+}

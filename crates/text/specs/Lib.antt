@@ -1,0 +1,5 @@
+pub mod Numerals
+pub mod Lengths
+pub mod Page
+pub mod PageLaws
+pub mod Examples
