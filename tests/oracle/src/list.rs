@@ -26,8 +26,10 @@ const FULL: usize = 12000;
 /// The cases to choose from.
 const SEED: u64 = 1;
 const CASES: u64 = 20000;
+const SOUND: u64 = 1000000;
 
-/// The sample; the first case for each refusal that comes up; and of each shape the first two that are accepted.
+/// The sample; the first case for each refusal that comes up; of each shape the first two that are accepted; and one
+/// that builds, with smoke in leaves below blocks of both signs.
 pub fn decode() {
     let mut cases = vec![generate::bench::sample()];
     let mut chosen: Vec<(String, u32)> = Vec::new();
@@ -45,7 +47,33 @@ pub fn decode() {
             cases.push(case.bytes);
         }
     }
+    let mut sound = (0..SOUND).map(|number| generate::sound(SEED, number));
+    cases.push(sound.find(both_signs).expect("no case has blocks of both signs").bytes);
     write(&cases);
+}
+
+/// Two upper nodes, one below a block that is negative on an axis where the other is not; and figures of eight values.
+fn both_signs(case: &Case) -> bool {
+    if !case.builds || !fits(case) {
+        return false;
+    }
+    let (number, held) = decode_into(&Rust, &case.bytes, LENT);
+    let blocks = held.blocks.table().chunks(3).zip(held.root_links.table());
+    let nodes: Vec<&[i32]> =
+        blocks.filter(|(_, link)| **link != 0).map(|(block, _)| block).collect();
+    let turns =
+        |axis: usize| nodes.iter().any(|b| b[axis] < 0) && nodes.iter().any(|b| b[axis] >= 0);
+    if number != 0 || held.counts.table()[3] == 0 || !(0..3).any(turns) {
+        return false;
+    }
+    let grid = held.grid();
+    let mut figures = vec![0.0; CELLS];
+    let built = Rust.build_majorant(grid.tables(), &grid.medium, &grid.corners, &mut figures);
+    let mut values: Vec<u32> =
+        figures.iter().map(|f| f.to_bits()).filter(|bits| *bits != 0).collect();
+    values.sort_unstable();
+    values.dedup();
+    built == 0 && values.len() >= 8
 }
 
 fn fits(case: &Case) -> bool {
