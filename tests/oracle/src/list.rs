@@ -52,7 +52,7 @@ pub fn decode() {
     write(&cases);
 }
 
-/// Two upper nodes, one below a block that is negative on an axis where the other is not; and figures of eight values.
+/// Upper nodes below blocks that are negative on some axis and below blocks that are not, leaves, and figures of eight values.
 fn both_signs(case: &Case) -> bool {
     if !case.builds || !fits(case) {
         return false;
