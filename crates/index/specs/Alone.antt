@@ -19,6 +19,7 @@ use Rattle.medium.specs.Medium.{Point, Medium, Axis, xAxis, yAxis, zAxis, onPoi
 use Rattle.index.specs.Index.{worldToIndex, majorantIndex}
 use Rattle.index.specs.Cells.{corner, Cells, cellAxis, cellsOn, cellCorner, Ends, maxZ, minZ, one, firstEnds, secondEnds}
 use Rattle.index.specs.Axes.{Line, Both, cornerOn, indexOn, majorantOn, firstLow, firstHigh, secondLow, secondHigh, firstOn, secondOn, endsOn, axisEnds, lineOf, endsAt}
+use Rattle.index.specs.Corners.{corner-on}
 use Rattle.index.specs.Alike.{Alike, alike-through, narrow-zero, fma-plain, fma-none, firstLow-same, firstHigh-same, secondLow-same, secondHigh-same}
 use Rattle.index.specs.Middle.{Straight, straight}
 use Rattle.index.specs.Sixteen.{Only, only-bind, only-two}
@@ -297,10 +298,6 @@ module _ {B C : Type 0} (F S : Axis → Result Ends) (make : Ends → Ends → E
       none xAxis h x y z u v w = h (x .0) (u .0) (x .1) (u .1)
       none yAxis h x y z u v w = h (y .0) (v .0) (y .1) (v .1)
       none zAxis h x y z u v w = h (z .0) (w .0) (z .1) (w .1)
-
-corner-on : (m : Medium) (a : Axis) (n k : ℕ) → corner m a n k ≡ cornerOn (onPoint a (m .low)) (onPoint a (m .high)) n k
-unfolding corner cornerOn
-corner-on m a n k = refl
 
 own-is : (m : Medium) (n : Cells) (k : ℕ) (a : Axis) → endsAt m n k a ≡ ownOf m (cellCorner m n k 0) (cellCorner m n k 1) a
 own-is m n k a = elim a [ xAxis ↦ go xAxis (n .x) (cellAxis n k xAxis) | yAxis ↦ go yAxis (n .y) (cellAxis n k yAxis) | zAxis ↦ go zAxis (n .z) (cellAxis n k zAxis) ]

@@ -32,6 +32,10 @@ cellAxis n k xAxis = k % n .x
 cellAxis n k yAxis = k / n .x % n .y
 cellAxis n k zAxis = k / (n .x * n .y)
 
+-- the cell that stands there on the three axes
+abbrev pub cellOf : Cells → ℕ → ℕ → ℕ → ℕ
+cellOf n x y z = (z * n .y + y) * n .x + x
+
 abbrev pub cellsOn : Cells → Axis → ℕ
 cellsOn n xAxis = n .x
 cellsOn n yAxis = n .y

@@ -1,5 +1,5 @@
 -- The corners of the cells on one axis: each is a number, the first is low and the last is high, so some cell encloses each point between. Corners need not rise with k, and may leave [low, high]. Assumes nothing.
-use mathlib.Core.Path.{_≡_, sym, ap, _∙_, subst}
+use mathlib.Core.Path.{_≡_, refl, sym, ap, _∙_, subst}
 use Prim.Native.Nat.{ℕ, zero, suc, _^_, _≤_, _<_, zero-le}
 use native.Mathlib.Nat.{le-refl, lt-irrefl}
 use mathlib.Core.Bool.{not}
@@ -9,6 +9,12 @@ use Rattle.float.specs.Ordered.{le-through, number-l, found}
 use Rattle.float.specs.Blend.{blend, part, Held, Same, blend-at, part-01, part-first, part-last, blend-number, blend-first, blend-last}
 use Rattle.medium.specs.Medium.{Medium, Axis, onPoint}
 use Rattle.index.specs.Cells.{corner}
+use Rattle.index.specs.Axes.{cornerOn}
+
+-- from the axis alone
+pub corner-on : (m : Medium) (a : Axis) (n k : ℕ) → corner m a n k ≡ cornerOn (onPoint a (m .low)) (onPoint a (m .high)) n k
+unfolding corner cornerOn
+corner-on m a n k = refl
 
 corner-is : (m : Medium) (a : Axis) (n k : ℕ) → 0 < n → n ≤ 2 ^ 24 → k ≤ n → corner m a n k ≡ blend binary32 (part binary32 k n) (onPoint a (m .low)) (onPoint a (m .high))
 unfolding corner

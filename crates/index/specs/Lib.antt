@@ -2,11 +2,13 @@
 pub mod Index
 pub mod Cells
 pub mod Axes
+pub mod Found
 pub mod Answers
 -- Worked examples.
 pub mod Examples
 -- Laws.
 pub mod Corners
+pub mod FoundLaws
 pub mod Enclosed
 pub mod Middle
 pub mod Alike

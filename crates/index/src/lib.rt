@@ -9,6 +9,7 @@ ghost use Rattle.medium.specs.Medium.{xAxis, yAxis, zAxis};
 ghost use Rattle.medium.specs.Record.{asMedium};
 ghost use Rattle.index.specs.Cells.{maxZ, minZ};
 ghost use Rattle.index.specs.Axes.{cornerOn, indexOn, majorantOn, firstLow, firstHigh, secondLow, secondHigh, firstOn, secondOn, axisEnds, lineOf};
+ghost use Rattle.index.specs.Found.{holdsOn, axisCell};
 ghost use Rattle.index.specs.Answers.{indexBits, positionOf, asLine, endsOf, bothOf};
 use float::Coordinate;
 use float::bits_of;
@@ -18,6 +19,7 @@ use float::narrow;
 use float::widen;
 use medium::Medium;
 use medium::map_fault;
+use refusals::both;
 use refusals::first_fault;
 
 // A point's index position on each axis, as bits: a NaN is 7fc00000. After a refusal its number, and zeros.
@@ -224,6 +226,29 @@ pub fn axis_ends(l: Line, n: u32, k: u32) -> AxisEnds
         second_lo: second.lo,
         second_hi: second.hi,
     }
+}
+
+// Whether corners k and k + 1 of n enclose v.
+fn encloses(l: Line, n: u32, k: u32, v: f32) -> bool
+    ensures { λ r. ⌜ r ≡ holdsOn (l .low) (l .high) n k v ⌝ }
+{
+    let p = corner(l.low, l.high, n as u64, k as u64);
+    let q = corner(l.low, l.high, n as u64, k as u64 + 1);
+    both(p <= v, v <= q)
+}
+
+// The first cell of n that encloses v, and n where none does. Corners need not rise, so each is tried.
+pub fn axis_cell(l: Line, n: u32, v: f32) -> u32
+    ensures { λ r. ⌜ r ≡ axisCell (l .low) (l .high) n v ⌝ }
+{
+    let mut k: u32 = 0;
+    while k < n {
+        if encloses(l, n, k, v) {
+            return k;
+        }
+        k += 1;
+    }
+    n
 }
 
 // ---- the axes of a medium

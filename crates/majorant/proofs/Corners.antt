@@ -17,8 +17,7 @@ use Rattle.sparse_grid.specs.Tables.{Grid}
 use Rattle.sparse_grid.specs.Lookup.{readIn}
 use Rattle.sparse_grid.specs.Biased.{back, place, back-le, back-between}
 use Rattle.majorant.specs.declared.range_max.Span.{Span}
-use Rattle.majorant.specs.Boxes.{Greatest, boxMaximum}
-use Rattle.majorant.specs.Maxima.{between}
+use Rattle.majorant.specs.Boxes.{Greatest, boxMaximum, between}
 use Rattle.majorant.specs.Maximum.{greatest}
 use Rattle.majorant.specs.Greatest.{greatest-one}
 use Rattle.majorant.specs.FitLaws.{zero-fits, box-fits}

@@ -14,6 +14,10 @@ pub record Box : Type 0 where
   pub lo : Coord
   pub hi : Coord
 
+-- between two corners
+abbrev pub between : ℤ → ℤ → ℤ → ℤ → ℤ → ℤ → Box
+between lx ly lz hx hy hz = record { lo = record { x = lx; y = ly; z = lz }; hi = record { x = hx; y = hy; z = hz } }
+
 pub record In (b : Box) (c : Coord) : Type 0 where
   pub x-low : b .lo .x ≤ℤ c .x
   pub x-high : c .x ≤ℤ b .hi .x

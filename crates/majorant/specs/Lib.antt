@@ -2,7 +2,6 @@
 pub mod Boxes
 pub mod Figures
 pub mod Build
-pub mod Maxima
 -- Definitions that only contracts within the crate cite.
 pub mod Most
 pub mod RangeMax

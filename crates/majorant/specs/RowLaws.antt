@@ -13,10 +13,10 @@ use Rattle.refusals.specs.TestLaws.{and-l, and-r}
 use Rattle.float.specs.Tests.{yes}
 use Rattle.layout.specs.Coordinates.{Coord}
 use Rattle.medium.specs.Medium.{Medium, xAxis, yAxis, zAxis, mapFault}
-use Rattle.index.specs.Cells.{Cells}
+use Rattle.index.specs.Cells.{Cells, cellOf}
 use Rattle.index.specs.Axes.{Both, axisEnds, lineOf, endsAt}
 use Rattle.index.specs.Alone.{boxes-alone}
-use Rattle.index.specs.Enclosed.{cellOf, cell-x, cell-y, cell-z}
+use Rattle.index.specs.Enclosed.{cell-x, cell-y, cell-z}
 use Rattle.index.specs.declared.AxisEnds.{AxisEnds}
 use Rattle.majorant.specs.Boxes.{Box, boxMaximum}
 use Rattle.majorant.specs.Figures.{figure, figures}

@@ -1,12 +1,13 @@
 // The box maximum and the table of majorants (nanovdb.rs).
 ghost use mathlib.Core.Path.{_≡_};
 ghost use Rattle.sparse_grid.specs.Tables.{gridOf};
+ghost use Rattle.sparse_grid.specs.Answers.{answer};
 ghost use lib.ListN.{length, replicate};
 ghost use Rattle.refusals.specs.Results.{numberOf, valueOr};
 ghost use Rattle.float.specs.Zero.{+0};
 ghost use Rattle.medium.specs.Record.{asMedium};
 ghost use Rattle.majorant.specs.Build.{publicMaximum, cube, buildInto};
-ghost use Rattle.majorant.specs.Maxima.{maximumOf, between};
+ghost use Rattle.majorant.specs.Boxes.{between};
 
 mod build;
 mod node_max;
@@ -17,13 +18,8 @@ use build::cells;
 use lent::zero_f32;
 use medium::Medium;
 use range_max::range_max;
+use sparse_grid::Answer;
 use sparse_grid::validate;
-
-// The greatest figure of a box, or the number of the refusal.
-pub enum Maximum {
-    Value(f32),
-    Refused(u32),
-}
 
 // The greatest of +0.0 and the voxels from the low corner to the high one, ends included. The grid is validated first.
 pub fn box_maximum(
@@ -42,8 +38,8 @@ pub fn box_maximum(
     hx: i32,
     hy: i32,
     hz: i32,
-) -> Maximum
-    ensures { λ r. ⌜ maximumOf r ≡ publicMaximum (gridOf background (now (blocks .entry)) (now («root_links» .entry)) (now («root_values» .entry)) (now («upper_links» .entry)) (now («upper_values» .entry)) (now («lower_links» .entry)) (now («lower_values» .entry)) (now («leaf_values» .entry))) (between lx ly lz hx hy hz) ⌝ }
+) -> Answer
+    ensures { λ r. ⌜ answer r ≡ publicMaximum (gridOf background (now (blocks .entry)) (now («root_links» .entry)) (now («root_values» .entry)) (now («upper_links» .entry)) (now («upper_values» .entry)) (now («lower_links» .entry)) (now («lower_values» .entry)) (now («leaf_values» .entry))) (between lx ly lz hx hy hz) ⌝ }
 {
     let fault = validate(
         background,
@@ -57,7 +53,7 @@ pub fn box_maximum(
         leaf_values,
     );
     if fault != 0 {
-        return Maximum::Refused(fault);
+        return Answer::Refused(fault);
     }
     let maximum = range_max(
         background,
@@ -76,7 +72,7 @@ pub fn box_maximum(
         hy,
         hz,
     );
-    Maximum::Value(maximum)
+    Answer::Value(maximum)
 }
 
 // The table of majorants, one figure for each of the 64 x 64 x 64 cells: cell x + 64y + 4096z. After a refusal its number, and the table is zero.

@@ -12,6 +12,7 @@ pub mod HeldNodes
 pub mod Keys
 pub mod HeldTiles
 pub mod Passed
+pub mod Numbers
 pub mod Lookups
 -- Worked examples.
 pub mod Examples

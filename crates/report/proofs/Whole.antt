@@ -18,7 +18,7 @@ use Rattle.text.specs.Page.{Page, page, puts}
 use Rattle.text.specs.PageLaws.{puts-front}
 use Rattle.report.specs.Report.{gridLine, nodesLine, boxLine, backLine, rootLine, rootLines, refusedLine, longLine, textOf, lent, reportOf}
 use Rattle.report.specs.Inner.{rootsIn, linesIn, textIn}
-use Rattle.report.specs.Numbers.{Numbered, value, number, numbered}
+use Rattle.nanovdb.specs.Numbers.{Numbered, value, number, numbered}
 
 -- ---- the branches of the code
 

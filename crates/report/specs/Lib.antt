@@ -1,5 +1,4 @@
 pub mod Report
 pub mod Inner
 pub mod Room
-pub mod Numbers
 pub mod Examples

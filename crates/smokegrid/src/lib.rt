@@ -9,7 +9,7 @@ ghost use Rattle.sparse_grid.specs.Lookup.{lookup};
 ghost use Rattle.sparse_grid.specs.Answers.{answer, valueOnly, at};
 ghost use Rattle.nanovdb.specs.Lent.{tables, lengths, leftOf};
 ghost use Rattle.majorant.specs.Build.{publicMaximum};
-ghost use Rattle.majorant.specs.Maxima.{maximumOf, between};
+ghost use Rattle.majorant.specs.Boxes.{between};
 ghost use Rattle.smokegrid.specs.Flat.{decodeFlat, indexFlat, buildFlat, countsLeft, backgroundLeft, mediumLeft, cornersLeft};
 
 mod flat;
@@ -21,7 +21,6 @@ use flat::put_corners;
 use flat::put_counts;
 use flat::put_medium;
 use index::world_to_index_f;
-use majorant::Maximum;
 use majorant::box_maximum;
 use majorant::build_majorant;
 use sparse_grid::Answer;
@@ -42,23 +41,6 @@ fn give(found: Answer, value: &mut f32) -> u32
         Answer::Refused(number) => {
             *value = 0.0;
             number
-        }
-    }
-}
-
-// The same of a box maximum.
-fn give_maximum(found: Maximum, value: &mut f32) -> u32
-    ensures { λ r. ⌜ r ≡ numberOf (maximumOf found) ⌝ }
-    ensures { λ _. ⌜ now (value .exit) ≡ valueOr +0 (maximumOf found) ⌝ }
-{
-    match found {
-        Maximum::Value(v) => {
-            *value = v;
-            0
-        }
-        Maximum::Refused(refusal) => {
-            *value = 0.0f32;
-            refusal
         }
     }
 }
@@ -259,7 +241,7 @@ pub extern "C" fn smokegrid_box_maximum(
         hy,
         hz,
     );
-    give_maximum(found, value)
+    give(found, value)
 }
 
 // The index position of a world point, as the bits of three floats, and 0; or the number of the refusal, and zeros.

@@ -52,15 +52,15 @@ around-alike : (m n : Medium) → Alike m n → (p : Point) (c : Coord) → Arou
 around-alike m n A p c = λ i. (a : Axis) → mathlib.Core.Logic._⊎_ (onCoord a c ≡ floorZ (index-alike m n A p a i)) (onCoord a c ≡ lib.IntN.sucℤ (floorZ (index-alike m n A p a i)))
 
 -- ---- the corners and the map in the bytes
-fitting : (b : List ℕ) → Fitting (mediumOf b)
+pub fitting : (b : List ℕ) → Fitting (mediumOf b)
 unfolding mediumOf mediumAt
 fitting b = record {
   low = λ a. elim a [ xAxis ↦ narrow-fits (ofBits binary64 (u64At b 560)) | yAxis ↦ narrow-fits (ofBits binary64 (u64At b 568)) | zAxis ↦ narrow-fits (ofBits binary64 (u64At b 576)) ];
   high = λ a. elim a [ xAxis ↦ narrow-fits (ofBits binary64 (u64At b 584)) | yAxis ↦ narrow-fits (ofBits binary64 (u64At b 592)) | zAxis ↦ narrow-fits (ofBits binary64 (u64At b 600)) ];
 }
 
-numbered : Numbered cells
-numbered = record { some = λ a. elim a [ xAxis ↦ lit< tt | yAxis ↦ lit< tt | zAxis ↦ lit< tt ]; few = λ a. elim a [ xAxis ↦ lit≤ tt | yAxis ↦ lit≤ tt | zAxis ↦ lit≤ tt ] }
+pub few : Numbered cells
+few = record { some = λ a. elim a [ xAxis ↦ lit< tt | yAxis ↦ lit< tt | zAxis ↦ lit< tt ]; few = λ a. elim a [ xAxis ↦ lit≤ tt | yAxis ↦ lit≤ tt | zAxis ↦ lit≤ tt ] }
 
 -- the third field of `Holds`, from the first
 pub points : (b : List ℕ) (q : Places) (t : Accepted) → decodeDensity b q ≡ ok t → ((c : Coord) → Signed32 c → readIn (t .grid) c ≡ voxel b c)
@@ -70,7 +70,7 @@ points b q t d same m A l e p h =
     let B : Alike M m = subst (λ (x : Medium). Alike x m) (density-passed b q t d .0 .medium) A in
     let G = built (t .grid) m cells l e in
     record {
-      enclosed = (let (k, K, i) = enclosed m cells numbered (held M m B (fitting b)) (G .bounds) p (moved M m B h) in (k, K, subst (λ (X : Type 0). X) (encloses-alike M m B cells k p) i));
+      enclosed = (let (k, K, i) = enclosed m cells few (held M m B (fitting b)) (G .bounds) p (moved M m B h) in (k, K, subst (λ (X : Type 0). X) (encloses-alike M m B cells k p) i));
       bounded = λ k K i c r.
           let (s, f) = bounded (t .grid) m cells l e p k K (subst (λ (X : Type 0). X) (sym (encloses-alike M m B cells k p)) i) c (subst (λ (X : Type 0). X) (sym (around-alike M m B p c)) r) in
           (s, subst (λ (x : Float). lt (getD l k +0) x ≡ false) (same c s) f);

@@ -3,8 +3,7 @@ use mathlib.Core.Path.{sym, _∙_}
 use borrow.Author.Needs.{needs}
 use Rattle.sparse_grid.specs.Tables.{gridOf}
 use Rattle.sparse_grid.specs.Lookup.{readIn}
-use Rattle.majorant.specs.Boxes.{boxMaximum}
-use Rattle.majorant.specs.Maxima.{between}
+use Rattle.majorant.specs.Boxes.{boxMaximum, between}
 use Rattle.majorant.specs.Build.{publicMaximum}
 use Rattle.majorant.proofs.Signs.{seen}
 use Rattle.majorant.proofs.Refused.{passed, stopped}

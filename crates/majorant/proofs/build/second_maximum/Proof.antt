@@ -2,10 +2,9 @@
 use mathlib.Core.Path.{_∙_}
 use Rattle.sparse_grid.specs.Tables.{gridOf}
 use Rattle.sparse_grid.specs.Lookup.{readIn}
-use Rattle.majorant.specs.Boxes.{boxMaximum}
+use Rattle.majorant.specs.Boxes.{boxMaximum, between}
 use mir.Syntax.{w32}
 use mir.Facts.{toZ-ofZ}
-use Rattle.majorant.specs.Maxima.{between}
 use borrow.Author.Needs.{needs}
 use Rattle.majorant.proofs.build.second_maximum.Statement.{statement}
 use Rattle.majorant.proofs.build.second_maximum.Tie as tie
