@@ -70,10 +70,10 @@ cell-met m n p f = rw (lt-ltb (cellOn m n p xAxis) (n .x) (f xAxis), lt-ltb (cel
 pub cell-none : (m : Medium) (n : Cells) (p : Point) (a : Axis) → cellsOn n a ≤ cellOn m n p a → cellAt m n p ≡ n .x * n .y * n .z
 unfolding cellAt
 cell-none m n p = λ a. elim a [
-    | xAxis ↦ λ l. let e = le-ltb x (n .x) l in (λ i. pick (e i && ltb y (n .y) && ltb z (n .z)))
-    | yAxis ↦ λ l. let e = le-ltb y (n .y) l in (λ i. pick (ltb x (n .x) && e i && ltb z (n .z))) ∙ (λ i. pick (none (ltb x (n .x)) i && ltb z (n .z)))
-    | zAxis ↦ λ l. let e = le-ltb z (n .z) l in (λ i. pick (ltb x (n .x) && ltb y (n .y) && e i)) ∙ (λ i. pick (none (ltb x (n .x) && ltb y (n .y)) i))
-  ]
+  | xAxis ↦ λ l. let e = le-ltb x (n .x) l in (λ i. pick (e i && ltb y (n .y) && ltb z (n .z)))
+  | yAxis ↦ λ l. let e = le-ltb y (n .y) l in (λ i. pick (ltb x (n .x) && e i && ltb z (n .z))) ∙ (λ i. pick (none (ltb x (n .x)) i && ltb z (n .z)))
+  | zAxis ↦ λ l. let e = le-ltb z (n .z) l in (λ i. pick (ltb x (n .x) && ltb y (n .y) && e i)) ∙ (λ i. pick (none (ltb x (n .x) && ltb y (n .y)) i))
+]
   where
     x : ℕ
     x = cellOn m n p xAxis
@@ -130,10 +130,10 @@ met-ends m n p a i e l =
 -- a number that is a cell's is that of one which encloses the point
 pub cell-encloses : (m : Medium) (n : Cells) (p : Point) → cellAt m n p < n .x * n .y * n .z → EnclosesIn m n (cellAt m n p) p
 cell-encloses m n p l = subst (λ (k : ℕ). EnclosesIn m n k p) (sym (cell-met m n p f)) (λ a. elim a [
-    | xAxis ↦ met-ends m n p xAxis (cellAxis n k xAxis) (cell-x n x y z (f xAxis) (f yAxis) (f zAxis)) (f xAxis)
-    | yAxis ↦ met-ends m n p yAxis (cellAxis n k yAxis) (cell-y n x y z (f xAxis) (f yAxis) (f zAxis)) (f yAxis)
-    | zAxis ↦ met-ends m n p zAxis (cellAxis n k zAxis) (cell-z n x y z (f xAxis) (f yAxis) (f zAxis)) (f zAxis)
-  ])
+  | xAxis ↦ met-ends m n p xAxis (cellAxis n k xAxis) (cell-x n x y z (f xAxis) (f yAxis) (f zAxis)) (f xAxis)
+  | yAxis ↦ met-ends m n p yAxis (cellAxis n k yAxis) (cell-y n x y z (f xAxis) (f yAxis) (f zAxis)) (f yAxis)
+  | zAxis ↦ met-ends m n p zAxis (cellAxis n k zAxis) (cell-z n x y z (f xAxis) (f yAxis) (f zAxis)) (f zAxis)
+])
   where
     f : Met m n p
     f = cell-below m n p l

@@ -5,7 +5,6 @@ use Prim.Native.Nat.{ℕ, zero, suc}
 use lib.ListN.{getD}
 use lib.Ieee.{Float}
 use Rattle.refusals.specs.Results.{Result, ok, refused, numberOf, valueOr}
-use Rattle.refusals.specs.ResultLaws.{stopped}
 use Rattle.refusals.specs.Faults.{passing}
 use Rattle.float.specs.Zero.{+0}
 use Rattle.sparse_grid.specs.Tables.{Grid}

@@ -2,12 +2,11 @@
 use mathlib.Core.Path.{_≡_, refl, sym, ap, _∙_, subst}
 use mathlib.Core.List.{List}
 use mathlib.Core.Bool.{_&&_}
-use Prim.Native.Nat.{ℕ, _+_, _-_, _*_, _/_, _%_, _^_, _≤_}
+use Prim.Native.Nat.{ℕ, _-_, _*_, _/_, _%_, _^_, _≤_}
 use native.Mathlib.Omega.{arith}
 use lib.Dec.{T, eqb, ltb, eqb→eq}
 use lib.IntN.{pos}
 use lib.ListN.{length, take, replicate, length-append}
-use lib.Ieee.{Float}
 use Rattle.refusals.specs.Results.{ok}
 use Rattle.refusals.specs.FaultLaws.{unless-zero}
 use Rattle.refusals.specs.TestLaws.{and-l, and-r}

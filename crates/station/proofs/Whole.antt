@@ -9,12 +9,11 @@ use Rattle.refusals.specs.Results.{Result, ok, refused, numberOf, valueOr, bind
 use Rattle.refusals.specs.ResultLaws.{stopped}
 use Rattle.float.specs.Zero.{+0}
 use Rattle.layout.specs.Bytes.{Bytes}
-use Rattle.layout.specs.Walk.{voxel}
 use Rattle.sparse_grid.specs.Tables.{Grid}
 use Rattle.sparse_grid.specs.Lookup.{Found}
 use Rattle.sparse_grid.specs.Answers.{valueOnly}
 use Rattle.medium.specs.Medium.{Medium}
-use Rattle.nanovdb.specs.Decode.{Accepted, decodeDensity, mediumOf}
+use Rattle.nanovdb.specs.Decode.{Accepted, decodeDensity}
 use Rattle.nanovdb.specs.Lent as Lent
 use Rattle.nanovdb.specs.Lent.{Lent, Tables, lengths, zeros, filled, placesOf, decodeInto, answerOf, leftOf}
 use Rattle.nanovdb.specs.Passed.{density-passed}
@@ -22,7 +21,6 @@ use Rattle.nanovdb.specs.Numbers as Numbers
 use Rattle.nanovdb.specs.Numbers.{Numbered, numbered}
 use Rattle.nanovdb.specs.Lookups.{reads}
 use Rattle.index.specs.Found.{cellAt}
-use Rattle.majorant.specs.Boxes.{boxMaximum}
 use Rattle.majorant.specs.Build.{buildInto}
 use Rattle.majorant.specs.Accepted as Built
 use Rattle.station.specs.Claim.{cells}

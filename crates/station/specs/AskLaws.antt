@@ -1,36 +1,32 @@
 -- An answer with the number 0 has the one claim, and so have the tables that it leaves. Assumes nothing.
 use mathlib.Core.Path.{_≡_, refl, sym, ap, _∙_, subst}
 use mathlib.Core.List.{List}
-use mathlib.Core.Bool.{false}
 use Prim.Native.Nat.{ℕ, _<_}
 use native.Mathlib.Omega.{arith}
-use lib.ListN.{getD}
 use lib.Ieee.{Float, binary32, toBits}
-use Rattle.refusals.specs.Results.{Result, ok, refused, numberOf, valueOr, bind}
-use Rattle.refusals.specs.ResultLaws.{stopped}
+use Rattle.refusals.specs.Results.{Result, ok, refused, numberOf, bind}
 use Rattle.refusals.specs.FaultLaws.{passing-ok}
-use Rattle.float.specs.Zero.{+0}
 use Rattle.layout.specs.Bytes.{Bytes}
 use Rattle.layout.specs.Coordinates.{Signed32}
 use Rattle.layout.specs.Walk.{walk, voxel}
-use Rattle.sparse_grid.specs.Lookup.{Found, value, lookup, valueIn, readIn}
+use Rattle.sparse_grid.specs.Lookup.{value}
 use Rattle.medium.specs.Medium.{Point, Medium, Axis, boundsFault}
 use Rattle.nanovdb.specs.Decode.{Accepted, decodeDensity, mediumOf}
 use Rattle.nanovdb.specs.Lent.{Lent, lentFault, placesOf, decodeInto}
 use Rattle.nanovdb.specs.Agreement.{ReadsAs}
-use Rattle.nanovdb.specs.Passed.{Passed, density-passed}
+use Rattle.nanovdb.specs.Passed.{density-passed}
 use Rattle.nanovdb.specs.Numbers as Numbers
 use Rattle.nanovdb.specs.Numbers.{Numbered, numbered}
 use Rattle.nanovdb.specs.Lookups.{lookups, reads}
 use Rattle.index.specs.Found.{cellAt}
 use Rattle.index.specs.Enclosed.{cell-found, cell-encloses}
 use Rattle.majorant.specs.Bounded.{built}
-use Rattle.majorant.specs.Build.{build, buildInto, publicMaximum}
+use Rattle.majorant.specs.Build.{build, buildInto}
 use Rattle.majorant.specs.Accepted as Built
-use Rattle.station.specs.Claim.{Alike, Holds, Bounds, cells}
+use Rattle.station.specs.Claim.{Holds, Bounds, cells}
 use Rattle.station.specs.Points.{fitting, few}
 use Rattle.station.specs.Theorem.{demand3}
-use Rattle.station.specs.Ask.{Loaded, Question, Answer, load, tablesLeft, figuresLeft, noAnswer, answer}
+use Rattle.station.specs.Ask.{Loaded, Question, load, tablesLeft, figuresLeft, answer}
 use Rattle.station.specs.Answered.{Inside, Answered}
 
 -- ---- what a load was that answered 0

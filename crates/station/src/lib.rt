@@ -17,7 +17,6 @@ ghost use Rattle.station.specs.Ask.{load, tablesLeft, figuresLeft, noAns
 ghost use Rattle.station.specs.Answered.{Answered};
 ghost use Rattle.station.specs.Asked.{asQuestion, asAnswer};
 ghost use Rattle.station.specs.Inner.{Small, answerIn, Used, usedOf, buildIn, leftBy};
-
 use decode::Decoded;
 use decode::decode_density_grid;
 use index::axis_cell;

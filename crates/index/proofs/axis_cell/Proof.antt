@@ -1,7 +1,7 @@
 -- `index::axis_cell` meets its contract: the search goes on from k as from the start. Assumes nothing.
 use native.Mathlib.Omega.{arith}
-use mathlib.Core.Path.{_≡_, sym, ap, _∙_}
-use Prim.Native.Nat.{_+_, _-_, _≤_}
+use mathlib.Core.Path.{_≡_, sym, _∙_}
+use Prim.Native.Nat.{_-_, _≤_}
 use Rattle.index.specs.Found.{cellFrom, axisCell}
 use Rattle.index.specs.FoundLaws.{search-here, search-on, search-start, search-end}
 use borrow.Author.Needs.{needs}

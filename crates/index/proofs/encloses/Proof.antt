@@ -1,5 +1,4 @@
 -- `index::encloses` meets its contract: both tests, of the two corners. Assumes nothing.
-use native.Mathlib.Omega.{arith}
 use mathlib.Core.Path.{_∙_}
 use mathlib.Core.Bool.{_&&_}
 use lib.Ieee.{le}

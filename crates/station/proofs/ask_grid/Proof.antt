@@ -1,5 +1,5 @@
-use native.Mathlib.Omega.{arith}
-use mathlib.Core.Path.{_≡_, sym, ap, _∙_}
+-- `station::ask_grid` meets its contract: the refusal of the build, or each answer. Assumes nothing.
+use mathlib.Core.Path.{sym, ap, _∙_}
 use mir.Facts.{toZ-ofZ}
 use mir.Syntax.{w32}
 use lib.IntN.{pos}
@@ -18,97 +18,67 @@ use Rattle.station.proofs.Left.{build-stops, build-answers}
 use borrow.Author.Needs.{needs}
 use Rattle.station.proofs.ask_grid.Statement.{statement}
 use Rattle.station.proofs.ask_grid.Tie as tie
-use Rattle.station.proofs.ask_grid.Reads as reads
-use Rattle.station.proofs.ask_grid.Lts as lts
-use Rattle.majorant.proofs.box_maximum.Reads as box-maximum-reads
-use Rattle.majorant.proofs.build_majorant.Reads as build-majorant-reads
-use Rattle.sparse_grid.proofs.get_value.Reads as get-value-reads
-use Rattle.station.proofs.cell_at.Reads as cell-at-reads
-use Rattle.station.proofs.figure_at.Reads as figure-at-reads
-use Rattle.station.proofs.refused.Reads as refused-reads
-use Rattle.station.proofs.value_or_zero.Reads as value-or-zero-reads
 
--- src/lib.rt:119:9
 build-majorant-requires : tie.Need-build-majorant-requires
 build-majorant-requires c κs = search needs
 
--- src/lib.rt:133:9
 refused-requires : tie.Need-refused-requires
 refused-requires c κs = search needs
 
--- src/lib.rt:133:9
 same-length : tie.Need-same-length
 same-length c = search needs
 
--- src/lib.rt:133:9
 returns : tie.Need-returns
 returns c = let a = c .before .before .before .before .before .before .before .before .before .before .before .before .before .before .args in let g = gridOf (a .background) (a .blocks .now) (a .root-links .now) (a .root-values .now) (a .upper-links .now) (a .upper-values .now) (a .lower-links .now) (a .lower-values .now) (a .leaf-values .now) in (c .refused .ensures ∙ sym (build-stops g (asMedium (a .m)) (asQuestion (a .t12)) (c .before .before .before .before .build-majorant .result) (buildInto g (asMedium (a .m)) cells (length (a .majorants .now))) (c .before .before .before .before .build-majorant .ensures .0) (c .before .if1 .taken)), c .before .before .before .before .build-majorant .ensures .1)
 
--- src/lib.rt:145:9
 element-copy-out-get-value : tie.Need-element-copy-out-get-value
 element-copy-out-get-value c = search needs
 
--- src/lib.rt:146:9
 element-copy-out-get-value-2 : tie.Need-element-copy-out-get-value-2
 element-copy-out-get-value-2 c = search needs
 
--- src/lib.rt:147:9
 element-copy-out-get-value-3 : tie.Need-element-copy-out-get-value-3
 element-copy-out-get-value-3 c = search needs
 
--- src/lib.rt:135:9
 get-value-requires : tie.Need-get-value-requires
 get-value-requires c κs = search needs
 
--- src/lib.rt:159:9
 element-copy-out-box-maximum : tie.Need-element-copy-out-box-maximum
 element-copy-out-box-maximum c = search needs
 
--- src/lib.rt:160:9
 element-copy-out-box-maximum-2 : tie.Need-element-copy-out-box-maximum-2
 element-copy-out-box-maximum-2 c = search needs
 
--- src/lib.rt:161:9
 element-copy-out-box-maximum-3 : tie.Need-element-copy-out-box-maximum-3
 element-copy-out-box-maximum-3 c = search needs
 
--- src/lib.rt:162:9
 element-copy-out-box-maximum-4 : tie.Need-element-copy-out-box-maximum-4
 element-copy-out-box-maximum-4 c = search needs
 
--- src/lib.rt:163:9
 element-copy-out-box-maximum-5 : tie.Need-element-copy-out-box-maximum-5
 element-copy-out-box-maximum-5 c = search needs
 
--- src/lib.rt:164:9
 element-copy-out-box-maximum-6 : tie.Need-element-copy-out-box-maximum-6
 element-copy-out-box-maximum-6 c = search needs
 
--- src/lib.rt:149:9
 box-maximum-requires : tie.Need-box-maximum-requires
 box-maximum-requires c κs = search needs
 
--- src/lib.rt:166:9
 cell-at-requires : tie.Need-cell-at-requires
 cell-at-requires c κs = search needs
 
--- src/lib.rt:169:16
 value-or-zero-requires : tie.Need-value-or-zero-requires
 value-or-zero-requires c κs = search needs
 
--- src/lib.rt:170:18
 value-or-zero-requires-2 : tie.Need-value-or-zero-requires-2
 value-or-zero-requires-2 c κs = search needs
 
--- src/lib.rt:172:17
 figure-at-requires : tie.Need-figure-at-requires
 figure-at-requires c κs = search needs
 
--- src/lib.rt:102:1
 same-length-2 : tie.Need-same-length-2
 same-length-2 c = search needs
 
--- src/lib.rt:102:1
 returns-2 : tie.Need-returns-2
 returns-2 c = let a = c .before .before .before .before .before .before .before .before .before .before .before .before .before .before .before .before .before .before .before .before .before .before .before .before .before .before .before .before .before .before .args in let g = gridOf (a .background) (a .blocks .now) (a .root-links .now) (a .root-values .now) (a .upper-links .now) (a .upper-values .now) (a .lower-links .now) (a .lower-values .now) (a .leaf-values .now) in let q = asQuestion (a .t12) in let v = c .before .before .before .value-or-zero .ensures ∙ ap (valueOr +0) (c .before .before .before .before .before .before .before .before .before .before .before .before .before .get-value .ensures ∙ (λ i. valueOnly (lookup g (at (toZ-ofZ {w = w32} {z = getD (a .t12 .coordinate) 0 (pos 0)} (record { sfits = c .before .before .before .before .before .before .before .before .before .before .before .before .before .before .before .before .get-value-arg .given }) i) (toZ-ofZ {w = w32} {z = getD (a .t12 .coordinate) 1 (pos 0)} (record { sfits = c .before .before .before .before .before .before .before .before .before .before .before .before .before .before .before .get-value-arg2 .given }) i) (toZ-ofZ {w = w32} {z = getD (a .t12 .coordinate) 2 (pos 0)} (record { sfits = c .before .before .before .before .before .before .before .before .before .before .before .before .before .before .get-value-arg3 .given }) i))))) in let x = c .before .before .value-or-zero2 .ensures ∙ ap (valueOr +0) (c .before .before .before .before .before .before .box-maximum .ensures ∙ (λ i. publicMaximum g (between (toZ-ofZ {w = w32} {z = getD (a .t12 .low) 0 (pos 0)} (record { sfits = c .before .before .before .before .before .before .before .before .before .before .before .before .box-maximum-arg .given }) i) (toZ-ofZ {w = w32} {z = getD (a .t12 .low) 1 (pos 0)} (record { sfits = c .before .before .before .before .before .before .before .before .before .before .before .box-maximum-arg2 .given }) i) (toZ-ofZ {w = w32} {z = getD (a .t12 .low) 2 (pos 0)} (record { sfits = c .before .before .before .before .before .before .before .before .before .before .box-maximum-arg3 .given }) i) (toZ-ofZ {w = w32} {z = getD (a .t12 .high) 0 (pos 0)} (record { sfits = c .before .before .before .before .before .before .before .before .before .box-maximum-arg4 .given }) i) (toZ-ofZ {w = w32} {z = getD (a .t12 .high) 1 (pos 0)} (record { sfits = c .before .before .before .before .before .before .before .before .box-maximum-arg5 .given }) i) (toZ-ofZ {w = w32} {z = getD (a .t12 .high) 2 (pos 0)} (record { sfits = c .before .before .before .before .before .before .before .box-maximum-arg6 .given }) i)))) in (build-answers g (asMedium (a .m)) q (length (a .majorants .now)) (sym (c .before .before .before .before .before .before .before .before .before .before .before .before .before .before .before .before .before .before .before .before .build-majorant .ensures .0) ∙ c .before .before .before .before .before .before .before .before .before .before .before .before .before .before .before .before .before .if1 .left) (replicate (length (a .majorants .now)) +0) _ (c .before .before .before .before .before .before .before .before .before .before .before .before .before .before .before .before .before .before .before .before .build-majorant .ensures .1) v x (c .before .before .before .before .cell-at .ensures) (c .figure-at .ensures), c .before .before .before .before .before .before .before .before .before .before .before .before .before .before .before .before .before .before .before .before .build-majorant .ensures .1)
 

@@ -1,5 +1,6 @@
-use native.Mathlib.Omega.{arith}
+-- `station::ask_used` meets its contract: the refusal of the decode, or the used parts. Assumes nothing.
 use mathlib.Core.Path.{sym, ap, _∙_}
+use native.Mathlib.Omega.{arith}
 use lib.Seq.{length-take-le}
 use lib.ListN.{length, replicate}
 use Rattle.refusals.specs.Results.{valueOr}
@@ -14,85 +15,61 @@ use Rattle.station.proofs.Left.{fault-stops, fault-passes}
 use borrow.Author.Needs.{needs}
 use Rattle.station.proofs.ask_used.Statement.{statement}
 use Rattle.station.proofs.ask_used.Tie as tie
-use Rattle.station.proofs.ask_used.Reads as reads
-use Rattle.station.proofs.ask_used.Lts as lts
-use Rattle.lent.proofs.zero_f32.Reads as zero-f32-reads
-use Rattle.station.proofs.ask_grid.Reads as ask-grid-reads
-use Rattle.station.proofs.refused.Reads as refused-reads
 
--- src/lib.rt:195:9
 zero-f32-requires : tie.Need-zero-f32-requires
 zero-f32-requires c κs = search needs
 
--- src/lib.rt:196:9
 refused-requires : tie.Need-refused-requires
 refused-requires c κs = search needs
 
--- src/lib.rt:196:9
 same-length : tie.Need-same-length
 same-length c = search needs
 
--- src/lib.rt:196:9
 returns : tie.Need-returns
 returns c = let a = c .before .before .before .before .before .before .before .before .before .before .before .before .before .before .before .args in let g = usedOf (decoded (a .d)) (a .blocks .now) (a .root-links .now) (a .root-values .now) (a .upper-links .now) (a .upper-values .now) (a .lower-links .now) (a .lower-values .now) (a .leaf-values .now) in let r = buildInto g (asMedium (a .d .medium)) cells (length (a .majorants .now)) in (c .refused .ensures ∙ sym (ap (answerIn g (asMedium (a .d .medium)) (asQuestion (a .q))) (fault-stops (a .d .number) r (c .before .before .before .before .before .if1 .taken))), c .before .before .before .zero-f32 .ensures ∙ sym (ap (valueOr (replicate (length (a .majorants .now)) +0)) (fault-stops (a .d .number) r (c .before .before .before .before .before .if1 .taken))))
 
--- src/lib.rt:198:17
 mul-upper : tie.Need-mul-upper
 mul-upper c = omega (arith, c .before .before .before .before .before .before .before .before .before .before .before .pre (c .before .if1 .left) .upperLinks-in, c .before .before .before .before .before .before .before .before .before .before .before .good .1 .1 .1 .1)
 
--- src/lib.rt:199:17
 mul-lower : tie.Need-mul-lower
 mul-lower c = omega (arith, c .before .before .before .before .before .before .before .before .before .before .before .before .pre (c .before .before .if1 .left) .lowerLinks-in, c .before .before .before .before .before .before .before .before .before .before .before .before .good .1 .1 .1 .1 .1 .1)
 
--- src/lib.rt:200:16
 mul-leaf : tie.Need-mul-leaf
 mul-leaf c = omega (arith, c .before .before .before .before .before .before .before .before .before .before .before .before .before .pre (c .before .before .before .if1 .left) .leafValues-in, c .before .before .before .before .before .before .before .before .before .before .before .before .before .good .1 .1 .1 .1 .1 .1 .1 .1)
 
--- src/lib.rt:203:19
 mul-ask-grid : tie.Need-mul-ask-grid
 mul-ask-grid c = omega (arith, c .before .before .before .before .before .before .before .before .before .before .before .before .before .before .pre (c .before .before .before .before .if1 .left) .blocks-in, c .before .before .before .before .before .before .before .before .before .before .before .before .before .before .good .1)
 
--- src/lib.rt:203:9
 slice-aggregate-ask-grid : tie.Need-slice-aggregate-ask-grid
 slice-aggregate-ask-grid c = sym (length-take-le _ _ (omega (arith, c .before .before .before .before .before .before .before .before .before .before .before .before .before .before .before .pre (c .before .before .before .before .before .if1 .left) .blocks-in)))
 
--- src/lib.rt:204:9
 slice-aggregate-ask-grid-2 : tie.Need-slice-aggregate-ask-grid-2
 slice-aggregate-ask-grid-2 c = sym (length-take-le _ _ (omega (arith, c .before .before .before .before .before .before .before .before .before .before .before .before .before .before .before .before .pre (c .before .before .before .before .before .before .if1 .left) .rootLinks-in)))
 
--- src/lib.rt:205:9
 slice-aggregate-ask-grid-3 : tie.Need-slice-aggregate-ask-grid-3
 slice-aggregate-ask-grid-3 c = sym (length-take-le _ _ (omega (arith, c .before .before .before .before .before .before .before .before .before .before .before .before .before .before .before .before .before .pre (c .before .before .before .before .before .before .before .if1 .left) .rootValues-in)))
 
--- src/lib.rt:206:9
 slice-aggregate-ask-grid-4 : tie.Need-slice-aggregate-ask-grid-4
 slice-aggregate-ask-grid-4 c = sym (length-take-le _ _ (omega (arith, c .before .before .before .before .before .before .before .before .before .before .before .before .before .before .before .before .before .before .pre (c .before .before .before .before .before .before .before .before .if1 .left) .upperLinks-in)))
 
--- src/lib.rt:207:9
 slice-aggregate-ask-grid-5 : tie.Need-slice-aggregate-ask-grid-5
 slice-aggregate-ask-grid-5 c = sym (length-take-le _ _ (omega (arith, c .before .before .before .before .before .before .before .before .before .before .before .before .before .before .before .before .before .before .before .pre (c .before .before .before .before .before .before .before .before .before .if1 .left) .upperValues-in)))
 
--- src/lib.rt:208:9
 slice-aggregate-ask-grid-6 : tie.Need-slice-aggregate-ask-grid-6
 slice-aggregate-ask-grid-6 c = sym (length-take-le _ _ (omega (arith, c .before .before .before .before .before .before .before .before .before .before .before .before .before .before .before .before .before .before .before .before .pre (c .before .before .before .before .before .before .before .before .before .before .if1 .left) .lowerLinks-in)))
 
--- src/lib.rt:209:9
 slice-aggregate-ask-grid-7 : tie.Need-slice-aggregate-ask-grid-7
 slice-aggregate-ask-grid-7 c = sym (length-take-le _ _ (omega (arith, c .before .before .before .before .before .before .before .before .before .before .before .before .before .before .before .before .before .before .before .before .before .pre (c .before .before .before .before .before .before .before .before .before .before .before .if1 .left) .lowerValues-in)))
 
--- src/lib.rt:210:9
 slice-aggregate-ask-grid-8 : tie.Need-slice-aggregate-ask-grid-8
 slice-aggregate-ask-grid-8 c = sym (length-take-le _ _ (omega (arith, c .before .before .before .before .before .before .before .before .before .before .before .before .before .before .before .before .before .before .before .before .before .before .pre (c .before .before .before .before .before .before .before .before .before .before .before .before .if1 .left) .leafValues-in)))
 
--- src/lib.rt:201:5
 ask-grid-requires : tie.Need-ask-grid-requires
 ask-grid-requires c κs = search needs
 
--- src/lib.rt:177:1
 same-length-2 : tie.Need-same-length-2
 same-length-2 c = search needs
 
--- src/lib.rt:177:1
 returns-2 : tie.Need-returns-2
 returns-2 c = let a = c .before .before .before .before .before .before .before .before .before .before .before .before .before .before .before .before .before .before .before .before .before .before .before .before .before .before .args in let g = usedOf (decoded (a .d)) (a .blocks .now) (a .root-links .now) (a .root-values .now) (a .upper-links .now) (a .upper-values .now) (a .lower-links .now) (a .lower-values .now) (a .leaf-values .now) in let r = buildInto g (asMedium (a .d .medium)) cells (length (a .majorants .now)) in (c .before .before .ask-grid .ensures .0 ∙ sym (ap (answerIn g (asMedium (a .d .medium)) (asQuestion (a .q))) (fault-passes (a .d .number) r (c .before .before .before .before .before .before .before .before .before .before .before .before .before .before .before .before .if1 .left))), c .before .before .ask-grid .ensures .1 ∙ sym (ap (valueOr (replicate (length (a .majorants .now)) +0)) (fault-passes (a .d .number) r (c .before .before .before .before .before .before .before .before .before .before .before .before .before .before .before .before .if1 .left))))
 

@@ -1,20 +1,15 @@
+-- `station::bytes_told` meets its contract: a byte that is read is below 256, and there is none in an empty slice. Assumes nothing.
 use native.Mathlib.Omega.{arith}
 use lib.ListN.{List·getD-eq-default}
-use borrow.Author.Needs.{needs}
 use Rattle.station.proofs.bytes_told.Statement.{statement}
 use Rattle.station.proofs.bytes_told.Tie as tie
-use Rattle.station.proofs.bytes_told.Reads as reads
-use Rattle.station.proofs.bytes_told.Lts as lts
 
--- src/lib.rt:254:21
 shared-slice-read-first : tie.Need-shared-slice-read-first
 shared-slice-read-first c = omega arith
 
--- src/lib.rt:250:1
 returns : tie.Need-returns
 returns c = λ i. c .shared-slice-known .given i .fits
 
--- src/lib.rt:250:1
 returns-2 : tie.Need-returns-2
 returns-2 c = λ i. let e = List·getD-eq-default (c .before .args .bytes .now) 0 {n = i} (omega (arith, c .if1 .left)) in omega (arith, e)
 

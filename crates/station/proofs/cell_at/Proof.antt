@@ -1,10 +1,10 @@
 -- `station::cell_at` meets its contract: the search on each axis, or one that found none. Assumes nothing.
-use mathlib.Core.Path.{_≡_, sym, _∙_}
+use mathlib.Core.Path.{sym, _∙_}
 use Prim.Native.Nat.{_+_, _*_}
 use native.Mathlib.Omega.{arith}
 use Rattle.medium.specs.Medium.{xAxis, yAxis, zAxis}
 use Rattle.medium.specs.Record.{asMedium, pointOf}
-use Rattle.index.specs.Found.{axisCell, cellOn}
+use Rattle.index.specs.Found.{axisCell}
 use Rattle.index.specs.Enclosed.{cell-met, cell-none}
 use Rattle.station.specs.Claim.{cells}
 use borrow.Author.Needs.{needs}
