@@ -28,7 +28,8 @@ extern "C" {
 struct Row {
     job: String,
     times: Vec<Option<f64>>,
-    /// The Rust's range_max without the validate that the library runs first.
+    /// A part of the job: of a box maximum the Rust's range_max without the validate that the library runs first, of a lookup the
+    /// call through C.
     alone: Option<f64>,
     unit: &'static str,
     units: f64,
@@ -140,7 +141,12 @@ fn lookups_row(grid: &Grid, ours: &Ours, rust: &Medium, rounds: usize, count: us
         None,
         nanovdb(&grid.bytes, &at),
     ];
-    row("lookups", rounds, "lookup", count as f64, ways)
+    let mut row = row("lookups", rounds, "lookup", count as f64, ways);
+    // The crate with its lookups sent to call.c, which looks nothing up.
+    let calls = calls::Grid::decode(&grid.bytes).expect("a grid that decodes");
+    let call = || sum(&|at| calls.get_value(at).unwrap_or(-1.0));
+    row.alone = best_times("calls", rounds, &mut [way(call)])[0];
+    row
 }
 
 #[cfg(nanovdb)]
@@ -223,7 +229,7 @@ fn print_peak(whose: &str, name: &str) {
 fn print_times(table: &Table) {
     println!("\n### {}, {}\n", table.grid, megabytes(table.bytes as f64));
     let others: Vec<String> = WAYS[1..].iter().map(|way| format!("{way} | ratio")).collect();
-    println!("| job | {} | {} | range_max alone |", WAYS[0], others.join(" | "));
+    println!("| job | {} | {} | alone |", WAYS[0], others.join(" | "));
     println!("|{}", "---|".repeat(2 * WAYS.len() + 1));
     for row in &table.rows {
         let mut cells = vec![row.times[0].map_or(String::new(), seconds)];

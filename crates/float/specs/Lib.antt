@@ -17,8 +17,10 @@ pub mod Sums
 pub mod Rising
 pub mod Ordered
 pub mod Zeros
+pub mod Alike
 pub mod Exactly
 pub mod Numbers
+pub mod Whole
 pub mod Plain
 pub mod Middle
 pub mod Blend

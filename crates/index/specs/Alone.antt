@@ -14,13 +14,14 @@ use Rattle.float.specs.Fused.{fma, narrow, trunc, floor}
 use Rattle.float.specs.Floors.{taken}
 use Rattle.float.specs.Numbers.{narrow-fits, fma-fits}
 use Rattle.float.specs.Middle.{add-left, mul-left, fma-left, fma-last, sub-left}
+use Rattle.float.specs.Alike.{Alike, alike-through, narrow-zero, fma-plain, fma-none}
 use Rattle.float.specs.Zeros.{isZero, mul-zero-right, fma-zero}
 use Rattle.medium.specs.Medium.{Point, Medium, Axis, xAxis, yAxis, zAxis, onPoint, onCoord, mapAt, mapFault}
 use Rattle.index.specs.Index.{worldToIndex, majorantIndex}
 use Rattle.index.specs.Cells.{corner, Cells, cellAxis, cellsOn, cellCorner, Ends, maxZ, minZ, one, firstEnds, secondEnds}
 use Rattle.index.specs.Axes.{Line, Both, cornerOn, indexOn, majorantOn, firstLow, firstHigh, secondLow, secondHigh, firstOn, secondOn, endsOn, axisEnds, lineOf, endsAt}
 use Rattle.index.specs.Corners.{corner-on}
-use Rattle.index.specs.Alike.{Alike, alike-through, narrow-zero, fma-plain, fma-none, firstLow-same, firstHigh-same, secondLow-same, secondHigh-same}
+use Rattle.index.specs.SameEnds.{firstLow-same, firstHigh-same, secondLow-same, secondHigh-same}
 use Rattle.index.specs.Middle.{Straight, straight}
 use Rattle.index.specs.Sixteen.{Only, only-bind, only-two}
 

@@ -11,7 +11,6 @@ pub mod Corners
 pub mod FoundLaws
 pub mod Enclosed
 pub mod Middle
-pub mod Alike
+pub mod SameEnds
 pub mod Sixteen
 pub mod Alone
-pub mod Whole

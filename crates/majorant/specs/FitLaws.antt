@@ -1,14 +1,14 @@
 -- What a lookup reads fits an f32, where what the tables hold does; and so does a box maximum. Assumes nothing.
-use Prim.Native.Nat.{ℕ, zero, suc, _+_, _*_, _<_}
-use native.Mathlib.Nat.{not-suc-le-zero, le-of-suc-le-suc}
-use mathlib.Core.Path.{_≡_, refl, sym, subst}
+use Prim.Native.Nat.{ℕ, zero, suc, _+_, _*_}
+use mathlib.Core.Path.{sym, subst}
 use mathlib.Core.Bool.{Bool, true, false, cond}
-use mathlib.Core.List.{List, [], _∷_}
+use mathlib.Core.List.{List}
 use lib.Dec.{T, leb, eqb}
 use lib.IntN.{ℤ, pos, _+ℤ_}
 use lib.ListN.{length, getD, List·getD-eq-default}
 use lib.Ieee.{Float, nan, lt, fits, binary32}
 use lib.Ieee.Fits.{cond-fits}
+use Rattle.refusals.specs.ListLaws.{getD-any}
 use Rattle.float.specs.Zero.{+0}
 use Rattle.layout.specs.Coordinates.{Coord, slot, blockOf, sameBlock}
 use Rattle.sparse_grid.specs.Tables.{Grid, entryOf, blockAt}
@@ -58,12 +58,6 @@ module _ (g : Grid) (c : Coord) (back : T (fits binary32 (g .background))) (root
   pub read-fits : T (fits binary32 (readIn g c))
   unfolding lookup
   read-fits = pick (eqb (pairFault g) 0) (rootsFrom g (length (g .rootLinks)) 0 c) (refused (pairFault g)) (roots-fit (length (g .rootLinks)) 0) zero-fits
-
--- within a list what stands past its end does not count
-pub getD-any : {A : Type 0} (l : List A) (i : ℕ) (d e : A) → i < length l → getD l i d ≡ getD l i e
-getD-any [] i d e h = absurd (not-suc-le-zero h)
-getD-any (x ∷ l) zero d e h = refl
-getD-any (x ∷ l) (suc i) d e h = getD-any l i d e (le-of-suc-le-suc h)
 
 -- a slice's own fact, with another value past its end
 pub fine : (xs : List Float) → ((i : ℕ) → T (fits binary32 (getD xs i nan))) → Fine xs

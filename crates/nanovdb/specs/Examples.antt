@@ -57,6 +57,11 @@ pub bit-62-refused : numberOf (decodeDensity (sampleWith (field 800 8 (2 ^ 62) �
 unfolding decodeDensity written le signed narrow validate densityFault boundsFault indexFault mapFault ofBits lt eq sub add
 bit-62-refused = refl
 
+-- a leaf count of 1 where no leaf is reached
+pub counts-refused : numberOf (decodeDensity (sampleWith (field 704 4 1 ∷ [])) places) ≡ 10
+unfolding decodeDensity written le signed narrow validate densityFault boundsFault indexFault mapFault ofBits lt eq sub add
+counts-refused = refl
+
 -- versions: a major of 32 passes, one of 33 does not
 pub version-passes : numberOf (decodeDensity (sampleWith (field 16 4 67108864 ∷ [])) places) ≡ 0
 unfolding decodeDensity written le signed narrow validate densityFault boundsFault indexFault mapFault ofBits lt eq sub add

@@ -1,16 +1,20 @@
-// Replays grids, whole and damaged, with what the Rust's decode answers and leaves in the tables and what its build of them
-// answers, and says how many cases there were and how many differ. `oracle list decode` (tests/oracle) makes the list, which
-// is read from standard input.
+// Replays grids, whole and damaged, with what the Rust's decode answers and leaves in the tables, what its build of them answers,
+// and what both answer to a question, and says how many cases there were, how many differ, and how many were asked about a place
+// with smoke. `oracle list decode` (tests/oracle) makes the list, which is read from standard input.
 //
 // Everything is little-endian words of 32 bits. First the number of cases. A case is
 //     the length of the bytes; how many of them are not 0; those, each its place and its value;
 //     the number; how many roots, upper, lower and leaf nodes; the background; the medium, 18 words; the corners, 6 words;
 //     the words of each table that are not 0, each its place and its value, ended by the place ffffffff;
-//     the number of the build of the used parts; how many figures are listed; those, each its cell and its value.
+//     the number of the build of the used parts; how many figures are listed; those, each its cell and its value;
+//     the question: a coordinate, the low and the high corner of a box of voxels, and a point, 12 words; the answer due: the number
+//     of the decode's refusal or else of the build's, the voxel, the maximum, the cell and its figure, zeros beside a refusal.
 ghost use Prim.Native.Nat.{_≤_};
 use decode::Decoded;
 use medium::Medium;
 use refusals::both;
+use station::Asked;
+use station::Question;
 
 // How many cases the list may have.
 const MOST: u32 = 4096;
@@ -26,6 +30,18 @@ fn read_word() -> u32 {
     let mut b = [0u8; 4];
     io::read_full(libc::STDIN_FILENO, &mut b);
     layout::u32_at(&b, 0)
+}
+
+fn read_number() -> i32 {
+    let mut b = [0u8; 4];
+    io::read_full(libc::STDIN_FILENO, &mut b);
+    layout::i32_at(&b, 0)
+}
+
+fn read_float() -> f32 {
+    let mut b = [0u8; 4];
+    io::read_full(libc::STDIN_FILENO, &mut b);
+    layout::f32_at(&b, 0)
 }
 
 fn read_place() -> Word {
@@ -74,9 +90,8 @@ fn same_float(a: f32) -> bool {
 }
 
 fn same_number(a: i32) -> bool {
-    let mut b = [0u8; 4];
-    io::read_full(libc::STDIN_FILENO, &mut b);
-    a == layout::i32_at(&b, 0)
+    let b = read_number();
+    a == b
 }
 
 fn same_count(a: usize) -> bool {
@@ -270,6 +285,88 @@ fn same_build(
     both(answer, same_figures(&majorants))
 }
 
+// ---- the question
+
+fn read_corner() -> [i32; 3] {
+    let x = read_number();
+    let y = read_number();
+    let z = read_number();
+    [x, y, z]
+}
+
+fn read_point() -> [f32; 3] {
+    let x = read_float();
+    let y = read_float();
+    let z = read_float();
+    [x, y, z]
+}
+
+fn read_question() -> Question {
+    let coordinate = read_corner();
+    let low = read_corner();
+    let high = read_corner();
+    let point = read_point();
+    Question {
+        coordinate: coordinate,
+        low: low,
+        high: high,
+        point: point,
+    }
+}
+
+fn same_asked(a: Asked) -> bool {
+    let number = same(a.number);
+    let value = same_float(a.value);
+    let maximum = same_float(a.maximum);
+    let cell = same(a.cell);
+    let figure = same_float(a.figure);
+    both(both(number, cell), both(value, both(maximum, figure)))
+}
+
+// Whether the answer is as listed, and whether it was given and tells of smoke.
+struct Told {
+    same: bool,
+    smoke: bool,
+}
+
+fn compare(a: Asked) -> Told {
+    let given = a.number == 0;
+    Told {
+        same: same_asked(a),
+        smoke: both(given, a.maximum > 0.0),
+    }
+}
+
+// Decodes and builds once more, into fresh tables, for the answer.
+fn replay_question(bytes: &[u8]) -> Told {
+    let mut blocks = [0i32; 24];
+    let mut root_links = [0u32; 8];
+    let mut root_values = [0.0f32; 8];
+    let mut upper_links = [0u32; 65536];
+    let mut upper_values = [0.0f32; 65536];
+    let mut lower_links = [0u32; 8192];
+    let mut lower_values = [0.0f32; 8192];
+    let mut leaf_values = [0.0f32; 4096];
+    let mut work = [0u64; 64];
+    let mut majorants = [0.0f32; 262144];
+    let question = read_question();
+    let answer = station::ask(
+        bytes,
+        &mut blocks,
+        &mut root_links,
+        &mut root_values,
+        &mut upper_links,
+        &mut upper_values,
+        &mut lower_links,
+        &mut lower_values,
+        &mut leaf_values,
+        &mut work,
+        &mut majorants,
+        question,
+    );
+    compare(answer)
+}
+
 // ---- a case
 
 // Decodes the bytes and builds the grid, and says whether the answers, every table and the figures are as listed.
@@ -320,18 +417,31 @@ fn replay_bytes(bytes: &[u8]) -> bool {
     both(both(top, nodes), both(both(leaf, built), cleared(&work)))
 }
 
-// 1 where a case differs.
-fn replay() -> u32
+// 1 where a case differs, and 1 where smoke was found.
+struct Counted {
+    differ: u32,
+    smoky: u32,
+}
+
+fn count_one(yes: bool) -> u32
     ensures { λ r. ⌜ r ≤ 1 ⌝ }
+{
+    if yes { 1 } else { 0 }
+}
+
+fn replay() -> Counted
+    ensures { λ r. ⌜ (r .differ ≤ 1) × (r .smoky ≤ 1) ⌝ }
 {
     let mut bytes = [0u8; 655360];
     let length = read_word();
     let n = read_word();
     fill_bytes(n, &mut bytes);
-    if replay_bytes(first_bytes(&bytes, length)) {
-        0
-    } else {
-        1
+    let grid = first_bytes(&bytes, length);
+    let same = replay_bytes(grid);
+    let asked = replay_question(grid);
+    Counted {
+        differ: 1 - count_one(both(same, asked.same)),
+        smoky: count_one(asked.smoke),
     }
 }
 
@@ -349,11 +459,18 @@ fn least(a: u32, b: u32) -> u32
 fn main() {
     let cases = least(read_word(), MOST);
     let mut differ: u32 = 0;
+    let mut smoky: u32 = 0;
     let mut i: u32 = 0;
     while i < cases {
-        differ += replay();
+        let counted = replay();
+        differ += counted.differ;
+        smoky += counted.smoky;
         i += 1;
     }
     report(cases, b" cases, ");
     report(differ, b" differ\n");
+    report(
+        smoky,
+        b" with smoke in the eight voxels around the point that was asked about\n",
+    );
 }

@@ -1,8 +1,7 @@
 -- Coordinates and bits behind a blank, from the steps that write them. A local holds an i32 as its bits. Assumes nothing.
-use mathlib.Core.Path.{_≡_, refl, sym, ap, _∙_}
+use mathlib.Core.Path.{_≡_, sym, ap, _∙_}
 use mathlib.Core.List.{List, [], _∷_, _++_}
-use Prim.Native.Nat.{ℕ, zero, suc, _+_, _<_}
-use native.Mathlib.Nat.{not-suc-le-zero, le-of-suc-le-suc}
+use Prim.Native.Nat.{ℕ, _+_, _<_}
 use native.Mathlib.Numerals.{add-one}
 use lib.IntN.{ℤ}
 use lib.ListN.{length, getD}
@@ -10,6 +9,7 @@ use lib.Ieee.{Float, nan, binary32, toBits}
 use mir.Syntax.{w32}
 use mir.Val.{SFits, toZ, ofZ}
 use mir.Facts.{toZ-ofZ}
+use Rattle.refusals.specs.ListLaws.{getD-any}
 use Rattle.float.specs.Zero.{+0}
 use Rattle.sparse_grid.specs.Tables.{blockAt}
 use Rattle.text.specs.Numerals.{signedText, hex8}
@@ -49,12 +49,6 @@ root-more p q r blocks values i e f =
 
 pub all-roots : (p q : Page) (blocks : List ℤ) (values : List Float) (i n : ℕ) → i ≡ n → q ≡ puts p (rootLines (rootsIn blocks values) i) → q ≡ puts p (rootLines (rootsIn blocks values) n)
 all-roots p q blocks values i n h e = e ∙ ap (λ (k : ℕ). puts p (rootLines (rootsIn blocks values) k)) h
-
--- what stands below the end does not turn on the default
-getD-any : {A : Type 0} (l : List A) (i : ℕ) (d e : A) → i < length l → getD l i d ≡ getD l i e
-getD-any [] i d e h = absurd (not-suc-le-zero h)
-getD-any (x ∷ l) zero d e h = refl
-getD-any (x ∷ l) (suc i) d e h = getD-any l i d e (le-of-suc-le-suc h)
 
 -- a value that was read from its slice
 pub read-bits : (p q : Page) (values : List Float) (i : ℕ) → i < length values → q ≡ puts p (bits (getD values i nan)) → q ≡ puts p (bits (getD values i +0))

@@ -12,6 +12,7 @@
 
 mod ffi;
 mod grid;
+mod interface;
 mod majorant;
 mod refusal;
 mod tables;

@@ -1,7 +1,8 @@
 //! The list that the program replay_decode replays: crates/replay_decode/src/main.rt says what a case holds.
 
+use oracle::cells::{cell, corners, enclosing, voxels_around};
 use oracle::generate::{self, Case};
-use oracle::loader::{decode_into, Held, Lengths, Loader, Rust, CELLS};
+use oracle::loader::{decode_into, Grid, Held, Lengths, Loader, Rust, CELLS};
 use oracle::walk::{self, Places};
 use std::io::Write;
 
@@ -85,14 +86,15 @@ fn fits(case: &Case) -> bool {
 
 fn write(cases: &[Vec<u8>]) {
     let mut words = vec![cases.len() as u32];
+    let mut asked_above = false;
     for bytes in cases {
-        push_case(&mut words, bytes);
+        push_case(&mut words, bytes, &mut asked_above);
     }
     let list: Vec<u8> = words.iter().flat_map(|word| word.to_le_bytes()).collect();
     std::io::stdout().write_all(&list).expect("the list cannot be written");
 }
 
-fn push_case(words: &mut Vec<u32>, bytes: &[u8]) {
+fn push_case(words: &mut Vec<u32>, bytes: &[u8], asked_above: &mut bool) {
     let full: Vec<usize> = (0..bytes.len()).filter(|i| bytes[*i] != 0).collect();
     words.extend([bytes.len() as u32, full.len() as u32]);
     words.extend(full.iter().flat_map(|i| [*i as u32, u32::from(bytes[*i])]));
@@ -103,7 +105,14 @@ fn push_case(words: &mut Vec<u32>, bytes: &[u8]) {
     words.extend(held.medium.table().iter().map(|v| v.to_bits()));
     words.extend(held.corners.table().iter().map(|c| *c as u32));
     push_tables(words, &held);
-    push_build(words, &held);
+    let grid = held.grid();
+    let mut figures = vec![0.0; CELLS];
+    let build = Rust.build_majorant(grid.tables(), &grid.medium, &grid.corners, &mut figures);
+    push_build(words, build, &figures);
+    let refusal = if number != 0 { number } else { build };
+    let question = if refusal != 0 { ANY } else { question(bytes, &grid, &figures, asked_above) };
+    push_question(words, &question);
+    push_answer(words, refusal, &grid, &figures, &question);
 }
 
 fn push_tables(list: &mut Vec<u32>, held: &Held) {
@@ -119,10 +128,7 @@ fn push_tables(list: &mut Vec<u32>, held: &Held) {
 }
 
 /// The build of what was decoded: every 4,099th figure, and the first of each value, up to 64.
-fn push_build(list: &mut Vec<u32>, held: &Held) {
-    let grid = held.grid();
-    let mut figures = vec![0.0; CELLS];
-    let number = Rust.build_majorant(grid.tables(), &grid.medium, &grid.corners, &mut figures);
+fn push_build(list: &mut Vec<u32>, number: u32, figures: &[f32]) {
     let mut seen = Vec::new();
     let mut cells: Vec<usize> = (0..CELLS).step_by(4099).collect();
     for (cell, figure) in figures.iter().enumerate() {
@@ -133,4 +139,82 @@ fn push_build(list: &mut Vec<u32>, held: &Held) {
     }
     list.extend([number, cells.len() as u32]);
     list.extend(cells.iter().flat_map(|cell| [*cell as u32, figures[*cell].to_bits()]));
+}
+
+/// What is asked of a grid: a voxel, a box of voxels, and a point of the world.
+struct Question {
+    coordinate: [i32; 3],
+    low: [i32; 3],
+    high: [i32; 3],
+    point: [f32; 3],
+}
+
+/// Asked of a grid that is refused.
+const ANY: Question = Question { coordinate: [0; 3], low: [0; 3], high: [1; 3], point: [0.0; 3] };
+
+/// About the first middle of a cell, from the greatest figure down, that has smoke around it. Where none has, about the
+/// middle of the world box, a corner of eight cells; the first time about a point above the box.
+fn question(bytes: &[u8], grid: &Grid, figures: &[f32], asked_above: &mut bool) -> Question {
+    let mut cells: Vec<usize> = (0..CELLS).filter(|cell| figures[*cell] > 0.0).collect();
+    cells.sort_by(|a, b| figures[*b].total_cmp(&figures[*a]));
+    let corners = corners(&grid.medium);
+    let middles = cells.iter().map(|cell| middle(&corners, *cell));
+    let mut questions = middles.filter_map(|point| around(bytes, grid, point));
+    if let Some(question) = questions.find(|q| voxel(bytes, q.coordinate) > 0.0) {
+        return question;
+    }
+    let mut point = corners.each_ref().map(|axis| axis[32]);
+    if !*asked_above {
+        point[2] = grid.medium[5].next_up();
+        *asked_above = true;
+    }
+    around(bytes, grid, point).expect("a voxel outside i32")
+}
+
+fn voxel(bytes: &[u8], at: [i32; 3]) -> f32 {
+    f32::from_bits(walk::voxel(bytes, at))
+}
+
+fn middle(corners: &[Vec<f32>; 3], cell: usize) -> [f32; 3] {
+    let at = [cell % 64, cell / 64 % 64, cell / 4096];
+    std::array::from_fn(|axis| (corners[axis][at[axis]] + corners[axis][at[axis] + 1]) / 2.0)
+}
+
+/// The box is the eight voxels around the point, the coordinate that of the fullest of them.
+fn around(bytes: &[u8], grid: &Grid, point: [f32; 3]) -> Option<Question> {
+    let voxels = voxels_around(&Rust, &grid.medium, point)?;
+    let fullest = |a: &&[i32; 3], b: &&[i32; 3]| voxel(bytes, **a).total_cmp(&voxel(bytes, **b));
+    let coordinate = *voxels.iter().max_by(fullest)?;
+    Some(Question { coordinate, low: voxels[0], high: voxels[7], point })
+}
+
+fn push_question(list: &mut Vec<u32>, question: &Question) {
+    let Question { coordinate, low, high, point } = question;
+    list.extend([coordinate, low, high].into_iter().flatten().map(|c| *c as u32));
+    list.extend(point.map(f32::to_bits));
+}
+
+/// The number, the value, the maximum, the first cell that encloses the point (CELLS where none does), and its figure;
+/// zeros beside the number of a refusal.
+fn push_answer(
+    list: &mut Vec<u32>,
+    refusal: u32,
+    grid: &Grid,
+    figures: &[f32],
+    question: &Question,
+) {
+    if refusal != 0 {
+        return list.extend([refusal, 0, 0, 0, 0]);
+    }
+    let Question { coordinate, low, high, point } = question;
+    let area = [low[0], low[1], low[2], high[0], high[1], high[2]];
+    let (_, value) = Rust.get_values(grid.tables(), &[*coordinate])[0];
+    let (_, maximum) = Rust.box_maxima(grid.tables(), &[area])[0];
+    let [x, y, z] = enclosing(&corners(&grid.medium), *point);
+    let found = match (x.first(), y.first(), z.first()) {
+        (Some(x), Some(y), Some(z)) => cell(*x, *y, *z),
+        _ => CELLS,
+    };
+    let figure = figures.get(found).copied().unwrap_or_default();
+    list.extend([0, value, maximum, found as u32, figure.to_bits()]);
 }

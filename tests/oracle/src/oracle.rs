@@ -2,6 +2,7 @@
 //! stand-ins for what they import. Their text is included when this crate is compiled (SMOKE_SOURCE
 //! names the folder) and is neither changed nor copied.
 
+pub mod cells;
 pub mod generate;
 #[cfg(linked)]
 pub mod linked;

@@ -2,10 +2,11 @@
 //! lookup is the voxel of the bytes, a box maximum the greatest of zero and its voxels, every point
 //! of the world box lies in some cell, and no cell around it has a figure below its eight voxels.
 
+use oracle::cells::{cell, corners, enclosing, voxels_around};
 use oracle::generate::{self, Case};
 use oracle::loader::{decode_into, Grid, Lengths, Loader, Rust, CELLS};
 use oracle::random::Random;
-use oracle::samples::{self, corner};
+use oracle::samples;
 use oracle::walk;
 use std::process::exit;
 
@@ -100,9 +101,7 @@ fn run(counts: &mut Counts, loader: &dyn Loader, case: &Case, random: &mut Rando
     }
     check_lookups(counts, loader, case, &grid, random);
     check_boxes(counts, loader, case, &grid, random);
-    let corners: [Vec<f32>; 3] = std::array::from_fn(|axis| {
-        (0..65).map(|k| corner(grid.medium[axis], grid.medium[3 + axis], k)).collect()
-    });
+    let corners = corners(&grid.medium);
     counts.swapped +=
         corners.iter().filter(|axis| axis.windows(2).any(|cell| cell[0] > cell[1])).count() as u64;
     for _ in 0..points {
@@ -170,10 +169,7 @@ fn check_point(
     point: [f32; 3],
 ) {
     counts.points += 1;
-    let enclosing: [Vec<usize>; 3] = std::array::from_fn(|axis| {
-        let corners = &corners[axis];
-        (0..64).filter(|k| corners[*k] <= point[axis] && point[axis] <= corners[k + 1]).collect()
-    });
+    let enclosing = enclosing(corners, point);
     if enclosing.iter().any(Vec::is_empty) {
         counts.wrong(format!("{point:?} lies in no cell"));
     }
@@ -186,7 +182,7 @@ fn check_point(
         for y in &enclosing[1] {
             for x in &enclosing[0] {
                 counts.cells += 1;
-                let cell = x + 64 * y + 4096 * z;
+                let cell = cell(*x, *y, *z);
                 if !(figures[cell] >= greatest) {
                     counts.wrong(format!(
                         "{point:?}: cell {cell} {}, voxel {greatest}",
@@ -200,21 +196,7 @@ fn check_point(
 
 /// The greatest of the eight voxels around a point, from the bytes.
 fn greatest_around(loader: &dyn Loader, case: &Case, grid: &Grid, point: [f32; 3]) -> Option<f32> {
-    let mut index = [0; 3];
-    if loader.world_to_index_f(&grid.medium, point, &mut index) != 0 {
-        return None;
-    }
-    let mut low = [0; 3];
-    for axis in 0..3 {
-        let floor = f64::from(f32::from_bits(index[axis])).floor();
-        if !(floor >= f64::from(i32::MIN) && floor < f64::from(i32::MAX)) {
-            return None;
-        }
-        low[axis] = floor as i32;
-    }
-    let voxel = |i: usize| {
-        let at = [low[0] + (i & 1) as i32, low[1] + (i >> 1 & 1) as i32, low[2] + (i >> 2) as i32];
-        f32::from_bits(walk::voxel(&case.bytes, at))
-    };
-    Some((0..8).map(voxel).fold(f32::NEG_INFINITY, f32::max))
+    let around = voxels_around(loader, &grid.medium, point)?;
+    let voxel = |at: [i32; 3]| f32::from_bits(walk::voxel(&case.bytes, at));
+    Some(around.map(voxel).into_iter().fold(f32::NEG_INFINITY, f32::max))
 }

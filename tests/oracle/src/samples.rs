@@ -1,5 +1,6 @@
 //! Where a case is looked at: coordinates, boxes and world points.
 
+use crate::cells::corner;
 use crate::random::Random;
 
 /// Coordinates at which blocks, nodes and leaves end.
@@ -42,12 +43,6 @@ pub fn area(random: &mut Random, near: &[[i32; 3]]) -> [i32; 6] {
 
 pub fn areas(random: &mut Random, near: &[[i32; 3]], count: usize) -> Vec<[i32; 6]> {
     (0..count).map(|_| area(random, near)).collect()
-}
-
-/// Corner k of 64 cells from min to max.
-pub fn corner(min: f32, max: f32, k: usize) -> f32 {
-    let t = k as f32 / 64.0;
-    (1.0 - t) * min + t * max
 }
 
 /// A number between two ends: on a cell's face or beside it, an end, a zero, or anywhere.

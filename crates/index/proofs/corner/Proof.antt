@@ -1,7 +1,7 @@
 -- `index::corner` meets its contract, step by step. Assumes nothing.
 use lib.Ieee.{binary32, add, sub, mul, div}
 use Rattle.index.specs.Axes.{cornerOn}
-use Rattle.index.specs.Whole.{one-literal}
+use Rattle.float.specs.Whole.{one-literal}
 use borrow.Author.Needs.{needs}
 use Rattle.index.proofs.corner.Statement.{statement}
 use Rattle.index.proofs.corner.Tie as tie

@@ -4,7 +4,7 @@ use lib.Ieee.{binary64, sub}
 use Rattle.float.specs.Fused.{trunc}
 use Rattle.float.specs.Coordinate.{coordinate}
 use Rattle.index.specs.Axes.{firstLow}
-use Rattle.index.specs.Whole.{one-literal-64}
+use Rattle.float.specs.Whole.{one-literal-64}
 use borrow.Author.Needs.{needs}
 use Rattle.index.proofs.first_low.Statement.{statement}
 use Rattle.index.proofs.first_low.Tie as tie

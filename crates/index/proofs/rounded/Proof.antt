@@ -2,7 +2,7 @@
 use mathlib.Core.Path.{_∙_}
 use lib.Dec.{le→leb}
 use lib.Ieee.{inFloat}
-use Rattle.index.specs.Whole.{narrow-whole}
+use Rattle.float.specs.Whole.{narrow-whole}
 use borrow.Author.Needs.{needs}
 use Rattle.index.proofs.rounded.Statement.{statement}
 use Rattle.index.proofs.rounded.Tie as tie

@@ -8,7 +8,8 @@ use borrow.Author.Needs.{needs}
 use Rattle.float.specs.Zero.{+0}
 use Rattle.sparse_grid.specs.Tables.{entryOf}
 use Rattle.sparse_grid.specs.declared.Entry.the-variants.{Tile}
-use Rattle.sparse_grid.proofs.Lists.{getD-any, child}
+use Rattle.refusals.specs.ListLaws.{getD-any}
+use Rattle.sparse_grid.proofs.Lists.{child}
 use Rattle.sparse_grid.proofs.entry_at.Statement.{statement}
 use Rattle.sparse_grid.proofs.entry_at.Tie as tie
 

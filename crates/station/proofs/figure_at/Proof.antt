@@ -4,7 +4,7 @@ use lib.Ieee.{binary32, nan}
 use lib.ListN.{List·getD-eq-default}
 use Rattle.float.specs.Zero.{+0}
 use Rattle.float.specs.Literal.{zero-literal}
-use Rattle.majorant.specs.FitLaws.{getD-any}
+use Rattle.refusals.specs.ListLaws.{getD-any}
 use borrow.Author.Needs.{needs}
 use Rattle.station.proofs.figure_at.Statement.{statement}
 use Rattle.station.proofs.figure_at.Tie as tie

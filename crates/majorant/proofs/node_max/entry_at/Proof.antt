@@ -7,7 +7,7 @@ use lib.ListN.{getD}
 use Rattle.float.specs.Zero.{+0}
 use Rattle.sparse_grid.specs.Tables.{entryOf}
 use Rattle.sparse_grid.specs.declared.Entry.the-variants.{Tile}
-use Rattle.majorant.specs.FitLaws.{getD-any}
+use Rattle.refusals.specs.ListLaws.{getD-any}
 use Rattle.majorant.proofs.NodeCells.{child}
 use Rattle.majorant.proofs.node_max.entry_at.Statement.{statement}
 use Rattle.majorant.proofs.node_max.entry_at.Tie as tie

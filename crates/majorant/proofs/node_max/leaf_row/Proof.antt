@@ -7,7 +7,7 @@ use borrow.Author.Needs.{needs}
 use Rattle.float.specs.Zero.{+0}
 use Rattle.majorant.specs.Most.{Most, Inside}
 use Rattle.majorant.specs.Boxes.{greater}
-use Rattle.majorant.specs.FitLaws.{getD-any}
+use Rattle.refusals.specs.ListLaws.{getD-any}
 use Rattle.majorant.specs.RangeMax.{leafRead}
 use Rattle.majorant.proofs.MostLaws.{none, till-z, step-z}
 use Rattle.majorant.proofs.node_max.leaf_row.Statement.{statement}

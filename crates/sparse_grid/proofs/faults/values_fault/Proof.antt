@@ -9,7 +9,7 @@ use Rattle.refusals.specs.Faults.{firstFault}
 use Rattle.refusals.specs.FaultSteps.{firstFault-none, firstFault-next, firstFault-end}
 use Rattle.float.specs.Zero.{+0}
 use Rattle.sparse_grid.specs.Validate.{valueFault}
-use Rattle.sparse_grid.proofs.Lists.{getD-any}
+use Rattle.refusals.specs.ListLaws.{getD-any}
 use Rattle.sparse_grid.proofs.Steps.{stops}
 use Rattle.sparse_grid.proofs.faults.values_fault.Statement.{statement}
 use Rattle.sparse_grid.proofs.faults.values_fault.Tie as tie

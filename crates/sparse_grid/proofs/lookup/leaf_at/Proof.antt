@@ -6,7 +6,7 @@ use lib.ListN.{length, getD}
 use lib.Ieee.{nan}
 use Rattle.refusals.specs.Results.{ok}
 use Rattle.float.specs.Zero.{+0}
-use Rattle.sparse_grid.proofs.Lists.{getD-any}
+use Rattle.refusals.specs.ListLaws.{getD-any}
 use Rattle.sparse_grid.proofs.Nodes.{missing, present, leaf-slot}
 use Rattle.sparse_grid.proofs.lookup.leaf_at.Statement.{statement}
 use Rattle.sparse_grid.proofs.lookup.leaf_at.Tie as tie

@@ -1,4 +1,4 @@
--- Two floats that differ at most in the sign of a zero, and what does not tell them apart: a zero added to a product, a product by zero added to a number, and the ends of a box. Assumes nothing.
+-- Two floats that differ at most in the sign of a zero, and what does not tell them apart: a zero added to a product, a product by zero added to a number, 1 added or taken away, a floor. Assumes nothing.
 use mathlib.Core.Path.{_≡_, refl, sym, ap, _∙_, subst}
 use mathlib.Core.Logic.{_⊎_, inl, inr}
 use mathlib.Core.Bool.{Bool, true, false, _&&_}
@@ -11,13 +11,11 @@ use lib.Ieee.{Float, nan, inf, fin, Format, binary32, binary64, up, down, unlike
 use lib.Ieee.Fits.{down-pos, up-pos}
 use lib.Ieee.Scale.{finite, round-same}
 use Rattle.refusals.specs.Results.{ok}
-use Rattle.float.specs.Fused.{fma, plus, narrow, trunc, floor}
+use Rattle.float.specs.Fused.{fma, plus, narrow, floor}
 use Rattle.float.specs.Coordinate.{coordinate}
 use Rattle.float.specs.Sums.{sum-comm, sum-zero, sum-zeros}
 use Rattle.float.specs.Zeros.{isZero, round-none}
 use Rattle.float.specs.Exactly.{round-to, unit}
-use Rattle.index.specs.Cells.{one}
-use Rattle.index.specs.Axes.{firstLow, firstHigh, secondLow, secondHigh}
 
 abbrev pub Alike : Float → Float → Type 0
 Alike x y = (x ≡ y) ⊎ (T (isZero x) × T (isZero y))
@@ -89,6 +87,9 @@ add-nothing f (fin s m e) t n d h =
     ∙ sum-comm f s t 0 (Y * down e) C ∙ sum-zero f t s (Y * down e) C (mul-pos (mul-pos (zero-lt-suc n) (up-pos d)) (down-pos e))
     ∙ round-same f t (Y * down e) C Y (down d) (mul-pos (down-pos e) (down-pos d)) (down-pos d) (mul-assoc Y (down e) (down d))
 
+abbrev one : Float
+one = ofInt binary64 (pos 1)
+
 one-is : one ≡ unit
 unfolding ofInt
 one-is = refl
@@ -97,11 +98,11 @@ less-is : neg one ≡ fin true 1 (pos 0)
 unfolding ofInt neg
 less-is = refl
 
-more-same : (x y : Float) → Alike x y → add binary64 x one ≡ add binary64 y one
+pub more-same : (x y : Float) → Alike x y → add binary64 x one ≡ add binary64 y one
 more-same x y (inl e) = ap (λ (v : Float). add binary64 v one) e
 more-same x y (inr (a, b)) = ap (add binary64 x) one-is ∙ add-nothing binary64 x false 0 (pos 0) a ∙ sym (add-nothing binary64 y false 0 (pos 0) b) ∙ ap (add binary64 y) (sym one-is)
 
-less-same : (x y : Float) → Alike x y → sub binary64 x one ≡ sub binary64 y one
+pub less-same : (x y : Float) → Alike x y → sub binary64 x one ≡ sub binary64 y one
 unfolding sub
 less-same x y (inl e) = ap (λ (v : Float). add binary64 v (neg one)) e
 less-same x y (inr (a, b)) = ap (add binary64 x) less-is ∙ add-nothing binary64 x true 0 (pos 0) a ∙ sym (add-nothing binary64 y true 0 (pos 0) b) ∙ ap (add binary64 y) (sym less-is)
@@ -122,7 +123,7 @@ floor-is (fin true m e) h = (
 floor-zero : (x : Float) → T (isZero x) → T (isZero (floor binary64 x))
 floor-zero x h = let (s, e) = floor-is x h in as-zero (fin s 0 (pos 0)) (floor binary64 x) (sym e) tt
 
-floor-same : (x y : Float) → Alike x y → Alike (floor binary64 x) (floor binary64 y)
+pub floor-same : (x y : Float) → Alike x y → Alike (floor binary64 x) (floor binary64 y)
 floor-same x y (inl e) = inl (ap (floor binary64) e)
 floor-same x y (inr (a, b)) = inr (floor-zero x a, floor-zero y b)
 
@@ -131,23 +132,5 @@ unfolding coordinate le lt eq toSigned ofInt
 zero-coordinate true = refl
 zero-coordinate false = refl
 
-floor-coordinate : (x : Float) → T (isZero x) → coordinate (floor binary64 x) ≡ ok (pos 0)
+pub floor-coordinate : (x : Float) → T (isZero x) → coordinate (floor binary64 x) ≡ ok (pos 0)
 floor-coordinate x h = let (s, e) = floor-is x h in ap coordinate e ∙ zero-coordinate s
-
--- ---- the ends of a box
-pub firstLow-same : (x y : Float) → Alike x y → firstLow x ≡ firstLow y
-unfolding firstLow
-firstLow-same x y h = ap (λ (v : Float). coordinate (trunc binary64 v)) (less-same x y h)
-
-pub firstHigh-same : (x y : Float) → Alike x y → firstHigh x ≡ firstHigh y
-unfolding firstHigh
-firstHigh-same x y h = ap (λ (v : Float). coordinate (trunc binary64 v)) (more-same x y h)
-
-pub secondHigh-same : (x y : Float) → Alike x y → secondHigh x ≡ secondHigh y
-unfolding secondHigh
-secondHigh-same x y h = ap coordinate (more-same (floor binary64 x) (floor binary64 y) (floor-same x y h))
-
-pub secondLow-same : (x y : Float) → Alike x y → secondLow x ≡ secondLow y
-unfolding secondLow
-secondLow-same x y (inl e) = ap (λ (v : Float). coordinate (floor binary64 v)) e
-secondLow-same x y (inr (a, b)) = floor-coordinate x a ∙ sym (floor-coordinate y b)
