@@ -232,9 +232,9 @@ pub fn axis_ends(l: Line, n: u32, k: u32) -> AxisEnds
 fn encloses(l: Line, n: u32, k: u32, v: f32) -> bool
     ensures { λ r. ⌜ r ≡ holdsOn (l .low) (l .high) n k v ⌝ }
 {
-    let p = corner(l.low, l.high, n as u64, k as u64);
-    let q = corner(l.low, l.high, n as u64, k as u64 + 1);
-    both(p <= v, v <= q)
+    let low = corner(l.low, l.high, n as u64, k as u64);
+    let high = corner(l.low, l.high, n as u64, k as u64 + 1);
+    both(low <= v, v <= high)
 }
 
 // The first cell of n that encloses v, and n where none does. Corners need not rise, so each is tried.
