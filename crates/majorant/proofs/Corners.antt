@@ -24,7 +24,7 @@ use Rattle.majorant.specs.FitLaws.{zero-fits, box-fits}
 use Rattle.majorant.specs.Most.{Most}
 use Rattle.majorant.specs.RangeMax.{Within, Full, Ends, empty, readAt}
 use Rattle.majorant.proofs.MostLaws.{none}
-use Rattle.majorant.proofs.Signs.{seen}
+use Rattle.sparse_grid.specs.Signs.{seen}
 
 -- ---- spans with a place, and without
 

@@ -10,9 +10,7 @@ use lib.Dec.{T, eqb, leb, le→leb}
 use lib.ListN.{length, getD, length-map, List·getD-map}
 use lib.Ieee.{Float, ofBits, toBits, binary32}
 use lib.Ieee.Scale.{finite}
-use Rattle.refusals.specs.Faults.{_then_, unless, firstFault}
 use Rattle.refusals.specs.Results.{ok}
-use Rattle.refusals.specs.FaultLaws.{then-zero, unless-zero, firstFault-zero}
 use Rattle.refusals.specs.TestLaws.{eq→eqb}
 use Rattle.float.specs.Zero.{+0}
 use Rattle.layout.specs.Bytes.{u32At, u64At, i64At, maskBit, Bytes}
@@ -21,7 +19,8 @@ use Rattle.layout.specs.Coordinates.{Coord, slot, sameBlock, blockOf, Signed32}
 use Rattle.sparse_grid.specs.declared.Entry.{Entry}
 use Rattle.sparse_grid.specs.declared.Entry.the-variants.{Child, Tile}
 use Rattle.sparse_grid.specs.Tables.{Grid, entryOf, entryAt, blockAt}
-use Rattle.sparse_grid.specs.Validate.{valueFault, entryFault, blockIn, earlier, rootFault, pairFault, shapeFault, validate}
+use Rattle.sparse_grid.specs.Validate.{pairFault, validate}
+use Rattle.sparse_grid.specs.Sound.{Sound, sound}
 use Rattle.sparse_grid.specs.Lookup.{Found, value, refused, leafAt, lowerEntry, lowerAt, upperEntry, upperAt, rootEntry, rootsFrom, lookup}
 use Rattle.medium.specs.Medium.{each}
 use Rattle.nanovdb.specs.Nodes.{entriesOf, maskOf, tableOf, Places}
@@ -37,67 +36,10 @@ use Rattle.nanovdb.specs.Keys.{key-same, slot-leaf, slot-lower, slot-upp
 abbrev entryIn : Root → Entry
 entryIn r = r .entry
 
--- ---- what `validate` leaves
-
+-- a value that stands for itself is finite
 abbrev FiniteEntry : Entry → Type 0
 FiniteEntry (Child k) = Unit {0}
 FiniteEntry (Tile v) = T (finite v)
-
-record Sound (g : Grid) : Type 0 where
-  pair : pairFault g ≡ 0
-  roots : (i : ℕ) → i < length (g .rootLinks) → entryFault (length (g .upperLinks) / 32768) (getD (g .rootLinks) i 0) (getD (g .rootValues) i +0) ≡ 0
-  upper : (i : ℕ) → i < length (g .upperLinks) → entryFault (length (g .lowerLinks) / 4096) (getD (g .upperLinks) i 0) (getD (g .upperValues) i +0) ≡ 0
-  lower : (i : ℕ) → i < length (g .lowerLinks) → entryFault (length (g .leafValues) / 512) (getD (g .lowerLinks) i 0) (getD (g .lowerValues) i +0) ≡ 0
-  background : T (finite (g .background))
-  leaf : (i : ℕ) → i < length (g .leafValues) → T (finite (getD (g .leafValues) i +0))
-
-sound : (g : Grid) → validate g ≡ 0 → Sound g
-unfolding validate
-sound g e =
-    let (pair, e₁) = then-zero (pairFault g) (shapeFault g then R then U then L then B then F) e in
-    let (shape, e₂) = then-zero (shapeFault g) (R then U then L then B then F) e₁ in
-    let (r, e₃) = then-zero R (U then L then B then F) e₂ in
-    let (u, e₄) = then-zero U (L then B then F) e₃ in
-    let (l, e₅) = then-zero L (B then F) e₄ in
-    let (back, v) = then-zero B F e₅ in
-    record {
-      pair = pair;
-      roots = λ (i : ℕ) (h : i < length (g .rootLinks)). then-zero (blockFault i) (rootEntryFault i) (firstFault-zero (length (g .rootLinks)) (rootFault g) r i h) .1;
-      upper = λ (i : ℕ) (h : i < length (g .upperLinks)). firstFault-zero (length (g .upperLinks)) upperFault u i h;
-      lower = λ (i : ℕ) (h : i < length (g .lowerLinks)). firstFault-zero (length (g .lowerLinks)) lowerFault l i h;
-      background = unless-zero (finite (g .background)) 11 back;
-      leaf = λ (i : ℕ) (h : i < length (g .leafValues)). unless-zero (finite (getD (g .leafValues) i +0)) 11 (firstFault-zero (length (g .leafValues)) leafFault v i h);
-    }
-  where
-    blockFault : ℕ → ℕ
-    blockFault i = unless (blockIn (blockAt g i .x) && blockIn (blockAt g i .y) && blockIn (blockAt g i .z) && not (earlier g i (blockAt g i))) 11
-
-    rootEntryFault : ℕ → ℕ
-    rootEntryFault i = entryFault (length (g .upperLinks) / 32768) (getD (g .rootLinks) i 0) (getD (g .rootValues) i +0)
-
-    upperFault : ℕ → ℕ
-    upperFault = λ i. entryFault (length (g .lowerLinks) / 4096) (getD (g .upperLinks) i 0) (getD (g .upperValues) i +0)
-
-    lowerFault : ℕ → ℕ
-    lowerFault = λ i. entryFault (length (g .leafValues) / 512) (getD (g .lowerLinks) i 0) (getD (g .lowerValues) i +0)
-
-    leafFault : ℕ → ℕ
-    leafFault = λ i. valueFault (getD (g .leafValues) i +0)
-
-    R : ℕ
-    R = firstFault (length (g .rootLinks)) (rootFault g)
-
-    U : ℕ
-    U = firstFault (length (g .upperLinks)) upperFault
-
-    L : ℕ
-    L = firstFault (length (g .lowerLinks)) lowerFault
-
-    B : ℕ
-    B = valueFault (g .background)
-
-    F : ℕ
-    F = firstFault (length (g .leafValues)) leafFault
 
 -- ---- the two tables of a list of entries
 
@@ -105,9 +47,9 @@ entry-whole : (e : Entry) → entryOf (linkOf e) (valueOf e) ≡ e
 entry-whole (Child k) = ap (λ (n : ℕ). entryOf n +0) (add-one k)
 entry-whole (Tile v) = refl
 
-finite-entry : (count : ℕ) (e : Entry) → entryFault count (linkOf e) (valueOf e) ≡ 0 → FiniteEntry e
-finite-entry count (Child k) h = tt
-finite-entry count (Tile v) h = unless-zero (finite v) 11 h
+finite-entry : (e : Entry) → (linkOf e ≡ 0 → T (finite (valueOf e))) → FiniteEntry e
+finite-entry (Child k) h = tt
+finite-entry (Tile v) h = h refl
 
 -- both tables, over any records that hold an entry
 module _ {A : Type 0} (entry : A → Entry) (none : A) (isNone : entry none ≡ Tile +0) (l : List A) (i : ℕ) where
@@ -120,8 +62,8 @@ module _ {A : Type 0} (entry : A → Entry) (none : A) (isNone : entry none ≡ 
   entry-at : entryAt (map (λ (a : A). linkOf (entry a)) l) (map (λ (a : A). valueOf (entry a)) l) i ≡ entry (getD l i none)
   entry-at = (λ j. entryOf (link-at j) (value-at j)) ∙ entry-whole (entry (getD l i none))
 
-  finite-at : (count : ℕ) → entryFault count (getD (map (λ (a : A). linkOf (entry a)) l) i 0) (getD (map (λ (a : A). valueOf (entry a)) l) i +0) ≡ 0 → FiniteEntry (entry (getD l i none))
-  finite-at count h = finite-entry count (entry (getD l i none)) ((λ j. entryFault count (sym link-at j) (sym value-at j)) ∙ h)
+  finite-at : (getD (map (λ (a : A). linkOf (entry a)) l) i 0 ≡ 0 → T (finite (getD (map (λ (a : A). valueOf (entry a)) l) i +0))) → FiniteEntry (entry (getD l i none))
+  finite-at h = finite-entry (entry (getD l i none)) (λ e. subst (λ (v : Float). T (finite v)) value-at (h (link-at ∙ e)))
 
 -- ---- one level of the walk
 
@@ -156,12 +98,12 @@ own e = e
 
 -- a node of entries, over the level below
 node-agrees : {child : ℕ → ℕ → Type 0} (b : List ℕ) → Bytes b → (below : ℕ → Reading) (found : Entry → Found) (name : Level) → ((v : Float) → found (Tile v) ≡ value v name)
-    → ((s k : ℕ) → child s k → Agrees (below s) (found (Child k))) → (level count : ℕ) (table : List Entry)
-    → ((i : ℕ) → i < length (map linkOf table) → entryFault count (getD (map linkOf table) i 0) (getD (map valueOf table) i +0) ≡ 0)
+    → ((s k : ℕ) → child s k → Agrees (below s) (found (Child k))) → (level : ℕ) (table : List Entry)
+    → ((i : ℕ) → i < length (map linkOf table) → getD (map linkOf table) i 0 ≡ 0 → T (finite (getD (map valueOf table) i +0)))
     → (i : ℕ) → i < entriesOf level → (source k : ℕ) → Node child b level table source k
     → Agrees (cond (eqb (maskBit b (source + maskOf level) i) 0) (record { bits = u32At b (source + tableOf level + 8 * i); level = name }) (below (shift source (i64At b (source + tableOf level + 8 * i)))))
     (cond (leb (entriesOf level * (k + 1)) (length (map linkOf table))) (found (entryAt (map linkOf table) (map valueOf table) (entriesOf level * k + i))) (refused 11))
-node-agrees b bytes below found name tile kid level count table faults i h source k l =
+node-agrees b bytes below found name tile kid level table finites i h source k l =
     let n = entriesOf level in
     let j = n * k + i in
     let at = source + tableOf level + 8 * i in
@@ -172,7 +114,7 @@ node-agrees b bytes below found name tile kid level count table faults i h sourc
     met (leb (n * (k + 1)) (length (map linkOf table))) w (found (entryAt (map linkOf table) (map valueOf table) j)) (refused 11)
     (le→leb (n * (k + 1)) (length (map linkOf table)) (subst (λ (z : ℕ). n * (k + 1) ≤ z) (sym isLength) (l .fits)))
     (subst (λ (z : Entry). Agrees w (found z)) (sym (entry-at own (Tile +0) refl table j))
-    (step below found name tile kid x (u32At b at) (shift source (i64At b at)) (getD table j (Tile +0)) (u32-lt b at bytes) (finite-at own (Tile +0) refl table j count (faults j inside)) (l .each i h)))
+    (step below found name tile kid x (u32At b at) (shift source (i64At b at)) (getD table j (Tile +0)) (u32-lt b at bytes) (finite-at own (Tile +0) refl table j (finites j inside)) (l .each i h)))
 
 module _ (b : List ℕ) (bytes : Bytes b) (r : Roots) (s : Sound (tablesOf b r)) (c : Coord) where
   leaf-agrees : (source k : ℕ) → Leaf b (r .state .leaf) source k → Agrees (leafWalk b source c) (leafAt (tablesOf b r) k c)
@@ -181,15 +123,15 @@ module _ (b : List ℕ) (bytes : Bytes b) (r : Roots) (s : Sound (tablesOf b r))
       let leaf = r .state .leaf in
       let i = slot 8 1 c in
       met (leb (512 * (k + 1)) (length leaf)) (leafWalk b source c) (value (getD leaf (512 * k + i) +0) ofLeaf) (refused 11) (le→leb (512 * (k + 1)) (length leaf) (l .fits))
-      (record { number = l .each i (slot-leaf c); whole = s .leaf (512 * k + i) (in-node 512 k i (length leaf) (l .fits) (slot-leaf c)); small = u32-lt b (source + 96 + 4 * i) bytes; level = refl })
+      (record { number = l .each i (slot-leaf c); whole = s .leaf-finite (512 * k + i) (in-node 512 k i (length leaf) (l .fits) (slot-leaf c)); small = u32-lt b (source + 96 + 4 * i) bytes; level = refl })
 
   lower-agrees : (source k : ℕ) → LowerIn b (r .state) source k → Agrees (lowerWalk b source c) (lowerAt (tablesOf b r) k c)
   unfolding tablesOf
-  lower-agrees = node-agrees b bytes (λ (z : ℕ). leafWalk b z c) (lowerEntry (tablesOf b r) c) ofLower (λ v. refl) leaf-agrees 1 (length (r .state .leaf) / 512) (r .state .lower) (s .lower) (slot 16 8 c) (slot-lower c)
+  lower-agrees = node-agrees b bytes (λ (z : ℕ). leafWalk b z c) (lowerEntry (tablesOf b r) c) ofLower (λ v. refl) leaf-agrees 1 (r .state .lower) (s .lower-finite) (slot 16 8 c) (slot-lower c)
 
   upper-agrees : (source k : ℕ) → UpperIn b (r .state) source k → Agrees (upperWalk b source c) (upperAt (tablesOf b r) k c)
   unfolding tablesOf
-  upper-agrees = node-agrees b bytes (λ (z : ℕ). lowerWalk b z c) (upperEntry (tablesOf b r) c) ofUpper (λ v. refl) lower-agrees 2 (length (map linkOf (r .state .lower)) / 4096) (r .state .upper) (s .upper) (slot 32 128 c) (slot-upper c)
+  upper-agrees = node-agrees b bytes (λ (z : ℕ). lowerWalk b z c) (upperEntry (tablesOf b r) c) ofUpper (λ v. refl) lower-agrees 2 (r .state .upper) (s .upper-finite) (slot 32 128 c) (slot-upper c)
 
 -- ---- the roots
 
@@ -240,13 +182,13 @@ module _ (b : List ℕ) (bytes : Bytes b) (r : Roots) (count : ℕ) (tiled : Til
       let root = rootOfBytes b in
       let at = tileAt root i in
       let inside : i < length (map (λ (e : Root). linkOf (e .entry)) rs) = omega (arith, length-map rs (λ (e : Root). linkOf (e .entry)), tiled .size) in
-      let fault = finite-at entryIn noRoot refl rs i (length (map linkOf (r .state .upper)) / 32768) (s .roots i inside) in
+      let fine = finite-at entryIn noRoot refl rs i (s .root-finite i inside) in
       subst (λ (z : Entry). Agrees (tileWalk b root at c) (rootEntry (tablesOf b r) c z)) (sym (entry-at entryIn noRoot refl rs i))
-      (step (λ (z : ℕ). upperWalk b z c) (rootEntry (tablesOf b r) c) ofRoot (λ v. refl) (upper-agrees b bytes r s c) (eqb (u64At b (at + 8)) 0) (u32At b (at + 20)) (shift root (i64At b (at + 8))) (getD rs i noRoot .entry) (u32-lt b (at + 20) bytes) fault (t .entry))
+      (step (λ (z : ℕ). upperWalk b z c) (rootEntry (tablesOf b r) c) ofRoot (λ v. refl) (upper-agrees b bytes r s c) (eqb (u64At b (at + 8)) 0) (u32At b (at + 20)) (shift root (i64At b (at + 8))) (getD rs i noRoot .entry) (u32-lt b (at + 20) bytes) fine (t .entry))
 
   roots-agree : (n i : ℕ) → i + n ≡ count → Agrees (tilesWalk n b (rootOfBytes b) (tileAt (rootOfBytes b) i) c) (rootsFrom (tablesOf b r) n i c)
   unfolding tilesWalk rootsFrom tablesOf
-  roots-agree zero i e = record { number = refl; whole = s .background; small = u32-lt b (rootOfBytes b + 28) bytes; level = refl }
+  roots-agree zero i e = record { number = refl; whole = s .background-finite; small = u32-lt b (rootOfBytes b + 28) bytes; level = refl }
   roots-agree (suc n) i e =
       let root = rootOfBytes b in
       let inside : i < count = omega arith in
@@ -271,7 +213,7 @@ found b bytes r c small tiled s =
     let isCount : length (g .rootLinks) ≡ count = length-map (r .roots) (λ (e : Root). linkOf (e .entry)) ∙ tiled .size in
     let first : tileAt root 0 ≡ root + 64 = omega arith in
     let all : Agrees (tilesWalk count b root (tileAt root 0) c) (rootsFrom g count 0 c) = roots-agree b bytes r count tiled s c small count 0 (omega arith) in
-    met (eqb (pairFault g) 0) (walk b c) (rootsFrom g (length (g .rootLinks)) 0 c) (refused (pairFault g)) (eq→eqb (pairFault g) 0 (s .pair))
+    met (eqb (pairFault g) 0) (walk b c) (rootsFrom g (length (g .rootLinks)) 0 c) (refused (pairFault g)) (eq→eqb (pairFault g) 0 (s .paired))
     (subst (λ (n : ℕ). Agrees (tilesWalk count b root (root + 64) c) (rootsFrom g n 0 c)) (sym isCount) (subst (λ (z : ℕ). Agrees (tilesWalk count b root z c) (rootsFrom g count 0 c)) first all))
 
 agrees : (b : List ℕ) → Bytes b → (p : Places) (t : Accepted) → decodeDensity b p ≡ ok t → (c : Coord) → Signed32 c → Agrees (walk b c) (lookup (t .grid) c)

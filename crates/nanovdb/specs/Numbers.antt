@@ -1,7 +1,9 @@
 -- A refusal has a number: none of the decode's is 0. Assumes nothing.
 use mathlib.Core.Bool.{Bool, true, false, cond, not, _&&_}
 use mathlib.Core.List.{List, [], _∷_, _++_}
+use mathlib.Core.Path.{_≡_}
 use Prim.Native.Nat.{ℕ, zero, suc, _+_, _-_, _*_, _%_}
+use native.Mathlib.Omega.{arith}
 use lib.IntN.{ℤ, pos, negsuc}
 use lib.Dec.{eqb, ltb, leb}
 use lib.ListN.{length}
@@ -22,6 +24,9 @@ pub data Numbered {A : Type 0} : Result A → Type 0 where
   number : (n : ℕ) → Numbered (refused (suc n))
 
 module _ {A : Type 0} where
+  pub not-zero : {k : ℕ} → Numbered {A = A} (refused k) → k ≡ 0 → ⊥
+  not-zero (number n) e = omega arith
+
   of-need : (t : Bool) (n : ℕ) {r : Result A} → Numbered r → Numbered (need t (suc n) r)
   of-need true n h = h
   of-need false n h = number n

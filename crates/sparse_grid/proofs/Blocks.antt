@@ -21,7 +21,7 @@ use Rattle.sparse_grid.specs.Tables.{Grid, blockAt, entryOf, entryAt}
 use Rattle.sparse_grid.specs.Validate.{earlier, blockIn, entryFault}
 use Rattle.sparse_grid.specs.Answers.{at}
 use Rattle.sparse_grid.specs.Inner.{rank, Topped, blocksOf, rootBlock, blockOfRoot, rootOf, rootFaultIn, faultOf, ranged}
-use Rattle.sparse_grid.proofs.Signs.{eqZ-true, both, seen}
+use Rattle.sparse_grid.specs.Signs.{eqZ-true, both, seen}
 use Rattle.refusals.specs.ListLaws.{getD-any}
 
 pub ranged-all : (b : Coord) → ranged b ≡ true → (blockIn (b .x) ≡ true) × (blockIn (b .y) ≡ true) × (blockIn (b .z) ≡ true)

@@ -1,5 +1,5 @@
-pub mod Signs
 pub mod Lists
+pub mod Tested
 pub mod Tests
 pub mod Steps
 pub mod Blocks

@@ -9,7 +9,7 @@ use lib.Dec.{leb}
 use lib.ListN.{length}
 use lib.Ieee.{Float}
 use borrow.Author.Tests.{le-leb, lt-leb, eq-eqb, ne-eqb}
-use Rattle.refusals.specs.Results.{refused}
+use Rattle.refusals.specs.Results.{Result, ok, refused}
 use Rattle.layout.specs.Coordinates.{Coord, slot, sameBlock, blockOf}
 use Rattle.sparse_grid.specs.declared.Entry.{Entry}
 use Rattle.sparse_grid.specs.declared.Entry.the-variants.{Child, Tile}
@@ -19,7 +19,7 @@ use Rattle.sparse_grid.specs.Lookup as found
 use Rattle.sparse_grid.specs.Lookup.{Found, lowerEntry, lowerAt, upperEntry, upperAt, rootEntry, rootsFrom, lookup}
 use Rattle.sparse_grid.specs.Answers.{valueOnly}
 use Rattle.sparse_grid.specs.Biased.{place, mod-8, mod-128, mod-4096}
-use Rattle.sparse_grid.specs.Inner.{rootBlock, entryFrom, nodesOf}
+use Rattle.sparse_grid.specs.Inner.{rootBlock, entryFrom, nodesOf, told}
 
 -- ---- a node, by the n entries that its table must have
 
@@ -32,14 +32,14 @@ present n have f h = ap (λ (t : Bool). valueOnly (cond t f (found.refused 11)))
 -- ---- where a voxel's slot stands in the table
 
 module _ (k x y z : ℕ) where
-  pub leaf-slot : 512 * k + ((x % 8 * 8 + y % 8) * 8 + z % 8) ≡ 512 * k + slot 8 1 (place x y z)
+  pub leaf-slot : 512 * k + (x % 8 * 64 + y % 8 * 8 + z % 8) ≡ 512 * k + slot 8 1 (place x y z)
   leaf-slot = rw (mod-8 x, mod-8 y, mod-8 z) (omega arith)
 
-  pub lower-slot : 4096 * k + ((x % 128 / 8 * 16 + y % 128 / 8) * 16 + z % 128 / 8) ≡ 4096 * k + slot 16 8 (place x y z)
-  lower-slot = rw (mod-128 x, mod-128 y, mod-128 z)
+  pub lower-slot : 4096 * k + (x % 128 / 8 * 256 + y % 128 / 8 * 16 + z % 128 / 8) ≡ 4096 * k + slot 16 8 (place x y z)
+  lower-slot = rw (mod-128 x, mod-128 y, mod-128 z) (omega arith)
 
-  pub upper-slot : 32768 * k + ((x % 4096 / 128 * 32 + y % 4096 / 128) * 32 + z % 4096 / 128) ≡ 32768 * k + slot 32 128 (place x y z)
-  upper-slot = rw (mod-4096 x, mod-4096 y, mod-4096 z)
+  pub upper-slot : 32768 * k + (x % 4096 / 128 * 1024 + y % 4096 / 128 * 32 + z % 4096 / 128) ≡ 32768 * k + slot 32 128 (place x y z)
+  upper-slot = rw (mod-4096 x, mod-4096 y, mod-4096 z) (omega arith)
 
 -- ---- a node is read without what stands above it
 
@@ -108,3 +108,23 @@ module _ (g : Grid) (c : Coord) where
   by-root h =
       by-entry g c (length (g .rootLinks)) 0
       ∙ ap (λ (t : Bool). valueOnly (cond t (rootsFrom g (length (g .rootLinks)) 0 c) (found.refused (pairFault g)))) (sym (eq-eqb (pairFault g) 0 h))
+
+  -- what stands below the root entry e at the place p, where both are those of b, the coordinate as the code has it
+  pub by-place : (b p : Coord) (e : Entry) (r : Result Float) → pairFault g ≡ 0
+      → r ≡ valueOnly (rootEntry (nodesOf (g .upperLinks) (g .upperValues) (g .lowerLinks) (g .lowerValues) (g .leafValues)) p e)
+      → p ≡ b → e ≡ entryFrom (g .background) (g .blocks) (g .rootLinks) (g .rootValues) (length (g .rootLinks)) 0 (blockOf b) → b ≡ c → r ≡ valueOnly (lookup g c)
+  by-place b p e r h q there entry same =
+      q
+      ∙ ap valueOnly (root-only g p e)
+      ∙ (λ t. valueOnly (rootEntry g (there t) (entry t)))
+      ∙ (λ t. valueOnly (rootEntry g (same t) (entryFrom (g .background) (g .blocks) (g .rootLinks) (g .rootValues) (length (g .rootLinks)) 0 (blockOf (same t)))))
+      ∙ by-root h
+
+-- ---- what a function answers that stores the value and answers a number
+
+pub told-value : (n : ℕ) (v : Float) → n ≡ 0 → ok v ≡ told n v
+told-value n v e = ap (λ (k : ℕ). told k v) (sym e)
+
+pub told-refused : (n : ℕ) (v : Float) → (n ≡ 0 → ⊥) → refused n ≡ told n v
+told-refused zero v h = absurd (h refl)
+told-refused (suc n) v h = refl

@@ -10,7 +10,7 @@ use borrow.Author.Tests.{ltb-true}
 use Rattle.layout.specs.Coordinates.{Coord}
 use Rattle.sparse_grid.specs.Validate.{blockIn}
 use Rattle.sparse_grid.specs.Inner.{raised, ranged, rank}
-use Rattle.sparse_grid.proofs.Signs.{both, low, raise}
+use Rattle.sparse_grid.specs.Signs.{both, low, raise}
 use Rattle.sparse_grid.proofs.Blocks.{ranged-all}
 
 raised-rises : (a b : ℤ) → blockIn a ≡ true → ltZ a b ≡ true → raised a < raised b

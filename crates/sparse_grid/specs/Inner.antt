@@ -6,6 +6,7 @@ use lib.IntN.{ℤ, pos, negsuc}
 use lib.Dec.{ltb}
 use lib.ListN.{getD, length}
 use lib.Ieee.{Float}
+use Rattle.refusals.specs.Results.{Result, ok, refused}
 use Rattle.refusals.specs.Faults.{_then_, unless, firstFault}
 use Rattle.float.specs.Zero.{+0}
 use Rattle.layout.specs.Coordinates.{Coord, sameBlock}
@@ -102,3 +103,8 @@ entryFrom background blocks links values (suc n) i b =
 -- the coordinate that a biased place stands for
 abbrev pub placed : Place → Coord
 placed p = place (p .x) (p .y) (p .z)
+
+-- the number that a function answers, and what it stored where that is 0
+abbrev pub told : ℕ → Float → Result Float
+told zero v = ok v
+told (suc n) v = refused (suc n)

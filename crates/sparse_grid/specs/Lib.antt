@@ -4,6 +4,7 @@ pub mod Lookup
 pub mod Count
 pub mod Answers
 pub mod Biased
+pub mod Signs
 pub mod Sound
 pub mod Inner
 pub mod Examples

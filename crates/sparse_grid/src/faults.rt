@@ -1,11 +1,11 @@
 // The faults of records and tables: the number of the first one, and 0 for none.
 ghost use mathlib.Core.Path.{_≡_};
 ghost use Prim.Native.Nat.{_+_, _*_, _/_, _<_, _≤_};
-ghost use mathlib.Core.Bool.{true, _&&_};
+ghost use mathlib.Core.Bool.{true, not, _&&_};
 ghost use mathlib.Core.List.{[]};
 ghost use lib.ListN.{length};
 ghost use Rattle.float.specs.Zero.{+0};
-ghost use lib.Ieee.{eq};
+ghost use lib.Ieee.{eq, lt};
 ghost use Rattle.layout.specs.Coordinates.{sameBlock};
 ghost use Rattle.sparse_grid.specs.Tables.{gridOf};
 ghost use Rattle.sparse_grid.specs.Validate.{valueFault, negative, entriesFault, valuesFault, negativesFault, blockIn, earlier, pairFault, shapeFault};
@@ -51,11 +51,17 @@ fn entry_fault(entry: Entry, clear: bool, count: usize) -> u32
     }
 }
 
-// -0.0 is not negative.
+// Not below zero: -0.0 is a density.
+fn is_density(v: f32) -> bool
+    ensures { λ r. ⌜ r ≡ not (lt v +0) ⌝ }
+{
+    !(v < 0.0)
+}
+
 pub(crate) fn negative_fault(v: f32) -> u32
     ensures { λ r. ⌜ r ≡ negative v ⌝ }
 {
-    if v < 0.0 { NEGATIVE } else { 0 }
+    if is_density(v) { 0 } else { NEGATIVE }
 }
 
 // A block's number has 20 bits with its sign.
@@ -190,32 +196,34 @@ fn entries_fault(links: &[u32], values: &[f32], count: usize) -> u32
     0
 }
 
+// There is no way out before the end, so the compiler tests several values at a time.
 fn values_fault(values: &[f32]) -> u32
     ensures { λ r. ⌜ r ≡ valuesFault (now (values .entry)) ⌝ }
 {
+    let mut sound = true;
     let mut i = 0;
     while i < values.len() {
-        let fault = value_fault(values[i]);
-        if fault != 0 {
-            return fault;
+        if !float::is_finite(values[i]) {
+            sound = false;
         }
         i += 1;
     }
-    0
+    if sound { 0 } else { NOT_FINITE }
 }
 
+// The same for values below zero.
 pub(crate) fn negatives_fault(values: &[f32]) -> u32
     ensures { λ r. ⌜ r ≡ negativesFault (now (values .entry)) ⌝ }
 {
+    let mut sound = true;
     let mut i = 0;
     while i < values.len() {
-        let fault = negative_fault(values[i]);
-        if fault != 0 {
-            return fault;
+        if !is_density(values[i]) {
+            sound = false;
         }
         i += 1;
     }
-    0
+    if sound { 0 } else { NEGATIVE }
 }
 
 // Tables that must be as long as each other, and three numbers for each root's block.

@@ -209,7 +209,8 @@ pub fn get_value(
         return Answer::Refused(pairs);
     }
     let entry = root_entry(background, blocks, root_links, root_values, x, y, z);
-    below(
+    let mut value: f32 = 0.0;
+    let number = below(
         entry,
         upper_links,
         upper_values,
@@ -217,5 +218,11 @@ pub fn get_value(
         lower_values,
         leaf_values,
         place_of(x, y, z),
-    )
+        &mut value,
+    );
+    if number == 0 {
+        Answer::Value(value)
+    } else {
+        Answer::Refused(number)
+    }
 }

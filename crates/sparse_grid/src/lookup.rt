@@ -6,10 +6,9 @@ ghost use lib.ListN.{length};
 ghost use lib.Signed.{shrZ};
 ghost use Rattle.layout.specs.Coordinates.{blockOf, sameBlock};
 ghost use Rattle.sparse_grid.specs.Lookup.{leafAt, lowerAt, upperAt, rootEntry};
-ghost use Rattle.sparse_grid.specs.Answers.{answer, valueOnly, at};
+ghost use Rattle.sparse_grid.specs.Answers.{valueOnly, at};
 ghost use Rattle.sparse_grid.specs.Biased.{back};
-ghost use Rattle.sparse_grid.specs.Inner.{entryFrom, nodesOf, placed, rootBlock};
-use crate::Answer;
+ghost use Rattle.sparse_grid.specs.Inner.{entryFrom, nodesOf, placed, rootBlock, told};
 use crate::Entry;
 use crate::entry_at;
 use crate::root_at;
@@ -17,9 +16,9 @@ use refusals::RECORD;
 
 // A coordinate plus 2^31 on each axis, so that its slots are plain remainders.
 pub struct Place {
-    pub x: usize,
-    pub y: usize,
-    pub z: usize,
+    pub x: u32,
+    pub y: u32,
+    pub z: u32,
 }
 
 // The block that a coordinate lies in, of 4,096 coordinates: rounded down, below zero too.
@@ -29,10 +28,10 @@ fn block_of(c: i32) -> i32
     c >> 12
 }
 
-fn biased(c: i32) -> usize
+fn biased(c: i32) -> u32
     ensures { λ r. ⌜ c ≡ back 2147483648 r ⌝ }
 {
-    (c as i64 + 2147483648) as usize
+    (c as i64 + 2147483648) as u32
 }
 
 pub(crate) fn place_of(x: i32, y: i32, z: i32) -> Place
@@ -85,29 +84,42 @@ pub(crate) fn root_entry(
     Entry::Tile(background)
 }
 
-fn leaf_at(leaf_values: &[f32], k: u32, place: Place) -> Answer
-    ensures { λ r. ⌜ answer r ≡ valueOnly (leafAt (nodesOf [] [] [] [] (now («leaf_values» .entry))) k (placed place)) ⌝ }
+// Each of these stores what it reads in `value` and answers 0, or answers the number of its refusal. An enum would be packed
+// into one word and taken apart again at every step.
+fn leaf_at(leaf_values: &[f32], k: u32, place: Place, value: &mut f32) -> u32
+    ensures { λ r. ⌜ told r (now (value .exit)) ≡ valueOnly (leafAt (nodesOf [] [] [] [] (now («leaf_values» .entry))) k (placed place)) ⌝ }
 {
     let start = 512 * k as usize;
     if leaf_values.len() < start + 512 {
-        return Answer::Refused(RECORD);
+        return RECORD;
     }
-    let slot = (place.x % 8 * 8 + place.y % 8) * 8 + place.z % 8;
-    Answer::Value(leaf_values[start + slot])
+    let slot = (place.x % 8 * 64 + place.y % 8 * 8 + place.z % 8) as usize;
+    *value = leaf_values[start + slot];
+    0
 }
 
-fn lower_at(links: &[u32], values: &[f32], leaf_values: &[f32], k: u32, place: Place) -> Answer
+fn lower_at(
+    links: &[u32],
+    values: &[f32],
+    leaf_values: &[f32],
+    k: u32,
+    place: Place,
+    value: &mut f32,
+) -> u32
     requires { ⌜ length (now links) ≡ length (now values) ⌝ }
-    ensures { λ r. ⌜ answer r ≡ valueOnly (lowerAt (nodesOf [] [] (now (links .entry)) (now (values .entry)) (now («leaf_values» .entry))) k (placed place)) ⌝ }
+    ensures { λ r. ⌜ told r (now (value .exit)) ≡ valueOnly (lowerAt (nodesOf [] [] (now (links .entry)) (now (values .entry)) (now («leaf_values» .entry))) k (placed place)) ⌝ }
 {
     let start = 4096 * k as usize;
     if links.len() < start + 4096 {
-        return Answer::Refused(RECORD);
+        return RECORD;
     }
-    let slot = (place.x % 128 / 8 * 16 + place.y % 128 / 8) * 16 + place.z % 128 / 8;
+    let slot = (place.x % 128 / 8 * 256 + place.y % 128 / 8 * 16 + place.z % 128 / 8) as usize;
     match entry_at(links, values, start + slot) {
-        Entry::Child(j) => leaf_at(leaf_values, j, place),
-        Entry::Tile(v) => Answer::Value(v),
+        Entry::Child(j) => leaf_at(leaf_values, j, place, value),
+        Entry::Tile(v) => {
+            *value = v;
+            0
+        }
     }
 }
 
@@ -119,18 +131,24 @@ fn upper_at(
     leaf_values: &[f32],
     k: u32,
     place: Place,
-) -> Answer
+    value: &mut f32,
+) -> u32
     requires { ⌜ (length (now links) ≡ length (now values)) × (length (now «lower_links») ≡ length (now «lower_values»)) ⌝ }
-    ensures { λ r. ⌜ answer r ≡ valueOnly (upperAt (nodesOf (now (links .entry)) (now (values .entry)) (now («lower_links» .entry)) (now («lower_values» .entry)) (now («leaf_values» .entry))) k (placed place)) ⌝ }
+    ensures { λ r. ⌜ told r (now (value .exit)) ≡ valueOnly (upperAt (nodesOf (now (links .entry)) (now (values .entry)) (now («lower_links» .entry)) (now («lower_values» .entry)) (now («leaf_values» .entry))) k (placed place)) ⌝ }
 {
     let start = 32768 * k as usize;
     if links.len() < start + 32768 {
-        return Answer::Refused(RECORD);
+        return RECORD;
     }
-    let slot = (place.x % 4096 / 128 * 32 + place.y % 4096 / 128) * 32 + place.z % 4096 / 128;
+    let slot = (place.x % 4096 / 128 * 1024
+        + place.y % 4096 / 128 * 32
+        + place.z % 4096 / 128) as usize;
     match entry_at(links, values, start + slot) {
-        Entry::Child(j) => lower_at(lower_links, lower_values, leaf_values, j, place),
-        Entry::Tile(v) => Answer::Value(v),
+        Entry::Child(j) => lower_at(lower_links, lower_values, leaf_values, j, place, value),
+        Entry::Tile(v) => {
+            *value = v;
+            0
+        }
     }
 }
 
@@ -143,9 +161,10 @@ pub(crate) fn below(
     lower_values: &[f32],
     leaf_values: &[f32],
     place: Place,
-) -> Answer
+    value: &mut f32,
+) -> u32
     requires { ⌜ (length (now «upper_links») ≡ length (now «upper_values»)) × (length (now «lower_links») ≡ length (now «lower_values»)) ⌝ }
-    ensures { λ r. ⌜ answer r ≡ valueOnly (rootEntry (nodesOf (now («upper_links» .entry)) (now («upper_values» .entry)) (now («lower_links» .entry)) (now («lower_values» .entry)) (now («leaf_values» .entry))) (placed place) entry) ⌝ }
+    ensures { λ r. ⌜ told r (now (value .exit)) ≡ valueOnly (rootEntry (nodesOf (now («upper_links» .entry)) (now («upper_values» .entry)) (now («lower_links» .entry)) (now («lower_values» .entry)) (now («leaf_values» .entry))) (placed place) entry) ⌝ }
 {
     match entry {
         Entry::Child(k) => upper_at(
@@ -156,7 +175,11 @@ pub(crate) fn below(
             leaf_values,
             k,
             place,
+            value,
         ),
-        Entry::Tile(v) => Answer::Value(v),
+        Entry::Tile(v) => {
+            *value = v;
+            0
+        }
     }
 }

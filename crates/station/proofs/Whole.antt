@@ -2,7 +2,6 @@
 use mathlib.Core.Path.{_≡_, refl, sym, ap, _∙_, subst}
 use mathlib.Core.List.{List}
 use Prim.Native.Nat.{ℕ, suc}
-use native.Mathlib.Omega.{arith}
 use lib.ListN.{length, getD, replicate}
 use lib.Ieee.{Float}
 use Rattle.refusals.specs.Results.{Result, ok, refused, numberOf, valueOr, bind}
@@ -18,14 +17,14 @@ use Rattle.nanovdb.specs.Lent as Lent
 use Rattle.nanovdb.specs.Lent.{Lent, Tables, lengths, zeros, filled, placesOf, decodeInto, answerOf, leftOf}
 use Rattle.nanovdb.specs.Passed.{density-passed}
 use Rattle.nanovdb.specs.Numbers as Numbers
-use Rattle.nanovdb.specs.Numbers.{Numbered, numbered}
+use Rattle.nanovdb.specs.Numbers.{Numbered, numbered, not-zero}
 use Rattle.nanovdb.specs.Lookups.{reads}
 use Rattle.index.specs.Found.{cellAt}
 use Rattle.majorant.specs.Build.{buildInto}
 use Rattle.majorant.specs.Accepted as Built
 use Rattle.station.specs.Claim.{cells}
 use Rattle.station.specs.Theorem.{demand3}
-use Rattle.station.specs.Ask.{Loaded, Question, Answer, load, tablesLeft, figuresLeft, answer}
+use Rattle.station.specs.Ask.{Loaded, Question, Answer, withFigures, load, tablesLeft, figuresLeft, answer}
 use Rattle.station.specs.Answered.{Answered}
 use Rattle.station.specs.AskLaws.{accepts, answered}
 use Rattle.station.specs.Inner.{Small, answerIn, Used, usedOf, buildIn, leftBy}
@@ -45,22 +44,15 @@ pub places-in : (b : List ℕ) (l : Lent) (a : Lent.Answer) → a ≡ answerOf (
     → Used a (length (t .blocks)) (length (t .rootLinks)) (length (t .rootValues)) (length (t .upperLinks)) (length (t .upperValues)) (length (t .lowerLinks)) (length (t .lowerValues)) (length (t .leafValues))
 places-in b l a p t s z = go (decodeInto decodeDensity b l) refl (numbered b l) p s
   where
-    none : (k : ℕ) → Numbered {A = Accepted} (refused k) → k ≡ 0 → ⊥
-    none k (Numbers.number j) z = omega arith
-
     go : (r : Result Accepted) → decodeInto decodeDensity b l ≡ r → Numbered r → a ≡ answerOf r → t ≡ leftOf l r
         → Used a (length (t .blocks)) (length (t .rootLinks)) (length (t .rootValues)) (length (t .upperLinks)) (length (t .upperValues)) (length (t .lowerLinks)) (length (t .lowerValues)) (length (t .leafValues))
     go (ok x) e n p s = subst (λ (y : Lent.Answer). Used y (length (t .blocks)) (length (t .rootLinks)) (length (t .rootValues)) (length (t .upperLinks)) (length (t .upperValues)) (length (t .lowerLinks)) (length (t .lowerValues)) (length (t .leafValues))) (sym p) (used-fits l x (density-passed b (placesOf l) x (accepts b l x e) .0 .valid) t s)
-    go (refused k) e n p s = absurd (none k n (sym (ap (λ (y : Lent.Answer). y .number) p) ∙ z))
+    go (refused k) e n p s = absurd (not-zero n (sym (ap (λ (y : Lent.Answer). y .number) p) ∙ z))
 
 module _ (b : List ℕ) (l : Lent) (places : ℕ) (q : Question) where
-  -- after the decode, with `t` accepted
-  abbrev next : Accepted → Result Loaded
-  next t = bind (buildInto (t .grid) (t .medium) cells places) (λ (f : List Float). ok (record { accepted = t; figures = f }))
-
-  load-is : (r : Result Accepted) → decodeInto decodeDensity b l ≡ r → load b l places ≡ bind r next
+  load-is : (r : Result Accepted) → decodeInto decodeDensity b l ≡ r → load b l places ≡ bind r (withFigures places)
   unfolding load
-  load-is r e = ap (λ (x : Result Accepted). bind x next) e
+  load-is r e = ap (λ (x : Result Accepted). bind x (withFigures places)) e
 
   -- what `ask` answers and leaves of an answer of the decode and its tables
   record Ends (a : Lent.Answer) (t : Tables) : Type 0 where

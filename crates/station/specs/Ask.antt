@@ -21,12 +21,13 @@ pub record Loaded : Type 0 where
   pub accepted : Accepted
   pub figures : List Float
 
+-- an accepted grid, and its figures beside it
+abbrev pub withFigures : ℕ → Accepted → Result Loaded
+withFigures places t = bind (buildInto (t .grid) (t .medium) cells places) (λ (f : List Float). ok (record { accepted = t; figures = f }))
+
 -- the decode into the lent tables, and the build into a table of so many places
 unfoldable pub load : List ℕ → Lent → ℕ → Result Loaded
-load b l places =
-    bind (decodeInto decodeDensity b l) (λ (t : Accepted).
-    bind (buildInto (t .grid) (t .medium) cells places) (λ (f : List Float).
-    ok (record { accepted = t; figures = f })))
+load b l places = bind (decodeInto decodeDensity b l) (withFigures places)
 
 -- what is left in the lent tables, and in the table of figures
 abbrev pub tablesLeft : Lent → Result Loaded → Tables

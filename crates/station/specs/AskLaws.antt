@@ -2,7 +2,6 @@
 use mathlib.Core.Path.{_≡_, refl, sym, ap, _∙_, subst}
 use mathlib.Core.List.{List}
 use Prim.Native.Nat.{ℕ, _<_}
-use native.Mathlib.Omega.{arith}
 use lib.Ieee.{Float, binary32, toBits}
 use Rattle.refusals.specs.Results.{Result, ok, refused, numberOf, bind}
 use Rattle.refusals.specs.FaultLaws.{passing-ok}
@@ -15,8 +14,7 @@ use Rattle.nanovdb.specs.Decode.{Accepted, decodeDensity, mediumOf}
 use Rattle.nanovdb.specs.Lent.{Lent, lentFault, placesOf, decodeInto}
 use Rattle.nanovdb.specs.Agreement.{ReadsAs}
 use Rattle.nanovdb.specs.Passed.{density-passed}
-use Rattle.nanovdb.specs.Numbers as Numbers
-use Rattle.nanovdb.specs.Numbers.{Numbered, numbered}
+use Rattle.nanovdb.specs.Numbers.{Numbered, numbered, not-zero}
 use Rattle.nanovdb.specs.Lookups.{lookups, reads}
 use Rattle.index.specs.Found.{cellAt}
 use Rattle.index.specs.Enclosed.{cell-found, cell-encloses}
@@ -26,7 +24,7 @@ use Rattle.majorant.specs.Accepted as Built
 use Rattle.station.specs.Claim.{Holds, Bounds, cells}
 use Rattle.station.specs.Points.{fitting, few}
 use Rattle.station.specs.Theorem.{demand3}
-use Rattle.station.specs.Ask.{Loaded, Question, load, tablesLeft, figuresLeft, answer}
+use Rattle.station.specs.Ask.{Loaded, Question, withFigures, load, tablesLeft, figuresLeft, answer}
 use Rattle.station.specs.Answered.{Inside, Answered}
 
 -- ---- what a load was that answered 0
@@ -49,7 +47,7 @@ loads b l places t e z =
       loaded = record { accepted = t; figures = B .table };
       decoded = accepts b l t e;
       is = B .is;
-      is-load = ap (λ (r : Result Accepted). bind r (λ (u : Accepted). bind (buildInto (u .grid) (u .medium) cells places) (λ (f : List Float). ok (record { accepted = u; figures = f })))) e ∙ ap (λ (r : Result (List Float)). bind r (λ (f : List Float). ok (record { accepted = t; figures = f }))) (B .into);
+      is-load = ap (λ (r : Result Accepted). bind r (withFigures places)) e ∙ ap (λ (r : Result (List Float)). bind r (λ (f : List Float). ok (record { accepted = t; figures = f }))) (B .into);
     }
 
 first-zero : {A B : Type 0} (r : Result A) (f : A → Result B) → numberOf (bind r f) ≡ 0 → numberOf r ≡ 0
@@ -60,15 +58,9 @@ whole : (b : List ℕ) (l : Lent) (places : ℕ) → numberOf (load b l places) 
 unfolding load
 whole b l places z = go (decodeInto decodeDensity b l) refl (numbered b l) z
   where
-    next : Accepted → Result Loaded
-    next t = bind (buildInto (t .grid) (t .medium) cells places) (λ (f : List Float). ok (record { accepted = t; figures = f }))
-
-    none : (k : ℕ) → Numbered {A = Accepted} (refused k) → k ≡ 0 → ⊥
-    none k (Numbers.number j) z = omega arith
-
-    go : (r : Result Accepted) → decodeInto decodeDensity b l ≡ r → Numbered r → numberOf (bind r next) ≡ 0 → Whole b l places
+    go : (r : Result Accepted) → decodeInto decodeDensity b l ≡ r → Numbered r → numberOf (bind r (withFigures places)) ≡ 0 → Whole b l places
     go (ok t) e n z = loads b l places t e (first-zero (buildInto (t .grid) (t .medium) cells places) (λ (f : List Float). ok (record { accepted = t; figures = f })) z)
-    go (refused k) e n z = absurd (none k n z)
+    go (refused k) e n z = absurd (not-zero n z)
 
 -- ---- the claim
 

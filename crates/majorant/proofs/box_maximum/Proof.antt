@@ -5,7 +5,7 @@ use Rattle.sparse_grid.specs.Tables.{gridOf}
 use Rattle.sparse_grid.specs.Lookup.{readIn}
 use Rattle.majorant.specs.Boxes.{boxMaximum, between}
 use Rattle.majorant.specs.Build.{publicMaximum}
-use Rattle.majorant.proofs.Signs.{seen}
+use Rattle.sparse_grid.specs.Signs.{seen}
 use Rattle.majorant.proofs.Refused.{passed, stopped}
 use Rattle.majorant.proofs.box_maximum.Statement.{statement}
 use Rattle.majorant.proofs.box_maximum.Tie as tie

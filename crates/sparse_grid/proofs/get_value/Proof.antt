@@ -5,13 +5,11 @@ use mir.Val.{toZ, ofZ}
 use borrow.Author.Needs.{needs}
 use Rattle.refusals.specs.Results.{refused}
 use Rattle.sparse_grid.specs.Tables.{gridOf}
-use Rattle.sparse_grid.specs.Lookup.{rootEntry, lookup}
-use Rattle.sparse_grid.specs.Answers.{valueOnly, at}
-use Rattle.sparse_grid.specs.Inner.{placed}
+use Rattle.sparse_grid.specs.Answers.{at}
 use Rattle.sparse_grid.specs.Sound.{pairs}
-use Rattle.sparse_grid.proofs.Signs.{seen}
+use Rattle.sparse_grid.specs.Signs.{seen}
 use Rattle.sparse_grid.proofs.Whole.{pair-only}
-use Rattle.sparse_grid.proofs.Nodes.{unpaired, root-only, by-root}
+use Rattle.sparse_grid.proofs.Nodes.{unpaired, by-place, told-value, told-refused}
 use Rattle.sparse_grid.proofs.get_value.Statement.{statement}
 use Rattle.sparse_grid.proofs.get_value.Tie as tie
 
@@ -37,21 +35,30 @@ place-of-requires c κs = search needs
 
 below-requires : tie.Need-below-requires
 below-requires c κs =
-    let a = c .before .before .before .before .before .before .before .before .before .before .before .args in
+    let a = c .before .before .before .before .before .before .before .before .before .before .before .before .args in
     let g = gridOf (a .background) (a .blocks .now) (a .root-links .now) (a .root-values .now) (a .upper-links .now) (a .upper-values .now) (a .lower-links .now) (a .lower-values .now) (a .leaf-values .now) in
-    let p = pairs g (sym (c .before .before .before .pair-fault .ensures ∙ pair-only g) ∙ c .before .before .if1 .left) in
+    let p = pairs g (sym (c .before .before .before .before .pair-fault .ensures ∙ pair-only g) ∙ c .before .before .before .if1 .left) in
     (p .upper, p .lower)
 
 returns-2 : tie.Need-returns-2
 returns-2 c =
-    let a = c .before .before .before .before .before .before .before .before .before .before .before .before .args in
+    let a = c .before .before .before .before .before .before .before .before .before .before .before .before .before .before .args in
     let g = gridOf (a .background) (a .blocks .now) (a .root-links .now) (a .root-values .now) (a .upper-links .now) (a .upper-values .now) (a .lower-links .now) (a .lower-values .now) (a .leaf-values .now) in
-    let f = c .before .before .before .before .before .before .before .before .before .before .before .before .fits in
-    c .below .ensures
-    ∙ ap valueOnly (root-only g (placed (c .before .place-of .result)) (c .before .before .root-entry .result))
-    ∙ (λ t. valueOnly (rootEntry g (c .before .place-of .ensures t) (c .before .before .root-entry .ensures t)))
-    ∙ by-root g (at (toZ w32 (ofZ w32 (a .x))) (toZ w32 (ofZ w32 (a .y))) (toZ w32 (ofZ w32 (a .z)))) (sym (c .before .before .before .before .pair-fault .ensures ∙ pair-only g) ∙ c .before .before .before .if1 .left)
-    ∙ (λ t. valueOnly (lookup g (at (seen (f .x) t) (seen (f .y) t) (seen (f .z) t))))
+    let f = c .before .before .before .before .before .before .before .before .before .before .before .before .before .before .fits in
+    told-value (c .before .below .result) _ (c .if2 .taken)
+    ∙ by-place g (at (a .x) (a .y) (a .z)) (at (toZ w32 (ofZ w32 (a .x))) (toZ w32 (ofZ w32 (a .y))) (toZ w32 (ofZ w32 (a .z)))) _ (c .before .before .before .before .root-entry .result) _
+    (sym (c .before .before .before .before .before .before .pair-fault .ensures ∙ pair-only g) ∙ c .before .before .before .before .before .if1 .left)
+    (c .before .below .ensures) (c .before .before .before .place-of .ensures) (c .before .before .before .before .root-entry .ensures) (λ t. at (seen (f .x) t) (seen (f .y) t) (seen (f .z) t))
+
+returns-3 : tie.Need-returns-3
+returns-3 c =
+    let a = c .before .before .before .before .before .before .before .before .before .before .before .before .before .before .args in
+    let g = gridOf (a .background) (a .blocks .now) (a .root-links .now) (a .root-values .now) (a .upper-links .now) (a .upper-values .now) (a .lower-links .now) (a .lower-values .now) (a .leaf-values .now) in
+    let f = c .before .before .before .before .before .before .before .before .before .before .before .before .before .before .fits in
+    told-refused (c .before .below .result) _ (c .if2 .left)
+    ∙ by-place g (at (a .x) (a .y) (a .z)) (at (toZ w32 (ofZ w32 (a .x))) (toZ w32 (ofZ w32 (a .y))) (toZ w32 (ofZ w32 (a .z)))) _ (c .before .before .before .before .root-entry .result) _
+    (sym (c .before .before .before .before .before .before .pair-fault .ensures ∙ pair-only g) ∙ c .before .before .before .before .before .if1 .left)
+    (c .before .below .ensures) (c .before .before .before .place-of .ensures) (c .before .before .before .before .root-entry .ensures) (λ t. at (seen (f .x) t) (seen (f .y) t) (seen (f .z) t))
 
 pub get-value-spec : {M : Type 1} → statement M
 get-value-spec =
@@ -62,4 +69,5 @@ get-value-spec =
     root-entry-requires
     place-of-requires
     below-requires
-    returns-2)
+    returns-2
+    returns-3)

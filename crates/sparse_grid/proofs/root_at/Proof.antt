@@ -6,7 +6,7 @@ use lib.IntN.{pos}
 use mir.Syntax.{w32}
 use mir.Val.{SFits}
 use borrow.Author.Needs.{needs}
-use Rattle.sparse_grid.proofs.Signs.{seen}
+use Rattle.sparse_grid.specs.Signs.{seen}
 use Rattle.sparse_grid.proofs.root_at.Statement.{statement}
 use Rattle.sparse_grid.proofs.root_at.Tie as tie
 

@@ -4,7 +4,7 @@ use native.Mathlib.Omega.{arith}
 use borrow.Author.Needs.{needs}
 use Rattle.sparse_grid.specs.Validate.{blockIn}
 use Rattle.sparse_grid.specs.Inner.{raised}
-use Rattle.majorant.proofs.Signs.{seen}
+use Rattle.sparse_grid.specs.Signs.{seen}
 use Rattle.majorant.proofs.range_max.intersect_bounds.Statement.{statement}
 use Rattle.majorant.proofs.range_max.intersect_bounds.Tie as tie
 

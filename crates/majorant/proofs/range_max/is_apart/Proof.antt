@@ -8,7 +8,7 @@ use borrow.Author.Tests.{lt-ltb, le-ltb}
 use Rattle.sparse_grid.specs.Validate.{blockIn}
 use Rattle.sparse_grid.specs.Inner.{raised}
 use Rattle.majorant.specs.RangeMax.{apart}
-use Rattle.majorant.proofs.Signs.{seen}
+use Rattle.sparse_grid.specs.Signs.{seen}
 use Rattle.majorant.proofs.range_max.is_apart.Statement.{statement}
 use Rattle.majorant.proofs.range_max.is_apart.Tie as tie
 

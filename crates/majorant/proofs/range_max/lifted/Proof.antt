@@ -1,5 +1,5 @@
 -- `majorant::range_max::lifted` meets its contract: a number in range plus 2^19 does not wrap and is not negative. Assumes nothing.
-use Rattle.majorant.proofs.Signs.{raised-fits, raised-cast, is-raised}
+use Rattle.sparse_grid.specs.Signs.{raised-fits, raised-cast, is-raised}
 use Rattle.majorant.proofs.range_max.lifted.Statement.{statement}
 use Rattle.majorant.proofs.range_max.lifted.Tie as tie
 

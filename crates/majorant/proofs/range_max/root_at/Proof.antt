@@ -6,7 +6,7 @@ use lib.IntN.{pos}
 use mir.Syntax.{w32}
 use mir.Val.{SFits}
 use borrow.Author.Needs.{needs}
-use Rattle.majorant.proofs.Signs.{seen}
+use Rattle.sparse_grid.specs.Signs.{seen}
 use Rattle.majorant.proofs.range_max.root_at.Statement.{statement}
 use Rattle.majorant.proofs.range_max.root_at.Tie as tie
 

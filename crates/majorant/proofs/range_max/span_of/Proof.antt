@@ -4,7 +4,7 @@ use mathlib.Core.Path.{_≡_, sym, ap, _∙_}
 use native.Mathlib.Omega.{arith}
 use borrow.Author.Needs.{needs}
 use Rattle.sparse_grid.specs.Biased.{back}
-use Rattle.majorant.proofs.Signs.{seen}
+use Rattle.sparse_grid.specs.Signs.{seen}
 use Rattle.majorant.proofs.range_max.span_of.Statement.{statement}
 use Rattle.majorant.proofs.range_max.span_of.Tie as tie
 

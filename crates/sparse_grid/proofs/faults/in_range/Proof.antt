@@ -5,7 +5,7 @@ use mir.Val.{SFits}
 use borrow.Author.Tests.{not-true, not-false}
 use borrow.Author.Needs.{needs}
 use Rattle.sparse_grid.specs.Validate.{blockIn}
-use Rattle.sparse_grid.proofs.Signs.{seen}
+use Rattle.sparse_grid.specs.Signs.{seen}
 use Rattle.sparse_grid.proofs.Tests.{stop-1, stop-2, go-3}
 use Rattle.sparse_grid.proofs.faults.in_range.Statement.{statement}
 use Rattle.sparse_grid.proofs.faults.in_range.Tie as tie

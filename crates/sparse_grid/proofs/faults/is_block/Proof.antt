@@ -4,7 +4,7 @@ use mir.Syntax.{w32}
 use mir.Val.{SFits}
 use borrow.Author.Tests.{eq-eqb, ne-eqb}
 use Rattle.layout.specs.Coordinates.{eqZ}
-use Rattle.sparse_grid.proofs.Signs.{eqb-bits}
+use Rattle.sparse_grid.specs.Signs.{eqb-bits}
 use Rattle.sparse_grid.proofs.Tests.{stop-1, stop-2, go-3}
 use Rattle.sparse_grid.proofs.faults.is_block.Statement.{statement}
 use Rattle.sparse_grid.proofs.faults.is_block.Tie as tie

@@ -1,5 +1,5 @@
 -- `sparse_grid::faults::lifted` meets its contract: a number in range plus 2^19 does not wrap and is not negative. Assumes nothing.
-use Rattle.sparse_grid.proofs.Signs.{raised-fits, raised-cast, is-raised}
+use Rattle.sparse_grid.specs.Signs.{raised-fits, raised-cast, is-raised}
 use Rattle.sparse_grid.proofs.faults.lifted.Statement.{statement}
 use Rattle.sparse_grid.proofs.faults.lifted.Tie as tie
 

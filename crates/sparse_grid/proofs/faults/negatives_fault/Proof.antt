@@ -1,41 +1,36 @@
--- `sparse_grid::faults::negatives_fault` meets its contract: the invariant: no value before i is negative. Assumes nothing.
-use Prim.Native.Nat.{_-_, _≤_}
+-- `sparse_grid::faults::negatives_fault` meets its contract: the invariant: `sound` says whether the values before i pass. Assumes nothing.
+use Prim.Native.Nat.{_-_}
 use mathlib.Core.Path.{_≡_, sym, ap, _∙_}
+use mathlib.Core.Bool.{Bool}
+use mathlib.Core.Logic.{⊎-elim}
 use native.Mathlib.Omega.{arith}
-use lib.ListN.{length, getD}
-use lib.Ieee.{nan}
-use borrow.Author.Needs.{needs}
-use Rattle.refusals.specs.Faults.{firstFault}
-use Rattle.refusals.specs.FaultSteps.{firstFault-none, firstFault-next, firstFault-end}
+use lib.ListN.{length}
+use mathlib.Core.Bool.{not}
+use lib.Ieee.{lt}
 use Rattle.float.specs.Zero.{+0}
-use Rattle.sparse_grid.specs.Validate.{negative}
-use Rattle.refusals.specs.ListLaws.{getD-any}
-use Rattle.sparse_grid.proofs.Steps.{stops}
+use borrow.Author.Needs.{needs}
+use Rattle.refusals.specs.Faults.{unless}
+use Rattle.sparse_grid.proofs.Tested.{Tested, begun, passed, failed, ended}
 use Rattle.sparse_grid.proofs.faults.negatives_fault.Statement.{statement}
 use Rattle.sparse_grid.proofs.faults.negatives_fault.Tie as tie
 
 abbrev Inv-loop : tie.InvT-loop
-Inv-loop values i₀ i = (i ≤ length values) × (firstFault i (λ k. negative (getD values k +0)) ≡ 0)
+Inv-loop values sound₀ i₀ sound i = Tested values (λ v. not (lt v +0)) 14 sound i
 
 abbrev μ-loop : tie.MeasureT-loop
-μ-loop values i₀ i = length values - i
+μ-loop values sound₀ i₀ sound i = length values - i
 
 loop-holds : tie.Need-loop-holds Inv-loop μ-loop
-loop-holds c = (omega arith, firstFault-none _)
+loop-holds c = begun (c .before .args .values .now) (λ v. not (lt v +0)) 14
 
-mul-negative-fault : tie.Need-mul-negative-fault Inv-loop μ-loop
-mul-negative-fault c = omega arith
+mul-is-density : tie.Need-mul-is-density Inv-loop μ-loop
+mul-is-density c = omega arith
 
-shared-slice-read-negative-fault : tie.Need-shared-slice-read-negative-fault Inv-loop μ-loop
-shared-slice-read-negative-fault c = omega arith
+shared-slice-read-is-density : tie.Need-shared-slice-read-is-density Inv-loop μ-loop
+shared-slice-read-is-density c = omega arith
 
-negative-fault-requires : tie.Need-negative-fault-requires Inv-loop μ-loop
-negative-fault-requires c κs = search needs
-
-returns : tie.Need-returns Inv-loop μ-loop
-returns c =
-    let v = c .before .before .before .before .before .before .args .values .now in
-    stops (length v) (c .before .before .before .before .loop .i) (λ k. negative (getD v k +0)) (c .before .negative-fault .result) (c .before .before .before .loop-test .taken) (c .before .before .before .before .loop .inv .1) (sym (c .before .negative-fault .ensures ∙ ap negative (getD-any v (c .before .before .before .before .loop .i) nan +0 (c .before .before .before .loop-test .taken)))) (c .if1 .taken)
+is-density-requires : tie.Need-is-density-requires Inv-loop μ-loop
+is-density-requires c κs = search needs
 
 add-i : tie.Need-add-i Inv-loop μ-loop
 add-i c = omega arith
@@ -46,11 +41,25 @@ loop-less c = omega arith
 loop-again : tie.Need-loop-again Inv-loop μ-loop
 loop-again c =
     let v = c .before .before .before .before .before .before .args .values .now in
-    (omega (arith, c .before .before .before .loop-test .taken), firstFault-next (c .before .before .before .before .loop .i) (λ k. negative (getD v k +0)) (c .before .before .before .before .loop .inv .1) (sym (c .before .negative-fault .ensures ∙ ap negative (getD-any v (c .before .before .before .before .loop .i) nan +0 (c .before .before .before .loop-test .taken))) ∙ c .if1 .left))
+    let at = c .before .before .before .before .loop in
+    let here = c .before .is-density in
+    let within = c .before .before .before .loop-test .taken in
+    ⊎-elim
+    (λ w. failed v (λ v. not (lt v +0)) 14 (at .i) (at .sound) (here .result) (here .ensures) within (at .inv) (w .0 .taken) (c .if1 .sound) (w .1))
+    (λ w. passed v (λ v. not (lt v +0)) 14 (at .i) (at .sound) (here .result) (here .ensures) within (at .inv) (w .0 .left) (c .if1 .sound) (w .1))
+    (c .if1 .came)
+
+returns : tie.Need-returns Inv-loop μ-loop
+returns c =
+    let v = c .before .before .before .before .args .values .now in
+    let at = c .before .before .loop in
+    ap (λ (s : Bool). unless s 15) (sym (c .if2 .taken)) ∙ ended v (λ v. not (lt v +0)) 14 (at .i) (at .sound) (at .inv) (c .before .loop-test .left)
 
 returns-2 : tie.Need-returns-2 Inv-loop μ-loop
 returns-2 c =
-    sym (firstFault-end (length (c .before .before .before .args .values .now)) (c .before .loop .i) _ (c .before .loop .inv .0) (c .loop-test .left) (c .before .loop .inv .1))
+    let v = c .before .before .before .before .args .values .now in
+    let at = c .before .before .loop in
+    ap (λ (s : Bool). unless s 15) (sym (c .if2 .left)) ∙ ended v (λ v. not (lt v +0)) 14 (at .i) (at .sound) (at .inv) (c .before .loop-test .left)
 
 pub negatives-fault-spec : {M : Type 1} → statement M
 negatives-fault-spec =
@@ -59,11 +68,11 @@ negatives-fault-spec =
     Inv-loop
     μ-loop
     loop-holds
-    mul-negative-fault
-    shared-slice-read-negative-fault
-    negative-fault-requires
-    returns
+    mul-is-density
+    shared-slice-read-is-density
+    is-density-requires
     add-i
     loop-less
     loop-again
+    returns
     returns-2)

@@ -3,7 +3,7 @@ use mathlib.Core.Path.{sym, ap, _∙_}
 use mathlib.Core.Bool.{Bool, _&&_}
 use lib.Signed.{leZ}
 use lib.IntN.{ℤ, pos, negsuc}
-use Rattle.sparse_grid.proofs.Signs.{seen}
+use Rattle.sparse_grid.specs.Signs.{seen}
 use Rattle.sparse_grid.proofs.faults.number_in.Statement.{statement}
 use Rattle.sparse_grid.proofs.faults.number_in.Tie as tie
 

@@ -6,7 +6,7 @@ use mir.Syntax.{w32}
 use mir.Val.{SFits}
 use Rattle.sparse_grid.specs.Validate.{blockIn}
 use Rattle.sparse_grid.specs.Inner.{rank, raised, blockOfRoot}
-use Rattle.sparse_grid.proofs.Signs.{seen}
+use Rattle.sparse_grid.specs.Signs.{seen}
 use Rattle.sparse_grid.proofs.Blocks.{ranged-all}
 use Rattle.sparse_grid.proofs.faults.rank_of.Statement.{statement}
 use Rattle.sparse_grid.proofs.faults.rank_of.Tie as tie

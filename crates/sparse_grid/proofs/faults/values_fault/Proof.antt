@@ -1,41 +1,34 @@
--- `sparse_grid::faults::values_fault` meets its contract: the invariant: no value before i has a fault. Assumes nothing.
-use Prim.Native.Nat.{_-_, _≤_}
+-- `sparse_grid::faults::values_fault` meets its contract: the invariant: `sound` says whether the values before i pass. Assumes nothing.
+use Prim.Native.Nat.{_-_}
 use mathlib.Core.Path.{_≡_, sym, ap, _∙_}
+use mathlib.Core.Bool.{Bool}
+use mathlib.Core.Logic.{⊎-elim}
 use native.Mathlib.Omega.{arith}
-use lib.ListN.{length, getD}
-use lib.Ieee.{nan}
+use lib.ListN.{length}
+use lib.Ieee.Scale.{finite}
 use borrow.Author.Needs.{needs}
-use Rattle.refusals.specs.Faults.{firstFault}
-use Rattle.refusals.specs.FaultSteps.{firstFault-none, firstFault-next, firstFault-end}
-use Rattle.float.specs.Zero.{+0}
-use Rattle.sparse_grid.specs.Validate.{valueFault}
-use Rattle.refusals.specs.ListLaws.{getD-any}
-use Rattle.sparse_grid.proofs.Steps.{stops}
+use Rattle.refusals.specs.Faults.{unless}
+use Rattle.sparse_grid.proofs.Tested.{Tested, begun, passed, failed, ended}
 use Rattle.sparse_grid.proofs.faults.values_fault.Statement.{statement}
 use Rattle.sparse_grid.proofs.faults.values_fault.Tie as tie
 
 abbrev Inv-loop : tie.InvT-loop
-Inv-loop values i₀ i = (i ≤ length values) × (firstFault i (λ k. valueFault (getD values k +0)) ≡ 0)
+Inv-loop values sound₀ i₀ sound i = Tested values finite 11 sound i
 
 abbrev μ-loop : tie.MeasureT-loop
-μ-loop values i₀ i = length values - i
+μ-loop values sound₀ i₀ sound i = length values - i
 
 loop-holds : tie.Need-loop-holds Inv-loop μ-loop
-loop-holds c = (omega arith, firstFault-none _)
+loop-holds c = begun (c .before .args .values .now) finite 11
 
-mul-value-fault : tie.Need-mul-value-fault Inv-loop μ-loop
-mul-value-fault c = omega arith
+mul-is-finite : tie.Need-mul-is-finite Inv-loop μ-loop
+mul-is-finite c = omega arith
 
-shared-slice-read-value-fault : tie.Need-shared-slice-read-value-fault Inv-loop μ-loop
-shared-slice-read-value-fault c = omega arith
+shared-slice-read-is-finite : tie.Need-shared-slice-read-is-finite Inv-loop μ-loop
+shared-slice-read-is-finite c = omega arith
 
-value-fault-requires : tie.Need-value-fault-requires Inv-loop μ-loop
-value-fault-requires c κs = search needs
-
-returns : tie.Need-returns Inv-loop μ-loop
-returns c =
-    let v = c .before .before .before .before .before .before .args .values .now in
-    stops (length v) (c .before .before .before .before .loop .i) (λ k. valueFault (getD v k +0)) (c .before .value-fault .result) (c .before .before .before .loop-test .taken) (c .before .before .before .before .loop .inv .1) (sym (c .before .value-fault .ensures ∙ ap valueFault (getD-any v (c .before .before .before .before .loop .i) nan +0 (c .before .before .before .loop-test .taken)))) (c .if1 .taken)
+is-finite-requires : tie.Need-is-finite-requires Inv-loop μ-loop
+is-finite-requires c κs = search needs
 
 add-i : tie.Need-add-i Inv-loop μ-loop
 add-i c = omega arith
@@ -46,11 +39,25 @@ loop-less c = omega arith
 loop-again : tie.Need-loop-again Inv-loop μ-loop
 loop-again c =
     let v = c .before .before .before .before .before .before .args .values .now in
-    (omega (arith, c .before .before .before .loop-test .taken), firstFault-next (c .before .before .before .before .loop .i) (λ k. valueFault (getD v k +0)) (c .before .before .before .before .loop .inv .1) (sym (c .before .value-fault .ensures ∙ ap valueFault (getD-any v (c .before .before .before .before .loop .i) nan +0 (c .before .before .before .loop-test .taken))) ∙ c .if1 .left))
+    let at = c .before .before .before .before .loop in
+    let here = c .before .is-finite in
+    let within = c .before .before .before .loop-test .taken in
+    ⊎-elim
+    (λ w. failed v finite 11 (at .i) (at .sound) (here .result) (here .ensures) within (at .inv) (w .0 .taken) (c .if1 .sound) (w .1))
+    (λ w. passed v finite 11 (at .i) (at .sound) (here .result) (here .ensures) within (at .inv) (w .0 .left) (c .if1 .sound) (w .1))
+    (c .if1 .came)
+
+returns : tie.Need-returns Inv-loop μ-loop
+returns c =
+    let v = c .before .before .before .before .args .values .now in
+    let at = c .before .before .loop in
+    ap (λ (s : Bool). unless s 12) (sym (c .if2 .taken)) ∙ ended v finite 11 (at .i) (at .sound) (at .inv) (c .before .loop-test .left)
 
 returns-2 : tie.Need-returns-2 Inv-loop μ-loop
 returns-2 c =
-    sym (firstFault-end (length (c .before .before .before .args .values .now)) (c .before .loop .i) _ (c .before .loop .inv .0) (c .loop-test .left) (c .before .loop .inv .1))
+    let v = c .before .before .before .before .args .values .now in
+    let at = c .before .before .loop in
+    ap (λ (s : Bool). unless s 12) (sym (c .if2 .left)) ∙ ended v finite 11 (at .i) (at .sound) (at .inv) (c .before .loop-test .left)
 
 pub values-fault-spec : {M : Type 1} → statement M
 values-fault-spec =
@@ -59,11 +66,11 @@ values-fault-spec =
     Inv-loop
     μ-loop
     loop-holds
-    mul-value-fault
-    shared-slice-read-value-fault
-    value-fault-requires
-    returns
+    mul-is-finite
+    shared-slice-read-is-finite
+    is-finite-requires
     add-i
     loop-less
     loop-again
+    returns
     returns-2)

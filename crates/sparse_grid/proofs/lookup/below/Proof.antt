@@ -19,8 +19,8 @@ enum-known-entry-2 c = search needs
 
 returns : tie.Need-returns
 returns c =
-    let a = c .before .before .before .before .before .before .before .before .before .args in
-    c .upper-at .ensures ∙ ap (λ (e : Entry). valueOnly (rootEntry (nodesOf (a .upper-links .now) (a .upper-values .now) (a .lower-links .now) (a .lower-values .now) (a .leaf-values .now)) (placed (a .place)) e)) (sym (c .before .before .entry .given .1))
+    let a = c .before .before .before .before .before .before .before .before .before .before .args in
+    c .upper-at .ensures ∙ ap (λ (e : Entry). valueOnly (rootEntry (nodesOf (a .upper-links .now) (a .upper-values .now) (a .lower-links .now) (a .lower-values .now) (a .leaf-values .now)) (placed (a .place)) e)) (sym (c .before .before .before .entry .given .1))
 
 returns-2 : tie.Need-returns-2
 returns-2 c =

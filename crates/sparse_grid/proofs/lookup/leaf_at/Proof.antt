@@ -23,30 +23,33 @@ returns c = missing (512 * (c .before .args .k + 1)) (length (c .before .args .l
 mul-slot : tie.Need-mul-slot
 mul-slot c = omega arith
 
-add-slot : tie.Need-add-slot
-add-slot c = omega arith
-
 mul-slot-2 : tie.Need-mul-slot-2
 mul-slot-2 c = omega arith
+
+add-slot : tie.Need-add-slot
+add-slot c = omega arith
 
 add-slot-2 : tie.Need-add-slot-2
 add-slot-2 c = omega arith
 
-add-t6 : tie.Need-add-t6
-add-t6 c = omega arith
+cast-slot : tie.Need-cast-slot
+cast-slot c = omega arith
 
-mul-t12 : tie.Need-mul-t12
-mul-t12 c = omega arith
+add-value : tie.Need-add-value
+add-value c = omega arith
 
-shared-slice-read-t14 : tie.Need-shared-slice-read-t14
-shared-slice-read-t14 c = omega arith
+mul-value : tie.Need-mul-value
+mul-value c = omega arith
+
+shared-slice-read-value : tie.Need-shared-slice-read-value
+shared-slice-read-value c = omega arith
 
 returns-2 : tie.Need-returns-2
 returns-2 c =
     let a = c .before .before .before .before .before .args in
     let p = a .place in
     let leaf = a .leaf-values .now in
-    let i = 512 * a .k + ((p .x % 8 * 8 + p .y % 8) * 8 + p .z % 8) in
+    let i = 512 * a .k + (p .x % 8 * 64 + p .y % 8 * 8 + p .z % 8) in
     ap ok (getD-any leaf i nan +0 (omega (arith, c .before .before .before .before .if1 .left)) ∙ ap (λ (n : ℕ). getD leaf n +0) (leaf-slot (a .k) (p .x) (p .y) (p .z)))
     ∙ present (512 * (a .k + 1)) (length leaf) _ (omega (arith, c .before .before .before .before .if1 .left))
 
@@ -58,10 +61,11 @@ leaf-at-spec =
     add-if1
     returns
     mul-slot
-    add-slot
     mul-slot-2
+    add-slot
     add-slot-2
-    add-t6
-    mul-t12
-    shared-slice-read-t14
+    cast-slot
+    add-value
+    mul-value
+    shared-slice-read-value
     returns-2)

@@ -2,7 +2,7 @@
 use mathlib.Core.Path.{sym, _∙_}
 use borrow.Author.Needs.{needs}
 use Rattle.sparse_grid.specs.Answers.{at}
-use Rattle.sparse_grid.proofs.Signs.{seen}
+use Rattle.sparse_grid.specs.Signs.{seen}
 use Rattle.sparse_grid.proofs.lookup.place_of.Statement.{statement}
 use Rattle.sparse_grid.proofs.lookup.place_of.Tie as tie
 

@@ -9,7 +9,7 @@ use mir.Val.{toZ, ofZ}
 use Rattle.sparse_grid.specs.declared.Root.{Root}
 use Rattle.sparse_grid.specs.Answers.{at}
 use Rattle.sparse_grid.specs.Inner.{entryFrom}
-use Rattle.sparse_grid.proofs.Signs.{shifted-on}
+use Rattle.sparse_grid.specs.Signs.{shifted-on}
 use Rattle.sparse_grid.proofs.Nodes.{hit, miss, none}
 use Rattle.sparse_grid.proofs.lookup.root_entry.Statement.{statement}
 use Rattle.sparse_grid.proofs.lookup.root_entry.Tie as tie

@@ -6,7 +6,7 @@ use lib.IntN.{pos}
 use lib.ListN.{getD}
 use borrow.Author.Tests.{eq-eqb, ne-eqb}
 use Rattle.layout.specs.Coordinates.{eqZ}
-use Rattle.sparse_grid.proofs.Signs.{eqb-bits}
+use Rattle.sparse_grid.specs.Signs.{eqb-bits}
 use Rattle.sparse_grid.proofs.Tests.{stop-1, stop-2, go-3}
 use Rattle.sparse_grid.proofs.lookup.stands_at.Statement.{statement}
 use Rattle.sparse_grid.proofs.lookup.stands_at.Tie as tie

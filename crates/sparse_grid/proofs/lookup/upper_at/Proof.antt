@@ -25,14 +25,17 @@ returns c = missing (32768 * (c .before .before .before .before .before .before 
 mul-slot : tie.Need-mul-slot
 mul-slot c = omega arith
 
-add-slot : tie.Need-add-slot
-add-slot c = omega arith
-
 mul-slot-2 : tie.Need-mul-slot-2
 mul-slot-2 c = omega arith
 
+add-slot : tie.Need-add-slot
+add-slot c = omega arith
+
 add-slot-2 : tie.Need-add-slot-2
 add-slot-2 c = omega arith
+
+cast-slot : tie.Need-cast-slot
+cast-slot c = omega arith
 
 add-entry-at : tie.Need-add-entry-at
 add-entry-at c = omega arith
@@ -51,12 +54,12 @@ enum-known-v c = search needs
 
 returns-2 : tie.Need-returns-2
 returns-2 c =
-    let a = c .before .before .before .before .before .before .before .before .before .before .before .before .before .before .args in
+    let a = c .before .before .before .before .before .before .before .before .before .before .before .before .before .before .before .args in
     let p = a .place in
     let g = nodesOf (a .links .now) (a .values .now) (a .lower-links .now) (a .lower-values .now) (a .leaf-values .now) in
-    let here = sym (c .before .before .j .given .1) ∙ c .before .before .before .before .entry-at .ensures ∙ ap (entryAt (a .links .now) (a .values .now)) (upper-slot (a .k) (p .x) (p .y) (p .z)) in
-    c .lower-at .ensures ∙ ap valueOnly (lower-only g (c .before .before .j .given .0 .0) (placed p)) ∙ ap (λ (e : Entry). valueOnly (upperEntry g (placed p) e)) here
-    ∙ present (32768 * (a .k + 1)) (length (a .links .now)) _ (omega (arith, c .before .before .before .before .before .before .before .before .if1 .left))
+    let here = sym (c .before .before .before .j .given .1) ∙ c .before .before .before .before .before .entry-at .ensures ∙ ap (entryAt (a .links .now) (a .values .now)) (upper-slot (a .k) (p .x) (p .y) (p .z)) in
+    c .lower-at .ensures ∙ ap valueOnly (lower-only g (c .before .before .before .j .given .0 .0) (placed p)) ∙ ap (λ (e : Entry). valueOnly (upperEntry g (placed p) e)) here
+    ∙ present (32768 * (a .k + 1)) (length (a .links .now)) _ (omega (arith, c .before .before .before .before .before .before .before .before .before .if1 .left))
 
 returns-3 : tie.Need-returns-3
 returns-3 c =
@@ -74,9 +77,10 @@ upper-at-spec =
     add-if1
     returns
     mul-slot
-    add-slot
     mul-slot-2
+    add-slot
     add-slot-2
+    cast-slot
     add-entry-at
     entry-at-requires
     enum-known-j

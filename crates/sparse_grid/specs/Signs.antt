@@ -1,4 +1,4 @@
--- How the code has a signed number: as its bits, which are compared and handed on.
+-- How code has a signed number: as its bits, which are compared, handed on, raised and biased. Assumes nothing.
 use Prim.Native.Nat.{ℕ, suc, _-_, _≤_, _<_}
 use mathlib.Core.Path.{_≡_, refl, sym, ap, _∙_, subst}
 use mathlib.Core.Bool.{Bool, true, false, cond, _&&_}
@@ -48,7 +48,7 @@ seen {z} f = toZ-ofZ w32 z f
 pub low : (k : ℕ) → leZ (negsuc 524287) (negsuc k) ≡ true → k ≤ 524287
 low k h = leb→le k 524287 (subst T (sym h) tt)
 
-high : (k : ℕ) → leZ (pos k) (pos 524287) ≡ true → k ≤ 524287
+pub high : (k : ℕ) → leZ (pos k) (pos 524287) ≡ true → k ≤ 524287
 high k h = leb→le k 524287 (subst T (sym h) tt)
 
 pub both : (a b : Bool) → (a && b) ≡ true → (a ≡ true) × (b ≡ true)
@@ -104,8 +104,8 @@ module _ (z : ℤ) (f : SFits w32 z) where
   wide-result : toZ w64 (ofZ w64 (toZ w64 (ofZ w64 (toZ w32 (ofZ w32 z))) +ℤ pos 2147483648)) ≡ pos (number .0)
   wide-result = toZ-ofZ w64 _ sum-fits ∙ wide-sum
 
-  pub biased-cast : T (nonNeg (toZ w64 (ofZ w64 (toZ w64 (ofZ w64 (toZ w32 (ofZ w32 z))) +ℤ pos 2147483648)))) × Fits w64 (natAbs (toZ w64 (ofZ w64 (toZ w64 (ofZ w64 (toZ w32 (ofZ w32 z))) +ℤ pos 2147483648))))
-  biased-cast = subst (λ (k : ℤ). T (nonNeg k) × Fits w64 (natAbs k)) (sym wide-result) (tt, record { fits = lt-of-lt-of-le (number .2) (lit≤ {m = 4294967296} {n = 18446744073709551616} tt) })
+  pub not-negative : T (nonNeg (toZ w64 (ofZ w64 (toZ w64 (ofZ w64 (toZ w32 (ofZ w32 z))) +ℤ pos 2147483648))))
+  not-negative = subst (λ (k : ℤ). T (nonNeg k)) (sym wide-result) tt
 
-  pub is-biased : z ≡ back 2147483648 (natAbs (toZ w64 (ofZ w64 (toZ w64 (ofZ w64 (toZ w32 (ofZ w32 z))) +ℤ pos 2147483648))))
-  is-biased = subst (λ (k : ℤ). z ≡ back 2147483648 (natAbs k)) (sym wide-result) (number .1)
+  pub is-biased : (z ≡ back 2147483648 (natAbs (toZ w64 (ofZ w64 (toZ w64 (ofZ w64 (toZ w32 (ofZ w32 z))) +ℤ pos 2147483648))))) × (natAbs (toZ w64 (ofZ w64 (toZ w64 (ofZ w64 (toZ w32 (ofZ w32 z))) +ℤ pos 2147483648))) < 4294967296)
+  is-biased = subst (λ (k : ℤ). (z ≡ back 2147483648 (natAbs k)) × (natAbs k < 4294967296)) (sym wide-result) (number .1, number .2)
