@@ -38,22 +38,26 @@ pub struct Medium {
 /// More tiles than lent root places, or no place for a node or a span.
 const NO_PLACE: u32 = 9;
 
+/// Tables of so many bytes are lent to any bytes, longer ones where the header and the root pass.
+const LENT_AT_ONCE: usize = 64 * 1024;
+
 impl Grid {
     /// Decodes one raw grid. Whatever the bytes say, no more than four times their length is lent:
     /// tables for the node counts that they state, and where those are wrong, for the most nodes
     /// that they can hold.
     pub fn decode(bytes: &[u8]) -> Result<Grid, Refusal> {
-        // With no table but two spans, only a grid with tiles, whose header and root pass, is 9.
-        let mut answer = decode_into(bytes, Places::default());
-        for places in [Places::stated, Places::most] {
-            match answer {
-                Err(refusal) if refusal.number() == NO_PLACE => {
-                    answer = decode_into(bytes, places(bytes))
-                }
-                _ => break,
+        let stated = Places::stated(bytes);
+        if stated.table_bytes() > LENT_AT_ONCE {
+            // With no table but two spans, only a grid with tiles, whose header and root pass, is 9.
+            match decode_into(bytes, Places::default()) {
+                Err(refusal) if refusal.number() == NO_PLACE => (),
+                answer => return answer,
             }
         }
-        answer
+        match decode_into(bytes, stated) {
+            Err(refusal) if refusal.number() == NO_PLACE => decode_into(bytes, Places::most(bytes)),
+            answer => answer,
+        }
     }
 
     pub fn counts(&self) -> Counts {
