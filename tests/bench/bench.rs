@@ -81,8 +81,8 @@ fn measure(name: &str, rounds: usize, lookups: usize) -> Table {
     let ours = Ours::decode(bytes).expect("a grid that decodes");
     let rust = oracle::source::decode_density_grid(bytes).expect("a grid that decodes");
     let mut rows = vec![decode(bytes, rounds), validate_density(&ours, &rust, rounds)];
-    rows.push(lookups_row(&grid, &ours, &rust, rounds, lookups));
-    for side in BOXES.into_iter().filter(|side| *side < grid.side) {
+    rows.extend(lookup_rows(&grid, &ours, &rust, rounds, lookups));
+    for side in BOXES {
         let low = (grid.side - side) / 2 + side / 8;
         rows.push(box_row(format!("box of {side}³"), &ours, &rust, low, low + side - 1, rounds));
     }
@@ -129,24 +129,27 @@ fn coordinates(side: i32, count: usize) -> Vec<[i32; 3]> {
         .collect()
 }
 
-fn lookups_row(grid: &Grid, ours: &Ours, rust: &Medium, rounds: usize, count: usize) -> Row {
+/// Lookups, and lookups with the same call through C before each of the Rust's: what it is slower by is what that call costs.
+fn lookup_rows(grid: &Grid, ours: &Ours, rust: &Medium, rounds: usize, count: usize) -> [Row; 2] {
     let at = coordinates(grid.side, count);
     let sum = |value: &dyn Fn([i32; 3]) -> f32| -> u64 {
         at.iter().map(|at| u64::from(value(*at).to_bits())).sum()
     };
     let density = &rust.density;
-    let ways = &mut [
-        way(|| sum(&|at| ours.get_value(at).unwrap_or(-1.0))),
-        way(|| sum(&|at| oracle::source::get_value(density, at).unwrap_or(-1.0))),
-        None,
-        nanovdb(&grid.bytes, &at),
-    ];
-    let mut row = row("lookups", rounds, "lookup", count as f64, ways);
     // The crate with its lookups sent to call.c, which looks nothing up.
     let calls = calls::Grid::decode(&grid.bytes).expect("a grid that decodes");
-    let call = || sum(&|at| calls.get_value(at).unwrap_or(-1.0));
-    row.alone = best_times("calls", rounds, &mut [way(call)])[0];
-    row
+    let call = |at| calls.get_value(at).unwrap_or(-1.0);
+    let ours = || way(|| sum(&|at| ours.get_value(at).unwrap_or(-1.0)));
+    let rust = |at| oracle::source::get_value(density, at).unwrap_or(-1.0);
+    let called = |at| {
+        black_box(call(at));
+        rust(at)
+    };
+    let ways = &mut [ours(), way(|| sum(&rust)), None, nanovdb(&grid.bytes, &at)];
+    let mut lookups = row("lookups", rounds, "lookup", count as f64, ways);
+    lookups.alone = best_times("calls", rounds, &mut [way(|| sum(&call))])[0];
+    let ways = &mut [ours(), way(|| sum(&called)), None, None];
+    [lookups, row("lookups, called", rounds, "lookup", count as f64, ways)]
 }
 
 #[cfg(nanovdb)]
