@@ -1,17 +1,17 @@
 -- A decode into lent tables: what their lengths allow, what the answer says, and what is left in the tables.
-use Prim.Native.Nat.{ℕ, _*_, _/_}
+use Prim.Native.Nat.{ℕ, _*_, _/_, _≤_}
 use mathlib.Core.List.{List, [], _∷_}
 use mathlib.Core.Bool.{_&&_}
 use lib.Dec.{eqb}
 use lib.IntN.{ℤ, pos}
-use lib.ListN.{length, replicate}
+use lib.ListN.{length, replicate, take}
 use lib.Ieee.{Float}
 use Rattle.refusals.specs.Results.{Result, ok, refused}
 use Rattle.refusals.specs.Faults.{unless, passing}
 use Rattle.float.specs.Zero.{+0}
 use Rattle.lent.specs.Padded.{padded}
 use Rattle.layout.specs.Coordinates.{Coord}
-use Rattle.sparse_grid.specs.Tables.{Grid}
+use Rattle.sparse_grid.specs.Tables.{Grid, gridOf}
 use Rattle.medium.specs.Medium.{Point, Medium}
 use Rattle.nanovdb.specs.Nodes.{Places}
 use Rattle.nanovdb.specs.Decode.{Accepted}
@@ -146,3 +146,29 @@ filled l g = record {
 abbrev pub leftOf : Lent → Result Accepted → Tables
 leftOf l (ok t) = filled l (t .grid)
 leftOf l (refused n) = zeros l
+
+-- ---- the used parts
+
+-- the grid of the used parts of tables, as an answer counts them
+abbrev pub usedOf : Answer → Tables → Grid
+usedOf a t =
+    gridOf (a .background)
+    (take (3 * a .roots) (t .blocks))
+    (take (a .roots) (t .rootLinks))
+    (take (a .roots) (t .rootValues))
+    (take (32768 * a .upper) (t .upperLinks))
+    (take (32768 * a .upper) (t .upperValues))
+    (take (4096 * a .lower) (t .lowerLinks))
+    (take (4096 * a .lower) (t .lowerValues))
+    (take (512 * a .leaf) (t .leafValues))
+
+-- an answer counts no more than the tables have
+pub record Used (a : Answer) (t : Tables) : Type 0 where
+  pub blocks : 3 * a .roots ≤ length (t .blocks)
+  pub rootLinks : a .roots ≤ length (t .rootLinks)
+  pub rootValues : a .roots ≤ length (t .rootValues)
+  pub upperLinks : 32768 * a .upper ≤ length (t .upperLinks)
+  pub upperValues : 32768 * a .upper ≤ length (t .upperValues)
+  pub lowerLinks : 4096 * a .lower ≤ length (t .lowerLinks)
+  pub lowerValues : 4096 * a .lower ≤ length (t .lowerValues)
+  pub leafValues : 512 * a .leaf ≤ length (t .leafValues)

@@ -12,6 +12,8 @@ pub mod HeldNodes
 pub mod Keys
 pub mod HeldTiles
 pub mod Passed
+pub mod UsedLaws
+pub mod Kept
 pub mod Numbers
 pub mod Lookups
 -- Worked examples.

@@ -1,13 +1,13 @@
 -- A result that is a value splits: each step before it gave a value, and each test held. Assumes nothing.
-use mathlib.Core.Path.{_≡_, refl, ap, _∙_, subst}
+use mathlib.Core.Path.{_≡_, refl, sym, ap, _∙_, subst}
 use mathlib.Core.Logic.{inl, inr}
-use mathlib.Core.Bool.{Bool, true, false}
+use mathlib.Core.Bool.{Bool, true, false, cond}
 use Prim.Native.Nat.{ℕ, zero, suc, _+_, _<_}
 use native.Mathlib.Nat.{eq-or-lt-of-le, le-of-suc-le-suc}
 use native.Mathlib.Numerals.{add-one}
 use native.Mathlib.Omega.{arith}
 use lib.Dec.{T}
-use Rattle.refusals.specs.Results.{Result, ok, refused, valueOr, bind, need}
+use Rattle.refusals.specs.Results.{Result, ok, refused, valueOr, Said, said, bind, need}
 
 abbrev Stopped : {A : Type 0} → Result A → Type 0
 Stopped (ok a) = ⊥
@@ -26,6 +26,18 @@ bind-ok (refused n) f e = absurd (stopped e)
 pub need-ok : {A : Type 0} (t : Bool) (n : ℕ) (r : Result A) {a : A} → need t n r ≡ ok a → T t × (r ≡ ok a)
 need-ok true n r e = (tt, e)
 need-ok false n r e = absurd (stopped e)
+
+-- ---- what an answer says tells which it is
+
+abbrev outcome : {A : Type 0} → Said A → Result A
+outcome s = cond (s .accepted) (ok (s .value)) (refused (s .number))
+
+outcome-said : {A : Type 0} (z : A) (r : Result A) → outcome (said z r) ≡ r
+outcome-said z (ok a) = refl
+outcome-said z (refused n) = refl
+
+pub said-same : {A : Type 0} (z : A) (r s : Result A) → said z r ≡ said z s → r ≡ s
+said-same z r s e = sym (outcome-said z r) ∙ ap outcome e ∙ outcome-said z s
 
 -- ---- a run of steps, each from what the one before gave
 

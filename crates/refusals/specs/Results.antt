@@ -16,6 +16,17 @@ abbrev pub valueOr : {A : Type 0} → A → Result A → A
 valueOr z (ok a) = a
 valueOr z (refused n) = z
 
+-- an answer as document 01 has it: whether it is a value, the number, and the value
+pub record Said (A : Type 0) : Type 0 where
+  pub accepted : Bool
+  pub number : ℕ
+  pub value : A
+
+-- what each case says: a value has the number 0, and beside a refusal the value is z, its type's zero
+abbrev pub said : {A : Type 0} → A → Result A → Said A
+said z (ok a) = record { accepted = true; number = 0; value = a }
+said z (refused n) = record { accepted = false; number = n; value = z }
+
 -- the next step on the value, or the same refusal
 abbrev pub bind : {A B : Type 0} → Result A → (A → Result B) → Result B
 bind (ok a) f = f a

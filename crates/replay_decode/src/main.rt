@@ -1,20 +1,21 @@
 // Replays grids, whole and damaged, with what the Rust's decode answers and leaves in the tables, what its build of them answers,
-// and what both answer to a question, and says how many cases there were, how many differ, and how many were asked about a place
-// with smoke. `oracle list decode` (tests/oracle) makes the list, which is read from standard input.
+// and what both answer to a question, and says how many cases there were, how many differ, how many were asked about a place with
+// smoke, and of how many the build was refused and the grid answered. `oracle list decode` (tests/oracle) makes the list, which is read from standard input.
 //
 // Everything is little-endian words of 32 bits. First the number of cases. A case is
 //     the length of the bytes; how many of them are not 0; those, each its place and its value;
 //     the number; how many roots, upper, lower and leaf nodes; the background; the medium, 18 words; the corners, 6 words;
 //     the words of each table that are not 0, each its place and its value, ended by the place ffffffff;
 //     the number of the build of the used parts; how many figures are listed; those, each its cell and its value;
-//     the question: a coordinate, the low and the high corner of a box of voxels, and a point, 12 words; the answer due: the number
-//     of the decode's refusal or else of the build's, the voxel, the maximum, the cell and its figure, zeros beside a refusal.
+//     the question: a coordinate, the low and the high corner of a box of voxels, and a point, 12 words; the answer due: the numbers
+//     of the decode and of the build (the decode's where that is refused), the voxel and the maximum, zeros after a refused decode,
+//     and the cell and its figure, zeros after a refused build.
 ghost use Prim.Native.Nat.{_≤_};
+use claim::Asked;
+use claim::Question;
 use decode::Decoded;
 use medium::Medium;
 use refusals::both;
-use station::Asked;
-use station::Question;
 
 // How many cases the list may have.
 const MOST: u32 = 4096;
@@ -315,25 +316,34 @@ fn read_question() -> Question {
 }
 
 fn same_asked(a: Asked) -> bool {
-    let number = same(a.number);
+    let loaded = a.loaded;
+    let number = same(loaded.decoded.number);
+    let build = same(loaded.build);
     let value = same_float(a.value);
     let maximum = same_float(a.maximum);
     let cell = same(a.cell);
     let figure = same_float(a.figure);
-    both(both(number, cell), both(value, both(maximum, figure)))
+    both(
+        both(both(number, build), cell),
+        both(value, both(maximum, figure)),
+    )
 }
 
-// Whether the answer is as listed, and whether it was given and tells of smoke.
+// Whether the answer is as listed, and whether it tells of smoke beside a build that was accepted, and beside one that was refused.
 struct Told {
     same: bool,
     smoke: bool,
+    unbuilt: bool,
 }
 
 fn compare(a: Asked) -> Told {
-    let given = a.number == 0;
+    let loaded = a.loaded;
+    let given = loaded.build == 0;
+    let smoke = a.maximum > 0.0;
     Told {
         same: same_asked(a),
-        smoke: both(given, a.maximum > 0.0),
+        smoke: both(given, smoke),
+        unbuilt: both(loaded.build != 0, smoke),
     }
 }
 
@@ -350,7 +360,7 @@ fn replay_question(bytes: &[u8]) -> Told {
     let mut work = [0u64; 64];
     let mut majorants = [0.0f32; 262144];
     let question = read_question();
-    let answer = station::ask(
+    let answer = claim::ask(
         bytes,
         &mut blocks,
         &mut root_links,
@@ -417,10 +427,11 @@ fn replay_bytes(bytes: &[u8]) -> bool {
     both(both(top, nodes), both(both(leaf, built), cleared(&work)))
 }
 
-// 1 where a case differs, and 1 where smoke was found.
+// 1 where a case differs, 1 where smoke was found, and 1 where it was found beside a refused build.
 struct Counted {
     differ: u32,
     smoky: u32,
+    unbuilt: u32,
 }
 
 fn count_one(yes: bool) -> u32
@@ -430,7 +441,7 @@ fn count_one(yes: bool) -> u32
 }
 
 fn replay() -> Counted
-    ensures { λ r. ⌜ (r .differ ≤ 1) × (r .smoky ≤ 1) ⌝ }
+    ensures { λ r. ⌜ (r .differ ≤ 1) × (r .smoky ≤ 1) × (r .unbuilt ≤ 1) ⌝ }
 {
     let mut bytes = [0u8; 655360];
     let length = read_word();
@@ -442,6 +453,7 @@ fn replay() -> Counted
     Counted {
         differ: 1 - count_one(both(same, asked.same)),
         smoky: count_one(asked.smoke),
+        unbuilt: count_one(asked.unbuilt),
     }
 }
 
@@ -460,11 +472,13 @@ fn main() {
     let cases = least(read_word(), MOST);
     let mut differ: u32 = 0;
     let mut smoky: u32 = 0;
+    let mut unbuilt: u32 = 0;
     let mut i: u32 = 0;
     while i < cases {
         let counted = replay();
         differ += counted.differ;
         smoky += counted.smoky;
+        unbuilt += counted.unbuilt;
         i += 1;
     }
     report(cases, b" cases, ");
@@ -472,5 +486,9 @@ fn main() {
     report(
         smoky,
         b" with smoke in the eight voxels around the point that was asked about\n",
+    );
+    report(
+        unbuilt,
+        b" with smoke in the box that was asked about and a refused build\n",
     );
 }

@@ -1,16 +1,14 @@
 // The C interface (include/smokegrid.h). A slice passes as a pointer and a length, a `&mut f32` as a pointer; each function may be called with anything.
 ghost use mathlib.Core.Path.{_≡_};
-ghost use lib.ListN.{length, replicate};
+ghost use lib.ListN.{length};
 ghost use Rattle.refusals.specs.Results.{numberOf, valueOr};
 ghost use Rattle.float.specs.Zero.{+0};
 ghost use Rattle.sparse_grid.specs.Tables.{gridOf};
 ghost use Rattle.sparse_grid.specs.Validate.{validate as validateS, validateDensity};
-ghost use Rattle.sparse_grid.specs.Lookup.{lookup};
-ghost use Rattle.sparse_grid.specs.Answers.{answer, valueOnly, at};
-ghost use Rattle.nanovdb.specs.Lent.{tables, lengths, leftOf};
-ghost use Rattle.majorant.specs.Build.{publicMaximum};
+ghost use Rattle.sparse_grid.specs.Answers.{answer, at};
+ghost use Rattle.nanovdb.specs.Lent.{tables, lengths};
 ghost use Rattle.majorant.specs.Boxes.{between};
-ghost use Rattle.smokegrid.specs.Flat.{decodeFlat, indexFlat, buildFlat, countsLeft, backgroundLeft, mediumLeft, cornersLeft};
+ghost use Rattle.smokegrid.specs.Promises.{Decodes, GetsValue, BoxMaximum, WorldToIndex, Builds};
 
 mod flat;
 
@@ -63,12 +61,7 @@ pub extern "C" fn smokegrid_decode_density_grid(
     medium: &mut [f32],
     corners: &mut [i32],
 ) -> u32
-    ensures { λ r. ⌜ r ≡ numberOf (decodeFlat (now (bytes .entry)) (lengths (tables (now (blocks .entry)) (now («root_links» .entry)) (now («root_values» .entry)) (now («upper_links» .entry)) (now («upper_values» .entry)) (now («lower_links» .entry)) (now («lower_values» .entry)) (now («leaf_values» .entry)) (now (work .entry)))) (length (now (counts .entry))) (length (now (medium .entry))) (length (now (corners .entry)))) ⌝ }
-    ensures { λ _. ⌜ tables (now (blocks .exit)) (now («root_links» .exit)) (now («root_values» .exit)) (now («upper_links» .exit)) (now («upper_values» .exit)) (now («lower_links» .exit)) (now («lower_values» .exit)) (now («leaf_values» .exit)) (now (work .exit)) ≡ leftOf (lengths (tables (now (blocks .entry)) (now («root_links» .entry)) (now («root_values» .entry)) (now («upper_links» .entry)) (now («upper_values» .entry)) (now («lower_links» .entry)) (now («lower_values» .entry)) (now («leaf_values» .entry)) (now (work .entry)))) (decodeFlat (now (bytes .entry)) (lengths (tables (now (blocks .entry)) (now («root_links» .entry)) (now («root_values» .entry)) (now («upper_links» .entry)) (now («upper_values» .entry)) (now («lower_links» .entry)) (now («lower_values» .entry)) (now («leaf_values» .entry)) (now (work .entry)))) (length (now (counts .entry))) (length (now (medium .entry))) (length (now (corners .entry)))) ⌝ }
-    ensures { λ _. ⌜ now (counts .exit) ≡ countsLeft (length (now (counts .entry))) (decodeFlat (now (bytes .entry)) (lengths (tables (now (blocks .entry)) (now («root_links» .entry)) (now («root_values» .entry)) (now («upper_links» .entry)) (now («upper_values» .entry)) (now («lower_links» .entry)) (now («lower_values» .entry)) (now («leaf_values» .entry)) (now (work .entry)))) (length (now (counts .entry))) (length (now (medium .entry))) (length (now (corners .entry)))) ⌝ }
-    ensures { λ _. ⌜ now (background .exit) ≡ backgroundLeft (decodeFlat (now (bytes .entry)) (lengths (tables (now (blocks .entry)) (now («root_links» .entry)) (now («root_values» .entry)) (now («upper_links» .entry)) (now («upper_values» .entry)) (now («lower_links» .entry)) (now («lower_values» .entry)) (now («leaf_values» .entry)) (now (work .entry)))) (length (now (counts .entry))) (length (now (medium .entry))) (length (now (corners .entry)))) ⌝ }
-    ensures { λ _. ⌜ now (medium .exit) ≡ mediumLeft (length (now (medium .entry))) (decodeFlat (now (bytes .entry)) (lengths (tables (now (blocks .entry)) (now («root_links» .entry)) (now («root_values» .entry)) (now («upper_links» .entry)) (now («upper_values» .entry)) (now («lower_links» .entry)) (now («lower_values» .entry)) (now («leaf_values» .entry)) (now (work .entry)))) (length (now (counts .entry))) (length (now (medium .entry))) (length (now (corners .entry)))) ⌝ }
-    ensures { λ _. ⌜ now (corners .exit) ≡ cornersLeft (length (now (corners .entry))) (decodeFlat (now (bytes .entry)) (lengths (tables (now (blocks .entry)) (now («root_links» .entry)) (now («root_values» .entry)) (now («upper_links» .entry)) (now («upper_values» .entry)) (now («lower_links» .entry)) (now («lower_values» .entry)) (now («leaf_values» .entry)) (now (work .entry)))) (length (now (counts .entry))) (length (now (medium .entry))) (length (now (corners .entry)))) ⌝ }
+    ensures { λ r. ⌜ Decodes (now (bytes .entry)) (lengths (tables (now (blocks .entry)) (now («root_links» .entry)) (now («root_values» .entry)) (now («upper_links» .entry)) (now («upper_values» .entry)) (now («lower_links» .entry)) (now («lower_values» .entry)) (now («leaf_values» .entry)) (now (work .entry)))) (length (now (counts .entry))) (length (now (medium .entry))) (length (now (corners .entry))) r (record { tables = tables (now (blocks .exit)) (now («root_links» .exit)) (now («root_values» .exit)) (now («upper_links» .exit)) (now («upper_values» .exit)) (now («lower_links» .exit)) (now («lower_values» .exit)) (now («leaf_values» .exit)) (now (work .exit)); counts = now (counts .exit); background = now (background .exit); medium = now (medium .exit); corners = now (corners .exit) }) ⌝ }
 {
     lent::zero_u64(counts);
     lent::zero_f32(medium);
@@ -181,8 +174,7 @@ pub extern "C" fn smokegrid_get_value(
     z: i32,
     value: &mut f32,
 ) -> u32
-    ensures { λ r. ⌜ r ≡ numberOf (valueOnly (lookup (gridOf background (now (blocks .entry)) (now («root_links» .entry)) (now («root_values» .entry)) (now («upper_links» .entry)) (now («upper_values» .entry)) (now («lower_links» .entry)) (now («lower_values» .entry)) (now («leaf_values» .entry))) (at x y z))) ⌝ }
-    ensures { λ _. ⌜ now (value .exit) ≡ valueOr +0 (valueOnly (lookup (gridOf background (now (blocks .entry)) (now («root_links» .entry)) (now («root_values» .entry)) (now («upper_links» .entry)) (now («upper_values» .entry)) (now («lower_links» .entry)) (now («lower_values» .entry)) (now («leaf_values» .entry))) (at x y z))) ⌝ }
+    ensures { λ r. ⌜ GetsValue (gridOf background (now (blocks .entry)) (now («root_links» .entry)) (now («root_values» .entry)) (now («upper_links» .entry)) (now («upper_values» .entry)) (now («lower_links» .entry)) (now («lower_values» .entry)) (now («leaf_values» .entry))) (at x y z) r (now (value .exit)) ⌝ }
 {
     let found = get_value(
         background,
@@ -221,8 +213,7 @@ pub extern "C" fn smokegrid_box_maximum(
     hz: i32,
     value: &mut f32,
 ) -> u32
-    ensures { λ r. ⌜ r ≡ numberOf (publicMaximum (gridOf background (now (blocks .entry)) (now («root_links» .entry)) (now («root_values» .entry)) (now («upper_links» .entry)) (now («upper_values» .entry)) (now («lower_links» .entry)) (now («lower_values» .entry)) (now («leaf_values» .entry))) (between lx ly lz hx hy hz)) ⌝ }
-    ensures { λ _. ⌜ now (value .exit) ≡ valueOr +0 (publicMaximum (gridOf background (now (blocks .entry)) (now («root_links» .entry)) (now («root_values» .entry)) (now («upper_links» .entry)) (now («upper_values» .entry)) (now («lower_links» .entry)) (now («lower_values» .entry)) (now («leaf_values» .entry))) (between lx ly lz hx hy hz)) ⌝ }
+    ensures { λ r. ⌜ BoxMaximum (gridOf background (now (blocks .entry)) (now («root_links» .entry)) (now («root_values» .entry)) (now («upper_links» .entry)) (now («upper_values» .entry)) (now («lower_links» .entry)) (now («lower_values» .entry)) (now («leaf_values» .entry))) (between lx ly lz hx hy hz) r (now (value .exit)) ⌝ }
 {
     let found = box_maximum(
         background,
@@ -253,8 +244,7 @@ pub extern "C" fn smokegrid_world_to_index_f(
     z: f32,
     index_bits: &mut [u32],
 ) -> u32
-    ensures { λ r. ⌜ r ≡ numberOf (indexFlat (now (medium .entry)) (record { x = x; y = y; z = z }) (length (now («index_bits» .entry)))) ⌝ }
-    ensures { λ _. ⌜ now («index_bits» .exit) ≡ valueOr (replicate (length (now («index_bits» .entry))) 0) (indexFlat (now (medium .entry)) (record { x = x; y = y; z = z }) (length (now («index_bits» .entry)))) ⌝ }
+    ensures { λ r. ⌜ WorldToIndex (now (medium .entry)) (record { x = x; y = y; z = z }) (length (now («index_bits» .entry))) r (now («index_bits» .exit)) ⌝ }
 {
     lent::zero_u32(index_bits);
     if medium.len() != 18 {
@@ -285,8 +275,7 @@ pub extern "C" fn smokegrid_build_majorant(
     corners: &[i32],
     majorants: &mut [f32],
 ) -> u32
-    ensures { λ r. ⌜ r ≡ numberOf (buildFlat (gridOf background (now (blocks .entry)) (now («root_links» .entry)) (now («root_values» .entry)) (now («upper_links» .entry)) (now («upper_values» .entry)) (now («lower_links» .entry)) (now («lower_values» .entry)) (now («leaf_values» .entry))) (now (medium .entry)) (now (corners .entry)) (length (now (majorants .entry)))) ⌝ }
-    ensures { λ _. ⌜ now (majorants .exit) ≡ valueOr (replicate (length (now (majorants .entry))) +0) (buildFlat (gridOf background (now (blocks .entry)) (now («root_links» .entry)) (now («root_values» .entry)) (now («upper_links» .entry)) (now («upper_values» .entry)) (now («lower_links» .entry)) (now («lower_values» .entry)) (now («leaf_values» .entry))) (now (medium .entry)) (now (corners .entry)) (length (now (majorants .entry)))) ⌝ }
+    ensures { λ r. ⌜ Builds (gridOf background (now (blocks .entry)) (now («root_links» .entry)) (now («root_values» .entry)) (now («upper_links» .entry)) (now («upper_values» .entry)) (now («lower_links» .entry)) (now («lower_values» .entry)) (now («leaf_values» .entry))) (now (medium .entry)) (now (corners .entry)) (length (now (majorants .entry))) r (now (majorants .exit)) ⌝ }
 {
     if medium.len() != 18 {
         lent::zero_f32(majorants);

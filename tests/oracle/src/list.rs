@@ -29,8 +29,8 @@ const SEED: u64 = 1;
 const CASES: u64 = 20000;
 const SOUND: u64 = 1000000;
 
-/// The sample; the first case for each refusal that comes up; of each shape the first two that are accepted; and one
-/// that builds, with smoke in leaves below blocks of both signs.
+/// The sample; the first case for each refusal that comes up; of each shape the first two that are accepted; one that
+/// builds, with smoke in leaves below blocks of both signs; and one each whose build is refused by 16 and by 17.
 pub fn decode() {
     let mut cases = vec![generate::bench::sample()];
     let mut chosen: Vec<(String, u32)> = Vec::new();
@@ -50,7 +50,26 @@ pub fn decode() {
     }
     let mut sound = (0..SOUND).map(|number| generate::sound(SEED, number));
     cases.push(sound.find(both_signs).expect("no case has blocks of both signs").bytes);
+    for refusal in [16, 17] {
+        let mut all = (0..SOUND).map(|number| generate::case(SEED, number));
+        cases.push(all.find(|case| build_refused(case, refusal)).expect("no such build").bytes);
+    }
     write(&cases);
+}
+
+/// Accepted, with smoke somewhere, and its build is refused by this number.
+fn build_refused(case: &Case, refusal: u32) -> bool {
+    if !fits(case) {
+        return false;
+    }
+    let (number, held) = decode_into(&Rust, &case.bytes, LENT);
+    if number != 0 {
+        return false;
+    }
+    let grid = held.grid();
+    let mut figures = vec![0.0; CELLS];
+    let built = Rust.build_majorant(grid.tables(), &grid.medium, &grid.corners, &mut figures);
+    built == refusal && within(&case.bytes, &grid).is_some()
 }
 
 /// Upper nodes below blocks that are negative on some axis and below blocks that are not, leaves, and figures of eight values.
@@ -109,10 +128,14 @@ fn push_case(words: &mut Vec<u32>, bytes: &[u8], asked_above: &mut bool) {
     let mut figures = vec![0.0; CELLS];
     let build = Rust.build_majorant(grid.tables(), &grid.medium, &grid.corners, &mut figures);
     push_build(words, build, &figures);
-    let refusal = if number != 0 { number } else { build };
-    let question = if refusal != 0 { ANY } else { question(bytes, &grid, &figures, asked_above) };
+    let question = match (number, build) {
+        (0, 0) => question(bytes, &grid, &figures, asked_above),
+        (0, _) => within(bytes, &grid).unwrap_or(ANY),
+        _ => ANY,
+    };
     push_question(words, &question);
-    push_answer(words, refusal, &grid, &figures, &question);
+    let numbers = [number, if number != 0 { number } else { build }];
+    push_answer(words, numbers, &grid, &figures, &question);
 }
 
 fn push_tables(list: &mut Vec<u32>, held: &Held) {
@@ -188,33 +211,49 @@ fn around(bytes: &[u8], grid: &Grid, point: [f32; 3]) -> Option<Question> {
     Some(Question { coordinate, low: voxels[0], high: voxels[7], point })
 }
 
+/// About a voxel with smoke in the index box, and the box from it to the box's end; asked where the build is refused.
+fn within(bytes: &[u8], grid: &Grid) -> Option<Question> {
+    let [lx, ly, lz, hx, hy, hz] = <[i32; 6]>::try_from(&grid.corners[..]).ok()?;
+    let end = |low: i32, high: i32| high.min(low.saturating_add(31));
+    let (hx, hy, hz) = (end(lx, hx), end(ly, hy), end(lz, hz));
+    let voxels =
+        (lx..=hx).flat_map(|x| (ly..=hy).flat_map(move |y| (lz..=hz).map(move |z| [x, y, z])));
+    let smoke = voxels.into_iter().find(|at| voxel(bytes, *at) > 0.0)?;
+    Some(Question { coordinate: smoke, low: smoke, high: [hx, hy, hz], point: [0.0; 3] })
+}
+
 fn push_question(list: &mut Vec<u32>, question: &Question) {
     let Question { coordinate, low, high, point } = question;
     list.extend([coordinate, low, high].into_iter().flatten().map(|c| *c as u32));
     list.extend(point.map(f32::to_bits));
 }
 
-/// The number, the value, the maximum, the first cell that encloses the point (CELLS where none does), and its figure;
-/// zeros beside the number of a refusal.
+/// The numbers of the decode and of the build; the value and the maximum, zeros after a refused decode; and the first cell
+/// that encloses the point (CELLS where none does) with its figure, zeros after a refused build.
 fn push_answer(
     list: &mut Vec<u32>,
-    refusal: u32,
+    numbers: [u32; 2],
     grid: &Grid,
     figures: &[f32],
     question: &Question,
 ) {
-    if refusal != 0 {
-        return list.extend([refusal, 0, 0, 0, 0]);
-    }
     let Question { coordinate, low, high, point } = question;
+    list.extend(numbers);
+    if numbers[0] != 0 {
+        return list.extend([0; 4]);
+    }
     let area = [low[0], low[1], low[2], high[0], high[1], high[2]];
     let (_, value) = Rust.get_values(grid.tables(), &[*coordinate])[0];
     let (_, maximum) = Rust.box_maxima(grid.tables(), &[area])[0];
+    list.extend([value, maximum]);
+    if numbers[1] != 0 {
+        return list.extend([0; 2]);
+    }
     let [x, y, z] = enclosing(&corners(&grid.medium), *point);
     let found = match (x.first(), y.first(), z.first()) {
         (Some(x), Some(y), Some(z)) => cell(*x, *y, *z),
         _ => CELLS,
     };
     let figure = figures.get(found).copied().unwrap_or_default();
-    list.extend([0, value, maximum, found as u32, figure.to_bits()]);
+    list.extend([found as u32, figure.to_bits()]);
 }

@@ -1,83 +1,70 @@
--- `replay_decode::main` meets its contract: the invariant bounds both counts by the turns, so that no sum wraps. Assumes nothing.
+-- `replay_decode::main` meets its contract: the invariant bounds each count by the turns, so that no sum wraps. Assumes nothing.
 use Prim.Native.Nat.{_-_, _≤_}
 use native.Mathlib.Omega.{arith}
 use borrow.Author.Needs.{needs}
 use Rattle.replay_decode.proofs.main.Statement.{statement}
 use Rattle.replay_decode.proofs.main.Tie as tie
 
-abbrev Inv-loop : tie.InvT-loop
-Inv-loop cases differ₀ smoky₀ i₀ t6 t7 t8 differ smoky i = (i ≤ cases) × (differ ≤ i) × (smoky ≤ i)
+abbrev Inv : tie.InvT-loop
+Inv cases differ₀ smoky₀ unbuilt₀ i₀ t7 t8 t9 t10 differ smoky unbuilt i = (i ≤ cases) × (differ ≤ i) × (smoky ≤ i) × (unbuilt ≤ i)
 
-abbrev μ-loop : tie.MeasureT-loop
-μ-loop cases differ₀ smoky₀ i₀ t6 t7 t8 differ smoky i = cases - i
+abbrev μ : tie.MeasureT-loop
+μ cases differ₀ smoky₀ unbuilt₀ i₀ t7 t8 t9 t10 differ smoky unbuilt i = cases - i
 
-read-word-requires : tie.Need-read-word-requires Inv-loop μ-loop
-read-word-requires c κs = search needs
+-- the place behind the call in a turn, and the turn's start
+abbrev at-loop : tie.After-replay Inv μ → tie.At-loop Inv μ
+at-loop c = c .before .before
 
-least-requires : tie.Need-least-requires Inv-loop μ-loop
-least-requires c κs = search needs
+-- a count and the turn's own sum fit: the turns are at most MOST
+add-differ : tie.Need-add-differ Inv μ
+add-differ c =
+    let r = c .before in
+    omega (arith, at-loop r .loop .inv .1, at-loop r .loop .inv .0, r .replay .ensures .0, at-loop r .before .least .ensures .1)
 
-loop-holds : tie.Need-loop-holds Inv-loop μ-loop
-loop-holds c = (omega arith, omega arith, omega arith)
+add-smoky : tie.Need-add-smoky Inv μ
+add-smoky c =
+    let r = c .before .before in
+    omega (arith, at-loop r .loop .inv .2, at-loop r .loop .inv .0, r .replay .ensures .1, at-loop r .before .least .ensures .1)
 
-replay-requires : tie.Need-replay-requires Inv-loop μ-loop
-replay-requires c κs = search needs
+add-unbuilt : tie.Need-add-unbuilt Inv μ
+add-unbuilt c =
+    let r = c .before .before .before in
+    omega (arith, at-loop r .loop .inv .3, at-loop r .loop .inv .0, r .replay .ensures .2, at-loop r .before .least .ensures .1)
 
-add-differ : tie.Need-add-differ Inv-loop μ-loop
-add-differ c = omega (arith, c .before .before .before .loop .inv .1, c .before .before .before .loop .inv .0, c .before .replay .ensures .0, c .before .before .before .before .least .ensures .1)
+add-i : tie.Need-add-i Inv μ
+add-i c =
+    let r = c .before .before .before in
+    omega (arith, r .before .loop-test .taken, at-loop r .before .least .ensures .1)
 
-add-smoky : tie.Need-add-smoky Inv-loop μ-loop
-add-smoky c = omega (arith, c .before .before .before .before .loop .inv .2, c .before .before .before .before .loop .inv .0, c .before .before .replay .ensures .1, c .before .before .before .before .before .least .ensures .1)
-
-add-i : tie.Need-add-i Inv-loop μ-loop
-add-i c = omega (arith, c .before .before .before .loop-test .taken, c .before .before .before .before .before .least .ensures .1)
-
-loop-less : tie.Need-loop-less Inv-loop μ-loop
-loop-less c = omega arith
-
-loop-again : tie.Need-loop-again Inv-loop μ-loop
-loop-again c = (omega (arith, c .before .before .before .loop-test .taken), omega (arith, c .before .before .before .before .loop .inv .1, c .before .before .replay .ensures .0), omega (arith, c .before .before .before .before .loop .inv .2, c .before .before .replay .ensures .1))
-
-slice-aggregate-report : tie.Need-slice-aggregate-report Inv-loop μ-loop
-slice-aggregate-report c = omega arith
-
-report-requires : tie.Need-report-requires Inv-loop μ-loop
-report-requires c κs = search needs
-
-slice-aggregate-report-2 : tie.Need-slice-aggregate-report-2 Inv-loop μ-loop
-slice-aggregate-report-2 c = omega arith
-
-report-requires-2 : tie.Need-report-requires-2 Inv-loop μ-loop
-report-requires-2 c κs = search needs
-
-slice-aggregate-report-3 : tie.Need-slice-aggregate-report-3 Inv-loop μ-loop
-slice-aggregate-report-3 c = omega arith
-
-report-requires-3 : tie.Need-report-requires-3 Inv-loop μ-loop
-report-requires-3 c κs = search needs
-
-returns : tie.Need-returns Inv-loop μ-loop
-returns c = tt
+loop-again : tie.Need-loop-again Inv μ
+loop-again c =
+    let r = c .before .before .before in
+    let (i, differ, smoky, unbuilt) = at-loop r .loop .inv in
+    let (d, s, u) = r .replay .ensures in
+    (omega (arith, r .before .loop-test .taken), omega (arith, differ, d), omega (arith, smoky, s), omega (arith, unbuilt, u))
 
 pub main-spec : {M : Type 1} → statement M
 main-spec =
     tie.close
     (tie.spec
-    Inv-loop
-    μ-loop
-    read-word-requires
-    least-requires
-    loop-holds
-    replay-requires
+    Inv
+    μ
+    (λ c κs. search needs)
+    (λ c κs. search needs)
+    (λ c. (omega arith, omega arith, omega arith, omega arith))
+    (λ c κs. search needs)
     add-differ
     add-smoky
+    add-unbuilt
     add-i
-    loop-less
+    (λ c. omega arith)
     loop-again
-    slice-aggregate-report
-    report-requires
-    slice-aggregate-report-2
-    report-requires-2
-    slice-aggregate-report-3
-    report-requires-3
-    returns)
+    (λ c. omega arith)
+    (λ c κs. search needs)
+    (λ c. omega arith)
+    (λ c κs. search needs)
+    (λ c. omega arith)
+    (λ c κs. search needs)
+    (λ c. omega arith)
+    (λ c κs. search needs)
+    (λ c. tt))

@@ -40,8 +40,11 @@ sub-t14 c = search needs
 count-one-requires-2 : tie.Need-count-one-requires-2
 count-one-requires-2 c κs = search needs
 
+count-one-requires-3 : tie.Need-count-one-requires-3
+count-one-requires-3 c κs = search needs
+
 returns : tie.Need-returns
-returns c = (omega arith, c .count-one2 .ensures)
+returns c = (omega arith, c .before .count-one2 .ensures, c .count-one3 .ensures)
 
 pub replay-spec : {M : Type 1} → statement M
 replay-spec =
@@ -59,4 +62,5 @@ replay-spec =
     count-one-requires
     sub-t14
     count-one-requires-2
+    count-one-requires-3
     returns)

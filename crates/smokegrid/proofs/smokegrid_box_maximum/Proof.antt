@@ -17,7 +17,7 @@ give-requires : tie.Need-give-requires
 give-requires c κs = search needs
 
 returns : tie.Need-returns
-returns c = let a = c .before .before .before .before .before .before .before .before .before .before .args in let f = c .before .before .before .before .before .before .before .before .before .before .fits in let g = gridOf (a .background) (a .blocks .now) (a .root-links .now) (a .root-values .now) (a .upper-links .now) (a .upper-values .now) (a .lower-links .now) (a .lower-values .now) (a .leaf-values .now) in let e = c .before .before .box-maximum .ensures ∙ (λ t. publicMaximum g (between (toZ-ofZ (f .lx) t) (toZ-ofZ (f .ly) t) (toZ-ofZ (f .lz) t) (toZ-ofZ (f .hx) t) (toZ-ofZ (f .hy) t) (toZ-ofZ (f .hz) t))) in (c .give .ensures .0 ∙ ap numberOf e, c .give .ensures .1 ∙ ap (valueOr +0) e)
+returns c = let a = c .before .before .before .before .before .before .before .before .before .before .args in let f = c .before .before .before .before .before .before .before .before .before .before .fits in let g = gridOf (a .background) (a .blocks .now) (a .root-links .now) (a .root-values .now) (a .upper-links .now) (a .upper-values .now) (a .lower-links .now) (a .lower-values .now) (a .leaf-values .now) in let e = c .before .before .box-maximum .ensures ∙ (λ t. publicMaximum g (between (toZ-ofZ (f .lx) t) (toZ-ofZ (f .ly) t) (toZ-ofZ (f .lz) t) (toZ-ofZ (f .hx) t) (toZ-ofZ (f .hy) t) (toZ-ofZ (f .hz) t))) in record { number-is = c .give .ensures .0 ∙ ap numberOf e; value-is = c .give .ensures .1 ∙ ap (valueOr +0) e }
 
 pub smokegrid-box-maximum-spec : {M : Type 1} → statement M
 smokegrid-box-maximum-spec =

@@ -24,7 +24,7 @@ returns c =
     let f = start .fits in
     let g = gridOf (a .background) (a .blocks .now) (a .root-links .now) (a .root-values .now) (a .upper-links .now) (a .upper-values .now) (a .lower-links .now) (a .lower-values .now) (a .leaf-values .now) in
     let e = c .before .before .get-value .ensures ∙ (λ t. valueOnly (lookup g (at (toZ-ofZ (f .x) t) (toZ-ofZ (f .y) t) (toZ-ofZ (f .z) t)))) in
-    (c .give .ensures .0 ∙ ap numberOf e, c .give .ensures .1 ∙ ap (valueOr +0) e)
+    record { number-is = c .give .ensures .0 ∙ ap numberOf e; value-is = c .give .ensures .1 ∙ ap (valueOr +0) e }
 
 pub smokegrid-get-value-spec : {M : Type 1} → statement M
 smokegrid-get-value-spec = tie.close (tie.spec get-value-requires give-requires returns)

@@ -22,13 +22,13 @@ same-length : tie.Need-same-length
 same-length c = search needs
 
 returns : tie.Need-returns
-returns c = let s = sym (index-medium (c .before .before .before .before .before .before .before .args .medium .now) (record { x = c .before .before .before .before .before .before .before .args .x; y = c .before .before .before .before .before .before .before .args .y; z = c .before .before .before .before .before .before .before .args .z }) (length (c .before .before .before .before .before .before .before .args .index-bits .now)) (c .if1 .taken)) in (ap numberOf s, c .before .before .before .zero-u32 .ensures ∙ ap (valueOr (replicate (length (c .before .before .before .before .before .before .before .args .index-bits .now)) 0)) s)
+returns c = let s = sym (index-medium (c .before .before .before .before .before .before .before .args .medium .now) (record { x = c .before .before .before .before .before .before .before .args .x; y = c .before .before .before .before .before .before .before .args .y; z = c .before .before .before .before .before .before .before .args .z }) (length (c .before .before .before .before .before .before .before .args .index-bits .now)) (c .if1 .taken)) in record { number-is = ap numberOf s; bits-are = c .before .before .before .zero-u32 .ensures ∙ ap (valueOr (replicate (length (c .before .before .before .before .before .before .before .args .index-bits .now)) 0)) s }
 
 same-length-2 : tie.Need-same-length-2
 same-length-2 c = search needs
 
 returns-2 : tie.Need-returns-2
-returns-2 c = let s = sym (index-places (c .before .before .before .before .before .before .before .before .args .medium .now) (record { x = c .before .before .before .before .before .before .before .before .args .x; y = c .before .before .before .before .before .before .before .before .args .y; z = c .before .before .before .before .before .before .before .before .args .z }) (length (c .before .before .before .before .before .before .before .before .args .index-bits .now)) (c .before .if1 .left) (λ e. c .if2 .taken (c .before .before .before .before .zero-u32 .kept .0 ∙ e))) in (ap numberOf s, c .before .before .before .before .zero-u32 .ensures ∙ ap (valueOr (replicate (length (c .before .before .before .before .before .before .before .before .args .index-bits .now)) 0)) s)
+returns-2 c = let s = sym (index-places (c .before .before .before .before .before .before .before .before .args .medium .now) (record { x = c .before .before .before .before .before .before .before .before .args .x; y = c .before .before .before .before .before .before .before .before .args .y; z = c .before .before .before .before .before .before .before .before .args .z }) (length (c .before .before .before .before .before .before .before .before .args .index-bits .now)) (c .before .if1 .left) (λ e. c .if2 .taken (c .before .before .before .before .zero-u32 .kept .0 ∙ e))) in record { number-is = ap numberOf s; bits-are = c .before .before .before .before .zero-u32 .ensures ∙ ap (valueOr (replicate (length (c .before .before .before .before .before .before .before .before .args .index-bits .now)) 0)) s }
 
 slice-aggregate-medium-from : tie.Need-slice-aggregate-medium-from
 slice-aggregate-medium-from c = omega arith
@@ -46,7 +46,7 @@ same-length-3 : tie.Need-same-length-3
 same-length-3 c = c .before .before .put-bits .kept .0 ∙ c .before .before .before .before .before .before .before .before .before .before .before .zero-u32 .kept .0
 
 returns-3 : tie.Need-returns-3
-returns-3 c = let s = sym (index-taken (c .before .before .before .before .before .before .before .before .before .before .before .before .before .before .before .args .medium .now) (record { x = c .before .before .before .before .before .before .before .before .before .before .before .before .before .before .before .args .x; y = c .before .before .before .before .before .before .before .before .before .before .before .before .before .before .before .args .y; z = c .before .before .before .before .before .before .before .before .before .before .before .before .before .before .before .args .z }) (length (c .before .before .before .before .before .before .before .before .before .before .before .before .before .before .before .args .index-bits .now)) (c .before .before .before .before .before .before .before .before .if1 .left) (sym (c .before .before .before .before .before .before .before .before .before .before .before .zero-u32 .kept .0) ∙ c .before .before .before .before .before .before .before .if2 .left)) in let e = c .before .before .before .before .world-to-index-f .ensures ∙ ap (λ (m : Medium). positionOf (indexBits m (record { x = c .before .before .before .before .before .before .before .before .before .before .before .before .before .before .before .args .x; y = c .before .before .before .before .before .before .before .before .before .before .before .before .before .before .before .args .y; z = c .before .before .before .before .before .before .before .before .before .before .before .before .before .before .before .args .z }))) (c .before .before .before .before .before .medium-from .ensures) in (ap (λ (q : Position). q .number) e ∙ ap numberOf s, c .before .before .put-bits .ensures ∙ ap (λ (q : Position). getD (q .bits) 0 0 ∷ getD (q .bits) 1 0 ∷ getD (q .bits) 2 0 ∷ []) e ∙ bits-are (mediumFrom (c .before .before .before .before .before .before .before .before .before .before .before .before .before .before .before .args .medium .now) (replicate 6 (pos 0))) (record { x = c .before .before .before .before .before .before .before .before .before .before .before .before .before .before .before .args .x; y = c .before .before .before .before .before .before .before .before .before .before .before .before .before .before .before .args .y; z = c .before .before .before .before .before .before .before .before .before .before .before .before .before .before .before .args .z }) ∙ ap (valueOr (replicate 3 0)) s ∙ ap (λ (k : ℕ). valueOr (replicate k 0) (indexFlat (c .before .before .before .before .before .before .before .before .before .before .before .before .before .before .before .args .medium .now) (record { x = c .before .before .before .before .before .before .before .before .before .before .before .before .before .before .before .args .x; y = c .before .before .before .before .before .before .before .before .before .before .before .before .before .before .before .args .y; z = c .before .before .before .before .before .before .before .before .before .before .before .before .before .before .before .args .z }) (length (c .before .before .before .before .before .before .before .before .before .before .before .before .before .before .before .args .index-bits .now)))) (sym (sym (c .before .before .before .before .before .before .before .before .before .before .before .zero-u32 .kept .0) ∙ c .before .before .before .before .before .before .before .if2 .left)))
+returns-3 c = let s = sym (index-taken (c .before .before .before .before .before .before .before .before .before .before .before .before .before .before .before .args .medium .now) (record { x = c .before .before .before .before .before .before .before .before .before .before .before .before .before .before .before .args .x; y = c .before .before .before .before .before .before .before .before .before .before .before .before .before .before .before .args .y; z = c .before .before .before .before .before .before .before .before .before .before .before .before .before .before .before .args .z }) (length (c .before .before .before .before .before .before .before .before .before .before .before .before .before .before .before .args .index-bits .now)) (c .before .before .before .before .before .before .before .before .if1 .left) (sym (c .before .before .before .before .before .before .before .before .before .before .before .zero-u32 .kept .0) ∙ c .before .before .before .before .before .before .before .if2 .left)) in let e = c .before .before .before .before .world-to-index-f .ensures ∙ ap (λ (m : Medium). positionOf (indexBits m (record { x = c .before .before .before .before .before .before .before .before .before .before .before .before .before .before .before .args .x; y = c .before .before .before .before .before .before .before .before .before .before .before .before .before .before .before .args .y; z = c .before .before .before .before .before .before .before .before .before .before .before .before .before .before .before .args .z }))) (c .before .before .before .before .before .medium-from .ensures) in record { number-is = ap (λ (q : Position). q .number) e ∙ ap numberOf s; bits-are = c .before .before .put-bits .ensures ∙ ap (λ (q : Position). getD (q .bits) 0 0 ∷ getD (q .bits) 1 0 ∷ getD (q .bits) 2 0 ∷ []) e ∙ bits-are (mediumFrom (c .before .before .before .before .before .before .before .before .before .before .before .before .before .before .before .args .medium .now) (replicate 6 (pos 0))) (record { x = c .before .before .before .before .before .before .before .before .before .before .before .before .before .before .before .args .x; y = c .before .before .before .before .before .before .before .before .before .before .before .before .before .before .before .args .y; z = c .before .before .before .before .before .before .before .before .before .before .before .before .before .before .before .args .z }) ∙ ap (valueOr (replicate 3 0)) s ∙ ap (λ (k : ℕ). valueOr (replicate k 0) (indexFlat (c .before .before .before .before .before .before .before .before .before .before .before .before .before .before .before .args .medium .now) (record { x = c .before .before .before .before .before .before .before .before .before .before .before .before .before .before .before .args .x; y = c .before .before .before .before .before .before .before .before .before .before .before .before .before .before .before .args .y; z = c .before .before .before .before .before .before .before .before .before .before .before .before .before .before .before .args .z }) (length (c .before .before .before .before .before .before .before .before .before .before .before .before .before .before .before .args .index-bits .now)))) (sym (sym (c .before .before .before .before .before .before .before .before .before .before .before .zero-u32 .kept .0) ∙ c .before .before .before .before .before .before .before .if2 .left)) }
 
 pub smokegrid-world-to-index-f-spec : {M : Type 1} → statement M
 smokegrid-world-to-index-f-spec =

@@ -1,0 +1,101 @@
+-- The one claim over what the contracts say, proved. Assumes nothing.
+use mathlib.Core.Path.{_≡_, refl, sym, ap, _∙_, subst}
+use mathlib.Core.List.{List}
+use mathlib.Core.Bool.{true}
+use Prim.Native.Nat.{ℕ}
+use lib.ListN.{replicate}
+use lib.Ieee.{Float, binary32, toBits}
+use Rattle.refusals.specs.Results.{Result, ok, refused, numberOf, valueOr, Said, said}
+use Rattle.refusals.specs.Faults.{passing}
+use Rattle.float.specs.Zero.{+0}
+use Rattle.layout.specs.Bytes.{Bytes}
+use Rattle.layout.specs.Coordinates.{Coord, Signed32}
+use Rattle.layout.specs.Walk.{walk, voxel}
+use Rattle.sparse_grid.specs.Tables.{Grid}
+use Rattle.sparse_grid.specs.Lookup.{lookup}
+use Rattle.sparse_grid.specs.Answers.{valueOnly}
+use Rattle.medium.specs.Medium.{Point, Medium, mapFault}
+use Rattle.nanovdb.specs.Decode.{Accepted, decodeDensity, mediumOf}
+use Rattle.nanovdb.specs.Lent.{Lent, Answer, Tables, placesOf, decodeInto, answerOf, leftOf, filled, usedOf}
+use Rattle.nanovdb.specs.Agreement.{ReadsAs}
+use Rattle.nanovdb.specs.Passed.{density-passed}
+use Rattle.nanovdb.specs.Numbers.{Numbered, numbered, not-zero}
+use Rattle.nanovdb.specs.Lookups.{reads}
+use Rattle.nanovdb.specs.UsedLaws.{accepts, used-parts, used-room}
+use Rattle.index.specs.Answers.{indexBits}
+use Rattle.majorant.specs.Boxes.{Box, Greatest, boxMaximum}
+use Rattle.majorant.specs.Build.{publicMaximum, buildInto}
+use Rattle.majorant.specs.Accepted as Built
+use Rattle.claim.specs.Claim.{Alike, Inside, Bounds, Holds, cells}
+use Rattle.claim.specs.Theorem.{demand3}
+use Rattle.claim.specs.Contracts.{indexOf, Keeps, Handed, ThroughContracts}
+
+-- a value says that it is one, 0 and itself
+says : {A : Type 0} (z v : A) (r : Result A) → r ≡ ok v → (a : Said A) → a ≡ said z r → a ≡ said z (ok v)
+says z v r e a s = s ∙ ap (said z) e
+
+module _ (b : List ℕ) (bytes : Bytes b) (l : Lent) (t : Accepted) (e : decodeInto decodeDensity b l ≡ ok t) where
+  decoded : decodeDensity b (placesOf l) ≡ ok t
+  decoded = accepts b l t e
+
+  holds : Holds b t
+  holds = demand3 b bytes (placesOf l) t decoded
+
+  -- a lookup of the accepted grid, without its level
+  pub looked : (c : Coord) → Signed32 c → (valueOnly (lookup (t .grid) c) ≡ ok (voxel b c)) × (toBits binary32 (voxel b c) ≡ walk b c .bits)
+  looked c s =
+      let r = reads b bytes (placesOf l) t decoded c s .0 in
+      (ap valueOnly r, subst (ReadsAs b c) r (holds .lookups c s) .0)
+
+  pub same-medium : t .medium ≡ mediumOf b
+  same-medium = density-passed b (placesOf l) t decoded .0 .medium
+
+  -- the index position of the accepted medium
+  pub positioned : (p : Point) → indexBits (t .medium) p ≡ ok (indexOf b p)
+  unfolding indexBits
+  positioned p =
+      ap (λ (m : Medium). indexBits m p) same-medium
+      ∙ ap (λ (n : ℕ). passing n (ok (indexOf b p))) (density-passed b (placesOf l) t decoded .0 .mapped)
+
+  -- a build of the accepted grid that answered 0
+  pub figured : (n : Medium) → Alike (t .medium) n → (places number : ℕ) (table : List Float)
+      → number ≡ numberOf (buildInto (t .grid) n cells places) → table ≡ valueOr (replicate places +0) (buildInto (t .grid) n cells places)
+      → number ≡ 0 → (places ≡ 262144) × ((p : Point) → Inside b p → Bounds b table p)
+  figured n alike places number table number-is table-is z =
+      let B = Built.accepted (t .grid) n cells places (sym number-is ∙ z) in
+      let is : table ≡ B .table = table-is ∙ ap (valueOr (replicate places +0)) (B .into) in
+      (B .size, subst (λ (f : List Float). (p : Point) → Inside b p → Bounds b f p) (sym is) (holds .figures n alike (B .table) (B .is)))
+
+  keeps : Keeps b (t .grid) (t .medium)
+  keeps = record {
+    lookups = λ c s a is.
+        let (v, bits) = looked c s in
+        let q = says +0 (voxel b c) (valueOnly (lookup (t .grid) c)) v a is in
+        (ap (λ (x : Said Float). x .accepted) q, ap (λ (x : Said Float). x .number) q, ap (λ (x : Said Float). toBits binary32 (x .value)) q ∙ bits);
+    levels = holds .lookups;
+    maxima = λ x lo hi a is.
+        let (v, greatest) = holds .maxima x lo hi in
+        let q = says +0 (boxMaximum (voxel b) x) (publicMaximum (t .grid) x) v a is in
+        let w = ap (λ (x : Said Float). x .value) q in
+        (ap (λ (x : Said Float). x .accepted) q, ap (λ (x : Said Float). x .number) q, w, subst (Greatest (voxel b) x) (sym w) greatest);
+    positions = λ p r is. is ∙ positioned p;
+    figures = figured;
+  }
+
+  -- what it hands on
+  handed : Handed b l (answerOf (ok t)) (filled l (t .grid))
+  handed =
+      let u = used-parts b l t e in
+      record {
+        room = used-room b l t e;
+        tables = ap (filled l) (sym u);
+        medium = same-medium;
+        keeps = subst (λ (g : Grid). Keeps b g (t .medium)) (sym u) keeps;
+      }
+
+pub through-contracts : ThroughContracts
+through-contracts b bytes l a left p s z = go (decodeInto decodeDensity b l) refl (numbered b l) p s
+  where
+    go : (r : Result Accepted) → decodeInto decodeDensity b l ≡ r → Numbered r → a ≡ answerOf r → left ≡ leftOf l r → Handed b l a left
+    go (ok t) e n p s = subst (λ (X : Type 0). X) (sym (λ i. Handed b l (p i) (s i))) (handed b bytes l t e)
+    go (refused k) e n p s = absurd (not-zero n (sym (ap (λ (x : Answer). x .number) p) ∙ z))

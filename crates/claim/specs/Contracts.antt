@@ -1,0 +1,63 @@
+-- The one claim over what the contracts of the functions say: on the left what a function answered and left, on the right the bytes.
+use Prim.Native.Nat.{ℕ}
+use mathlib.Core.Path.{_≡_}
+use mathlib.Core.List.{List, [], _∷_}
+use mathlib.Core.Bool.{true}
+use lib.ListN.{replicate}
+use lib.Ieee.{Float, binary32, toBits}
+use Rattle.refusals.specs.Results.{Result, ok, numberOf, valueOr, Said, said}
+use Rattle.float.specs.Zero.{+0}
+use Rattle.layout.specs.Bytes.{Bytes}
+use Rattle.layout.specs.Coordinates.{Coord, Signed32}
+use Rattle.layout.specs.Walk.{walk, voxel}
+use Rattle.sparse_grid.specs.Tables.{Grid}
+use Rattle.sparse_grid.specs.Lookup.{lookup}
+use Rattle.sparse_grid.specs.Answers.{valueOnly}
+use Rattle.medium.specs.Medium.{Point, Medium, xAxis, yAxis, zAxis}
+use Rattle.nanovdb.specs.Decode.{decodeDensity, mediumOf}
+use Rattle.nanovdb.specs.Lent.{Lent, Answer, Tables, decodeInto, answerOf, leftOf, filled, Used, usedOf}
+use Rattle.nanovdb.specs.Agreement.{ReadsAs}
+use Rattle.index.specs.Index.{worldToIndex}
+use Rattle.index.specs.Answers.{indexBits}
+use Rattle.majorant.specs.Boxes.{Box, Greatest, boxMaximum}
+use Rattle.majorant.specs.Build.{publicMaximum, buildInto}
+use Rattle.claim.specs.Claim.{Alike, Inside, Bounds, cells}
+
+-- the bits of a point's index position, with the map and the translation in the bytes
+abbrev pub indexOf : List ℕ → Point → List ℕ
+indexOf b p =
+    toBits binary32 (worldToIndex (mediumOf b) p xAxis)
+    ∷ toBits binary32 (worldToIndex (mediumOf b) p yAxis)
+    ∷ toBits binary32 (worldToIndex (mediumOf b) p zAxis)
+    ∷ []
+
+-- What holds of a grid and a medium that the functions are handed. Each premise is a contract: what one function answered.
+pub record Keeps (b : List ℕ) (g : Grid) (m : Medium) : Type 0 where
+  -- get_value is not refused, and answers the 32 bits that the walk reads
+  pub lookups : (c : Coord) → Signed32 c → (a : Said Float) → a ≡ said +0 (valueOnly (lookup g c))
+      → (a .accepted ≡ true) × (a .number ≡ 0) × (toBits binary32 (a .value) ≡ walk b c .bits)
+  -- the lookup that it is without its level has the walk's level too
+  pub levels : (c : Coord) → Signed32 c → ReadsAs b c (lookup g c)
+  -- box_maximum is not refused, and answers the greatest of zero and the voxels of the box
+  pub maxima : (x : Box) → Signed32 (x .lo) → Signed32 (x .hi) → (a : Said Float) → a ≡ said +0 (publicMaximum g x)
+      → (a .accepted ≡ true) × (a .number ≡ 0) × (a .value ≡ boxMaximum (voxel b) x) × Greatest (voxel b) x (a .value)
+  -- world_to_index_f is not refused, and answers the position by which `Bounds` finds the eight voxels
+  pub positions : (p : Point) (r : Result (List ℕ)) → r ≡ indexBits m p → r ≡ ok (indexOf b p)
+  -- build_majorant, with a medium of the same corners, map and translation: what a table holds that it filled
+  pub figures : (n : Medium) → Alike m n → (places number : ℕ) (table : List Float)
+      → number ≡ numberOf (buildInto g n cells places) → table ≡ valueOr (replicate places +0) (buildInto g n cells places)
+      → number ≡ 0 → (places ≡ 262144) × ((p : Point) → Inside b p → Bounds b table p)
+
+-- What a decode that answered 0 hands on: the used parts that it counts lie within the tables and zeros stand past them, the
+-- medium is that of the bytes, and both keep the claim.
+pub record Handed (b : List ℕ) (l : Lent) (a : Answer) (left : Tables) : Type 0 where
+  pub room : Used a left
+  pub tables : left ≡ filled l (usedOf a left)
+  pub medium : a .medium ≡ mediumOf b
+  pub keeps : Keeps b (usedOf a left) (a .medium)
+
+-- of every decode: a is what it answered, and left what it left in the lent tables
+abbrev pub ThroughContracts : Type 0
+ThroughContracts = (b : List ℕ) → Bytes b → (l : Lent) (a : Answer) (left : Tables)
+    → a ≡ answerOf (decodeInto decodeDensity b l) → left ≡ leftOf l (decodeInto decodeDensity b l)
+    → a .number ≡ 0 → Handed b l a left

@@ -1,0 +1,88 @@
+-- The one claim over what the contracts of the C interface say, proved. Assumes nothing.
+use mathlib.Core.Path.{_≡_, refl, sym, ap, _∙_, subst}
+use mathlib.Core.List.{List}
+use mathlib.Core.Bool.{_&&_}
+use Prim.Native.Nat.{ℕ, zero, suc}
+use native.Mathlib.Omega.{arith}
+use lib.IntN.{ℤ}
+use lib.Dec.{eqb}
+use lib.ListN.{length, replicate}
+use lib.Ieee.{Float, binary32, toBits}
+use Rattle.refusals.specs.Results.{Result, ok, numberOf, valueOr}
+use Rattle.refusals.specs.Faults.{unless, passing}
+use Rattle.float.specs.Zero.{+0}
+use Rattle.layout.specs.Bytes.{Bytes}
+use Rattle.layout.specs.Walk.{voxel}
+use Rattle.sparse_grid.specs.Tables.{Grid}
+use Rattle.medium.specs.Medium.{Medium, Point, mapFault}
+use Rattle.nanovdb.specs.Decode.{Accepted, decodeDensity, mediumOf, mediumAt}
+use Rattle.nanovdb.specs.Lent.{Lent, placesOf, decodeInto}
+use Rattle.nanovdb.specs.Passed.{density-passed}
+use Rattle.nanovdb.specs.UsedLaws.{accepts}
+use Rattle.index.specs.Index.{worldToIndex}
+use Rattle.index.specs.Answers.{indexBits}
+use Rattle.majorant.specs.Boxes.{Greatest}
+use Rattle.majorant.specs.Build.{buildInto}
+use Rattle.claim.specs.Claim.{Holds, cells}
+use Rattle.claim.specs.Contracts.{indexOf}
+use Rattle.claim.specs.Theorem.{demand3}
+use Rattle.claim.specs.ContractLaws.{looked, same-medium, figured}
+use Rattle.smokegrid.specs.Flat.{floatsOf, mediumFrom, indexFlat, buildFlat}
+use Rattle.smokegrid.specs.Promises.{Left}
+use Rattle.smokegrid_claim.specs.ThroughC.{used, Fits, KeepsC, ThroughC}
+use Rattle.smokegrid_claim.specs.Back.{flat, left-is, used-back, fits-back, medium-alike}
+
+-- ---- a build and an index position from flat arrays
+
+-- no fault before a result whose number is 0
+passed : {A : Type 0} (n : ℕ) (r : Result A) → numberOf (passing n r) ≡ 0 → passing n r ≡ r
+passed zero r z = refl
+passed (suc n) r z = absurd (omega arith)
+
+flat-build : (g : Grid) (m : List Float) (c : List ℤ) (places : ℕ) → numberOf (buildFlat g m c places) ≡ 0
+    → buildFlat g m c places ≡ buildInto g (mediumFrom m c) cells places
+unfolding buildFlat
+flat-build g m c places z = passed (unless (eqb (length m) 18 && eqb (length c) 6) 18) (buildInto g (mediumFrom m c) cells places) z
+
+-- the position of a medium in the bytes whose map passes; the index box plays no part
+flat-index : (b : List ℕ) (p : Point) → mapFault (mediumOf b) ≡ 0 → indexFlat (floatsOf (mediumOf b)) p 3 ≡ ok (indexOf b p)
+unfolding indexFlat indexBits mediumOf mediumAt mapFault worldToIndex
+flat-index b p e = ap (λ (n : ℕ). passing n (ok (indexOf b p))) e
+
+-- ---- the accepted grid and its medium
+
+module _ (b : List ℕ) (bytes : Bytes b) (l : Lent) (t : Accepted) (e : decodeInto decodeDensity b l ≡ ok t) where
+  holds : Holds b t
+  holds = demand3 b bytes (placesOf l) t (accepts b l t e)
+
+  indexed : (p : Point) → indexFlat (floatsOf (t .medium)) p 3 ≡ ok (indexOf b p)
+  indexed p =
+      ap (λ (m : Medium). indexFlat (floatsOf m) p 3) (same-medium b bytes l t e)
+      ∙ flat-index b p (density-passed b (placesOf l) t (accepts b l t e) .0 .mapped)
+
+  keeps : KeepsC b (t .grid) (floatsOf (t .medium))
+  keeps = record {
+    lookups = λ c s number value G.
+        let (v, bits) = looked b bytes l t e c s in
+        (G .number-is ∙ ap numberOf v, ap (toBits binary32) (G .value-is ∙ ap (valueOr +0) v) ∙ bits);
+    levels = holds .lookups;
+    maxima = λ x lo hi number value M.
+        let (v, greatest) = holds .maxima x lo hi in
+        let is = M .value-is ∙ ap (valueOr +0) v in
+        (M .number-is ∙ ap numberOf v, is, subst (Greatest (voxel b) x) (sym is) greatest);
+    positions = λ p number bits W. (W .number-is ∙ ap numberOf (indexed p), W .bits-are ∙ ap (valueOr (replicate 3 0)) (indexed p));
+    figures = λ corners places number table B z.
+        let into = flat-build (t .grid) (floatsOf (t .medium)) corners places (sym (B .number-is) ∙ z) in
+        figured b bytes l t e (mediumFrom (floatsOf (t .medium)) corners) (medium-alike b bytes l t e corners) places number table
+        (B .number-is ∙ ap numberOf into) (B .table-is ∙ ap (valueOr (replicate places +0)) into) z;
+  }
+
+pub through-c : ThroughC
+through-c b bytes lent counts medium corners number left d z =
+    let F = flat b lent counts medium corners (sym (d .number-is) ∙ z) in
+    let t = F .accepted in
+    let grid = used-back b lent counts medium corners t (F .into) in
+    subst (λ (x : Left). Fits x × KeepsC b (used x) (x .medium)) (sym (left-is b lent counts medium corners number left d (ok t) (F .is))) (
+      fits-back b lent counts medium corners t (F .into),
+      subst (λ (g : Grid). KeepsC b g (floatsOf (t .medium))) (sym grid) (keeps b bytes lent t (F .into)),
+    )

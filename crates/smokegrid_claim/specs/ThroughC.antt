@@ -1,0 +1,69 @@
+-- The one claim over what the contracts of the C interface say: what a decode leaves is handed on as it is, and every answer is
+-- held to the bytes. On the left stand the promises of `smokegrid_*` by name, on the right the bytes.
+use Prim.Native.Nat.{ℕ, _*_, _≤_}
+use mathlib.Core.Path.{_≡_}
+use mathlib.Core.List.{List}
+use lib.IntN.{ℤ}
+use lib.ListN.{length, getD, take}
+use lib.Ieee.{Float, binary32, toBits}
+use Rattle.layout.specs.Bytes.{Bytes}
+use Rattle.layout.specs.Coordinates.{Coord, Signed32}
+use Rattle.layout.specs.Walk.{walk, voxel}
+use Rattle.sparse_grid.specs.Tables.{Grid, gridOf}
+use Rattle.sparse_grid.specs.Lookup.{lookup}
+use Rattle.medium.specs.Medium.{Point}
+use Rattle.nanovdb.specs.Lent.{Lent}
+use Rattle.nanovdb.specs.Agreement.{ReadsAs}
+use Rattle.majorant.specs.Boxes.{Box, Greatest, boxMaximum}
+use Rattle.claim.specs.Claim.{Inside, Bounds}
+use Rattle.claim.specs.Contracts.{indexOf}
+use Rattle.smokegrid.specs.Promises.{Left, Decodes, GetsValue, BoxMaximum, WorldToIndex, Builds}
+
+-- the used parts: three numbers of `blocks` a root, and 32,768, 4,096 and 512 places an upper, lower and leaf node, as counted
+abbrev pub used : Left → Grid
+used l =
+    let roots = getD (l .counts) 0 0 in
+    let upper = getD (l .counts) 1 0 in
+    let lower = getD (l .counts) 2 0 in
+    let leaf = getD (l .counts) 3 0 in
+    gridOf (l .background)
+    (take (3 * roots) (l .tables .blocks))
+    (take roots (l .tables .rootLinks))
+    (take roots (l .tables .rootValues))
+    (take (32768 * upper) (l .tables .upperLinks))
+    (take (32768 * upper) (l .tables .upperValues))
+    (take (4096 * lower) (l .tables .lowerLinks))
+    (take (4096 * lower) (l .tables .lowerValues))
+    (take (512 * leaf) (l .tables .leafValues))
+
+-- and each of them lies within its table
+pub record Fits (l : Left) : Type 0 where
+  pub blocks : 3 * getD (l .counts) 0 0 ≤ length (l .tables .blocks)
+  pub rootLinks : getD (l .counts) 0 0 ≤ length (l .tables .rootLinks)
+  pub rootValues : getD (l .counts) 0 0 ≤ length (l .tables .rootValues)
+  pub upperLinks : 32768 * getD (l .counts) 1 0 ≤ length (l .tables .upperLinks)
+  pub upperValues : 32768 * getD (l .counts) 1 0 ≤ length (l .tables .upperValues)
+  pub lowerLinks : 4096 * getD (l .counts) 2 0 ≤ length (l .tables .lowerLinks)
+  pub lowerValues : 4096 * getD (l .counts) 2 0 ≤ length (l .tables .lowerValues)
+  pub leafValues : 512 * getD (l .counts) 3 0 ≤ length (l .tables .leafValues)
+
+-- What holds of a grid and a medium of 18 numbers that the functions are handed.
+pub record KeepsC (b : List ℕ) (g : Grid) (medium : List Float) : Type 0 where
+  -- a lookup is not refused, and answers the 32 bits that the walk reads
+  pub lookups : (c : Coord) → Signed32 c → (number : ℕ) (value : Float) → GetsValue g c number value
+      → (number ≡ 0) × (toBits binary32 value ≡ walk b c .bits)
+  -- the lookup that it is without its level has the walk's level too; C is not handed the level
+  pub levels : (c : Coord) → Signed32 c → ReadsAs b c (lookup g c)
+  -- a box maximum is not refused, and is the greatest of zero and the voxels of the box
+  pub maxima : (x : Box) → Signed32 (x .lo) → Signed32 (x .hi) → (number : ℕ) (value : Float) → BoxMaximum g x number value
+      → (number ≡ 0) × (value ≡ boxMaximum (voxel b) x) × Greatest (voxel b) x value
+  -- an index position is not refused, and is the one by which `Bounds` finds the eight voxels
+  pub positions : (p : Point) (number : ℕ) (bits : List ℕ) → WorldToIndex medium p 3 number bits → (number ≡ 0) × (bits ≡ indexOf b p)
+  -- the figures of a build that is not refused, whatever corners of the index box it was handed
+  pub figures : (corners : List ℤ) (places number : ℕ) (table : List Float) → Builds g medium corners places number table
+      → number ≡ 0 → (places ≡ 262144) × ((p : Point) → Inside b p → Bounds b table p)
+
+-- a decode that answers 0: the used parts of what it leaves lie within the tables, and they and the medium keep the claim
+abbrev pub ThroughC : Type 0
+ThroughC = (b : List ℕ) → Bytes b → (lent : Lent) (counts medium corners number : ℕ) (left : Left)
+    → Decodes b lent counts medium corners number left → number ≡ 0 → Fits left × KeepsC b (used left) (left .medium)
