@@ -1,54 +1,86 @@
 -- What a medium in flat arrays gives: the refusal of another length, and otherwise what the functions on records answer. Assumes nothing.
-use mathlib.Core.Path.{_≡_, refl, ap, _∙_}
+use mathlib.Core.Path.{_≡_, refl, sym, ap, _∙_}
 use mathlib.Core.List.{List, [], _∷_}
-use mathlib.Core.Bool.{Bool, _&&_}
 use Prim.Native.Nat.{ℕ, zero, suc}
-use lib.Dec.{eqb}
 use lib.IntN.{ℤ, pos}
 use lib.ListN.{length, getD, replicate}
 use lib.Ieee.{Float, binary32, toBits}
 use borrow.Author.Tests.{eq-eqb, ne-eqb}
-use Rattle.refusals.specs.Results.{Result, ok, refused, valueOr}
-use Rattle.refusals.specs.Faults.{unless, passing}
+use Rattle.refusals.specs.Results.{Result, ok, refused, numberOf, valueOr}
+use Rattle.refusals.specs.Faults.{passing}
+use Rattle.float.specs.Zero.{+0}
 use Rattle.sparse_grid.specs.Tables.{Grid}
 use Rattle.medium.specs.Medium.{Point, Medium, mapFault}
-use Rattle.index.specs.Answers.{indexBits}
+use Rattle.index.specs.declared.Position.{Position}
+use Rattle.index.specs.Answers.{indexBits, positionOf}
 use Rattle.majorant.specs.Build.{cube, buildInto}
 use Rattle.smokegrid.specs.Flat.{mediumFrom, indexFlat, buildFlat}
+use Rattle.smokegrid.specs.Promises.{WorldToIndex, Builds}
 
-module _ (m : List Float) (p : Point) (n : ℕ) where
-  pub index-medium : (length m ≡ 18 → ⊥) → indexFlat m p n ≡ refused 18
-  unfolding indexFlat
-  index-medium h = rw (ne-eqb (length m) 18 h)
-
-  module _ (long : length m ≡ 18) where
-    pub index-places : (n ≡ 3 → ⊥) → indexFlat m p n ≡ refused 18
-    unfolding indexFlat
-    index-places h = rw (eq-eqb (length m) 18 long, ne-eqb n 3 h)
-
-    pub index-taken : n ≡ 3 → indexFlat m p n ≡ indexBits (mediumFrom m (replicate 6 (pos 0))) p
-    unfolding indexFlat
-    index-taken e = rw (eq-eqb (length m) 18 long, eq-eqb n 3 e)
+-- ---- an index position
 
 -- three bits, or zeros
-pub bits-are : (m : Medium) (p : Point) → getD (valueOr (0 ∷ 0 ∷ 0 ∷ []) (indexBits m p)) 0 0 ∷ getD (valueOr (0 ∷ 0 ∷ 0 ∷ []) (indexBits m p)) 1 0 ∷ getD (valueOr (0 ∷ 0 ∷ 0 ∷ []) (indexBits m p)) 2 0 ∷ [] ≡ valueOr (replicate 3 0) (indexBits m p)
-unfolding indexBits
-bits-are m p = go (mapFault m) _ _ _
+threeOf : List ℕ → List ℕ
+threeOf l = getD l 0 0 ∷ getD l 1 0 ∷ getD l 2 0 ∷ []
+
+three-are : (m : Medium) (p : Point) → threeOf (positionOf (indexBits m p) .bits) ≡ valueOr (replicate 3 0) (indexBits m p)
+unfolding threeOf indexBits
+three-are m p = go (mapFault m) _ _ _
   where
-    go : (k a b c : ℕ) → (let r : Result (List ℕ) = passing k (ok (a ∷ b ∷ c ∷ [])) in getD (valueOr (0 ∷ 0 ∷ 0 ∷ []) r) 0 0 ∷ getD (valueOr (0 ∷ 0 ∷ 0 ∷ []) r) 1 0 ∷ getD (valueOr (0 ∷ 0 ∷ 0 ∷ []) r) 2 0 ∷ [] ≡ valueOr (replicate 3 0) r)
+    go : (k a b c : ℕ) → threeOf (positionOf (passing k (ok (a ∷ b ∷ c ∷ []))) .bits) ≡ valueOr (replicate 3 0) (passing k (ok (a ∷ b ∷ c ∷ [])))
     go zero a b c = refl
     go (suc k) a b c = refl
 
-module _ (g : Grid) (m : List Float) (c : List ℤ) (n : ℕ) where
-  pub build-medium : (length m ≡ 18 → ⊥) → buildFlat g m c n ≡ refused 18
+taken : (m : List Float) (p : Point) (n : ℕ) → length m ≡ 18 → n ≡ 3 → indexFlat m p n ≡ indexBits (mediumFrom m (replicate 6 (pos 0))) p
+unfolding indexFlat
+taken m p n long e = rw (eq-eqb (length m) 18 long, eq-eqb n 3 e)
+
+module _ {m : List Float} {p : Point} {n : ℕ} {bits : List ℕ} where
+  refused-index : indexFlat m p n ≡ refused 18 → bits ≡ replicate n 0 → WorldToIndex m p n 18 bits
+  refused-index e z = record { number-is = sym (ap numberOf e); bits-are = z ∙ sym (ap (valueOr (replicate n 0)) e) }
+
+  pub out-medium : (length m ≡ 18 → ⊥) → bits ≡ replicate n 0 → WorldToIndex m p n 18 bits
+  unfolding indexFlat
+  out-medium h = refused-index (rw (ne-eqb (length m) 18 h))
+
+  pub out-places : length m ≡ 18 → (n ≡ 3 → ⊥) → bits ≡ replicate n 0 → WorldToIndex m p n 18 bits
+  unfolding indexFlat
+  out-places long h = refused-index (rw (eq-eqb (length m) 18 long, ne-eqb n 3 h))
+
+  -- the position q of the medium x that was read
+  pub out-position : length m ≡ 18 → n ≡ 3 → {x : Medium} {q : Position} → x ≡ mediumFrom m (replicate 6 (pos 0)) → q ≡ positionOf (indexBits x p)
+      → bits ≡ getD (q .bits) 0 0 ∷ getD (q .bits) 1 0 ∷ getD (q .bits) 2 0 ∷ [] → WorldToIndex m p n (q .number) bits
+  unfolding threeOf
+  out-position long e x-is q-is b =
+      let is = q-is ∙ ap (λ (x : Medium). positionOf (indexBits x p)) x-is in
+      let s = sym (taken m p n long e) in
+      record {
+        number-is = ap (λ (q : Position). q .number) is ∙ ap numberOf s;
+        bits-are = b ∙ ap (λ (q : Position). threeOf (q .bits)) is ∙ three-are (mediumFrom m (replicate 6 (pos 0))) p
+            ∙ ap (valueOr (replicate 3 0)) s ∙ ap (λ (k : ℕ). valueOr (replicate k 0) (indexFlat m p n)) (sym e);
+      }
+
+-- ---- a build
+
+into : (g : Grid) (m : List Float) (c : List ℤ) (n : ℕ) → length m ≡ 18 → length c ≡ 6 → buildFlat g m c n ≡ buildInto g (mediumFrom m c) (cube 64) n
+unfolding buildFlat
+into g m c n long e = rw (eq-eqb (length m) 18 long, eq-eqb (length c) 6 e)
+
+module _ {g : Grid} {m : List Float} {c : List ℤ} {n : ℕ} {table : List Float} where
+  refused-build : buildFlat g m c n ≡ refused 18 → table ≡ replicate n +0 → Builds g m c n 18 table
+  refused-build e z = record { number-is = sym (ap numberOf e); table-is = z ∙ sym (ap (valueOr (replicate n +0)) e) }
+
+  pub build-medium : (length m ≡ 18 → ⊥) → table ≡ replicate n +0 → Builds g m c n 18 table
   unfolding buildFlat
-  build-medium h = rw (ne-eqb (length m) 18 h)
+  build-medium h = refused-build (rw (ne-eqb (length m) 18 h))
 
-  module _ (long : length m ≡ 18) where
-    pub build-corners : (length c ≡ 6 → ⊥) → buildFlat g m c n ≡ refused 18
-    unfolding buildFlat
-    build-corners h = rw (eq-eqb (length m) 18 long, ne-eqb (length c) 6 h)
+  pub build-corners : length m ≡ 18 → (length c ≡ 6 → ⊥) → table ≡ replicate n +0 → Builds g m c n 18 table
+  unfolding buildFlat
+  build-corners long h = refused-build (rw (eq-eqb (length m) 18 long, ne-eqb (length c) 6 h))
 
-    pub build-taken : length c ≡ 6 → buildFlat g m c n ≡ buildInto g (mediumFrom m c) (cube 64) n
-    unfolding buildFlat
-    build-taken e = rw (eq-eqb (length m) 18 long, eq-eqb (length c) 6 e)
+  -- the build with the medium x that was read
+  pub build-taken : length m ≡ 18 → length c ≡ 6 → {x : Medium} {number : ℕ} → x ≡ mediumFrom m c → number ≡ numberOf (buildInto g x (cube 64) n)
+      → table ≡ valueOr (replicate n +0) (buildInto g x (cube 64) n) → Builds g m c n number table
+  build-taken long e x-is number-is table-is =
+      let s = ap (λ (x : Medium). buildInto g x (cube 64) n) x-is ∙ sym (into g m c n long e) in
+      record { number-is = number-is ∙ ap numberOf s; table-is = table-is ∙ ap (valueOr (replicate n +0)) s }

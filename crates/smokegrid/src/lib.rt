@@ -61,7 +61,23 @@ pub extern "C" fn smokegrid_decode_density_grid(
     medium: &mut [f32],
     corners: &mut [i32],
 ) -> u32
-    ensures { λ r. ⌜ Decodes (now (bytes .entry)) (lengths (tables (now (blocks .entry)) (now («root_links» .entry)) (now («root_values» .entry)) (now («upper_links» .entry)) (now («upper_values» .entry)) (now («lower_links» .entry)) (now («lower_values» .entry)) (now («leaf_values» .entry)) (now (work .entry)))) (length (now (counts .entry))) (length (now (medium .entry))) (length (now (corners .entry))) r (record { tables = tables (now (blocks .exit)) (now («root_links» .exit)) (now («root_values» .exit)) (now («upper_links» .exit)) (now («upper_values» .exit)) (now («lower_links» .exit)) (now («lower_values» .exit)) (now («leaf_values» .exit)) (now (work .exit)); counts = now (counts .exit); background = now (background .exit); medium = now (medium .exit); corners = now (corners .exit) }) ⌝ }
+    ensures { λ r.
+        let lent = lengths (tables
+        (now (blocks .entry)) (now («root_links» .entry)) (now («root_values» .entry)) (now («upper_links» .entry))
+        (now («upper_values» .entry)) (now («lower_links» .entry)) (now («lower_values» .entry)) (now («leaf_values» .entry))
+        (now (work .entry))) in
+        let left = tables
+        (now (blocks .exit)) (now («root_links» .exit)) (now («root_values» .exit)) (now («upper_links» .exit))
+        (now («upper_values» .exit)) (now («lower_links» .exit)) (now («lower_values» .exit)) (now («leaf_values» .exit))
+        (now (work .exit)) in
+        ⌜ Decodes (now (bytes .entry)) lent (length (now (counts .entry))) (length (now (medium .entry))) (length (now (corners .entry)))
+        r (record {
+          tables = left;
+          counts = now (counts .exit);
+          background = now (background .exit);
+          medium = now (medium .exit);
+          corners = now (corners .exit);
+        }) ⌝ }
 {
     lent::zero_u64(counts);
     lent::zero_f32(medium);
@@ -114,7 +130,11 @@ pub extern "C" fn smokegrid_validate(
     lower_values: &[f32],
     leaf_values: &[f32],
 ) -> u32
-    ensures { λ r. ⌜ r ≡ validateS (gridOf background (now (blocks .entry)) (now («root_links» .entry)) (now («root_values» .entry)) (now («upper_links» .entry)) (now («upper_values» .entry)) (now («lower_links» .entry)) (now («lower_values» .entry)) (now («leaf_values» .entry))) ⌝ }
+    ensures { λ r.
+        let g = gridOf background
+        (now (blocks .entry)) (now («root_links» .entry)) (now («root_values» .entry)) (now («upper_links» .entry))
+        (now («upper_values» .entry)) (now («lower_links» .entry)) (now («lower_values» .entry)) (now («leaf_values» .entry)) in
+        ⌜ r ≡ validateS g ⌝ }
 {
     validate(
         background,
@@ -142,7 +162,11 @@ pub extern "C" fn smokegrid_validate_density(
     lower_values: &[f32],
     leaf_values: &[f32],
 ) -> u32
-    ensures { λ r. ⌜ r ≡ validateDensity (gridOf background (now (blocks .entry)) (now («root_links» .entry)) (now («root_values» .entry)) (now («upper_links» .entry)) (now («upper_values» .entry)) (now («lower_links» .entry)) (now («lower_values» .entry)) (now («leaf_values» .entry))) ⌝ }
+    ensures { λ r.
+        let g = gridOf background
+        (now (blocks .entry)) (now («root_links» .entry)) (now («root_values» .entry)) (now («upper_links» .entry))
+        (now («upper_values» .entry)) (now («lower_links» .entry)) (now («lower_values» .entry)) (now («leaf_values» .entry)) in
+        ⌜ r ≡ validateDensity g ⌝ }
 {
     validate_density(
         background,
@@ -174,7 +198,11 @@ pub extern "C" fn smokegrid_get_value(
     z: i32,
     value: &mut f32,
 ) -> u32
-    ensures { λ r. ⌜ GetsValue (gridOf background (now (blocks .entry)) (now («root_links» .entry)) (now («root_values» .entry)) (now («upper_links» .entry)) (now («upper_values» .entry)) (now («lower_links» .entry)) (now («lower_values» .entry)) (now («leaf_values» .entry))) (at x y z) r (now (value .exit)) ⌝ }
+    ensures { λ r.
+        let g = gridOf background
+        (now (blocks .entry)) (now («root_links» .entry)) (now («root_values» .entry)) (now («upper_links» .entry))
+        (now («upper_values» .entry)) (now («lower_links» .entry)) (now («lower_values» .entry)) (now («leaf_values» .entry)) in
+        ⌜ GetsValue g (at x y z) r (now (value .exit)) ⌝ }
 {
     let found = get_value(
         background,
@@ -213,7 +241,11 @@ pub extern "C" fn smokegrid_box_maximum(
     hz: i32,
     value: &mut f32,
 ) -> u32
-    ensures { λ r. ⌜ BoxMaximum (gridOf background (now (blocks .entry)) (now («root_links» .entry)) (now («root_values» .entry)) (now («upper_links» .entry)) (now («upper_values» .entry)) (now («lower_links» .entry)) (now («lower_values» .entry)) (now («leaf_values» .entry))) (between lx ly lz hx hy hz) r (now (value .exit)) ⌝ }
+    ensures { λ r.
+        let g = gridOf background
+        (now (blocks .entry)) (now («root_links» .entry)) (now («root_values» .entry)) (now («upper_links» .entry))
+        (now («upper_values» .entry)) (now («lower_links» .entry)) (now («lower_values» .entry)) (now («leaf_values» .entry)) in
+        ⌜ BoxMaximum g (between lx ly lz hx hy hz) r (now (value .exit)) ⌝ }
 {
     let found = box_maximum(
         background,
@@ -244,7 +276,9 @@ pub extern "C" fn smokegrid_world_to_index_f(
     z: f32,
     index_bits: &mut [u32],
 ) -> u32
-    ensures { λ r. ⌜ WorldToIndex (now (medium .entry)) (record { x = x; y = y; z = z }) (length (now («index_bits» .entry))) r (now («index_bits» .exit)) ⌝ }
+    ensures { λ r.
+        ⌜ WorldToIndex (now (medium .entry)) (record { x = x; y = y; z = z }) (length (now («index_bits» .entry)))
+        r (now («index_bits» .exit)) ⌝ }
 {
     lent::zero_u32(index_bits);
     if medium.len() != 18 {
@@ -275,7 +309,11 @@ pub extern "C" fn smokegrid_build_majorant(
     corners: &[i32],
     majorants: &mut [f32],
 ) -> u32
-    ensures { λ r. ⌜ Builds (gridOf background (now (blocks .entry)) (now («root_links» .entry)) (now («root_values» .entry)) (now («upper_links» .entry)) (now («upper_values» .entry)) (now («lower_links» .entry)) (now («lower_values» .entry)) (now («leaf_values» .entry))) (now (medium .entry)) (now (corners .entry)) (length (now (majorants .entry))) r (now (majorants .exit)) ⌝ }
+    ensures { λ r.
+        let g = gridOf background
+        (now (blocks .entry)) (now («root_links» .entry)) (now («root_values» .entry)) (now («upper_links» .entry))
+        (now («upper_values» .entry)) (now («lower_links» .entry)) (now («lower_values» .entry)) (now («leaf_values» .entry)) in
+        ⌜ Builds g (now (medium .entry)) (now (corners .entry)) (length (now (majorants .entry))) r (now (majorants .exit)) ⌝ }
 {
     if medium.len() != 18 {
         lent::zero_f32(majorants);

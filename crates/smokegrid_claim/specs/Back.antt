@@ -5,7 +5,6 @@ use mathlib.Core.List.{List}
 use Prim.Native.Nat.{ℕ, zero, suc}
 use native.Mathlib.Omega.{arith}
 use lib.IntN.{ℤ}
-use lib.Ieee.{Float}
 use Rattle.refusals.specs.Results.{Result, ok, refused, numberOf}
 use Rattle.refusals.specs.Faults.{passing}
 use Rattle.layout.specs.Bytes.{Bytes}
@@ -18,6 +17,7 @@ use Rattle.claim.specs.Claim.{Alike}
 use Rattle.claim.specs.ContractLaws.{same-medium}
 use Rattle.smokegrid.specs.Flat.{floatsOf, cornersOf, mediumFrom, flatFault, decodeFlat, countsLeft, backgroundLeft, mediumLeft, cornersLeft}
 use Rattle.smokegrid.specs.Promises.{Left, Decodes}
+use Rattle.smokegrid.specs.Back.{medium-back}
 use Rattle.smokegrid_claim.specs.ThroughC.{used, Fits}
 
 -- ---- the decode
@@ -83,17 +83,13 @@ fits-back b l c m k t e =
 
 -- ---- the medium, by C's 18 numbers and 6 corners
 
-back : (b : List ℕ) → mediumFrom (floatsOf (mediumOf b)) (cornersOf (mediumOf b)) ≡ mediumOf b
-unfolding mediumOf mediumAt
-back b = refl
-
 alike : (b : List ℕ) (corners : List ℤ) → Alike (mediumOf b) (mediumFrom (floatsOf (mediumOf b)) corners)
 unfolding mediumOf mediumAt
 alike b corners = record { low = refl; high = refl; map = refl; translation = refl }
 
 module _ (b : List ℕ) (bytes : Bytes b) (l : Lent) (t : Accepted) (e : decodeInto decodeDensity b l ≡ ok t) where
-  pub medium-back : mediumFrom (floatsOf (t .medium)) (cornersOf (t .medium)) ≡ t .medium
-  medium-back = subst (λ (m : Medium). mediumFrom (floatsOf m) (cornersOf m) ≡ m) (sym (same-medium b bytes l t e)) (back b)
+  pub medium-read : mediumFrom (floatsOf (t .medium)) (cornersOf (t .medium)) ≡ t .medium
+  medium-read = subst (λ (m : Medium). mediumFrom (floatsOf m) (cornersOf m) ≡ m) (sym (same-medium b bytes l t e)) (medium-back b)
 
   -- with any corners of the index box the rest is read back
   pub medium-alike : (corners : List ℤ) → Alike (t .medium) (mediumFrom (floatsOf (t .medium)) corners)

@@ -1,65 +1,65 @@
 -- `smokegrid::smokegrid_world_to_index_f` meets its contract: a length that does not pass, or the position in three words. Assumes nothing.
 use native.Mathlib.Omega.{arith}
-use mathlib.Core.Path.{sym, ap, _∙_}
-use mathlib.Core.List.{[], _∷_}
+use mathlib.Core.Path.{_≡_, sym, ap, _∙_}
 use Prim.Native.Nat.{ℕ}
-use lib.IntN.{pos}
-use lib.ListN.{length, getD, replicate}
-use Rattle.refusals.specs.Results.{numberOf, valueOr}
-use Rattle.medium.specs.Medium.{Medium}
-use Rattle.index.specs.declared.Position.{Position}
-use Rattle.index.specs.Answers.{indexBits, positionOf}
-use Rattle.smokegrid.specs.Flat.{mediumFrom, indexFlat}
-use Rattle.smokegrid.proofs.Taken.{index-medium, index-places, index-taken, bits-are}
+use lib.ListN.{length, replicate}
+use Rattle.smokegrid.proofs.Taken.{out-medium, out-places, out-position}
 use borrow.Author.Needs.{needs}
 use Rattle.smokegrid.proofs.smokegrid_world_to_index_f.Statement.{statement}
 use Rattle.smokegrid.proofs.smokegrid_world_to_index_f.Tie as tie
 
-zero-u32-requires : tie.Need-zero-u32-requires
-zero-u32-requires c κs = search needs
+-- ---- places: the words as zeros, the two tests, and the call
+abbrev at-zeros : tie.Else1 → tie.After-zero-u32
+at-zeros c = c .before .before .before
 
-same-length : tie.Need-same-length
-same-length c = search needs
+abbrev at-start : tie.After-zero-u32 → tie.Start
+at-start c = c .before .before .before .before
 
-returns : tie.Need-returns
-returns c = let s = sym (index-medium (c .before .before .before .before .before .before .before .args .medium .now) (record { x = c .before .before .before .before .before .before .before .args .x; y = c .before .before .before .before .before .before .before .args .y; z = c .before .before .before .before .before .before .before .args .z }) (length (c .before .before .before .before .before .before .before .args .index-bits .now)) (c .if1 .taken)) in record { number-is = ap numberOf s; bits-are = c .before .before .before .zero-u32 .ensures ∙ ap (valueOr (replicate (length (c .before .before .before .before .before .before .before .args .index-bits .now)) 0)) s }
+abbrev at-else : tie.After-put-bits-arg → tie.Else2
+at-else c = c .before .before .before .before
 
-same-length-2 : tie.Need-same-length-2
-same-length-2 c = search needs
-
-returns-2 : tie.Need-returns-2
-returns-2 c = let s = sym (index-places (c .before .before .before .before .before .before .before .before .args .medium .now) (record { x = c .before .before .before .before .before .before .before .before .args .x; y = c .before .before .before .before .before .before .before .before .args .y; z = c .before .before .before .before .before .before .before .before .args .z }) (length (c .before .before .before .before .before .before .before .before .args .index-bits .now)) (c .before .if1 .left) (λ e. c .if2 .taken (c .before .before .before .before .zero-u32 .kept .0 ∙ e))) in record { number-is = ap numberOf s; bits-are = c .before .before .before .before .zero-u32 .ensures ∙ ap (valueOr (replicate (length (c .before .before .before .before .before .before .before .before .args .index-bits .now)) 0)) s }
-
-slice-aggregate-medium-from : tie.Need-slice-aggregate-medium-from
-slice-aggregate-medium-from c = omega arith
-
-medium-from-requires : tie.Need-medium-from-requires
-medium-from-requires c κs = search needs
-
-world-to-index-f-requires : tie.Need-world-to-index-f-requires
-world-to-index-f-requires c κs = search needs
+-- there are three words
+three : (c : tie.Else2) → length (at-start (at-zeros (c .before)) .args .index-bits .now) ≡ 3
+three c = sym (at-zeros (c .before) .zero-u32 .kept .0) ∙ c .if2 .left
 
 put-bits-requires : tie.Need-put-bits-requires
-put-bits-requires c κs = c .before .before .before .before .before .before .before .before .zero-u32 .ensures ∙ ap (λ (n : ℕ). replicate n 0) (sym (c .before .before .before .before .before .before .before .before .zero-u32 .kept .0) ∙ c .before .before .before .before .if2 .left)
+put-bits-requires c κs =
+    let e = at-else c in
+    at-zeros (e .before) .zero-u32 .ensures ∙ ap (λ (n : ℕ). replicate n 0) (three e)
 
-same-length-3 : tie.Need-same-length-3
-same-length-3 c = c .before .before .put-bits .kept .0 ∙ c .before .before .before .before .before .before .before .before .before .before .before .zero-u32 .kept .0
+words-same : tie.Need-same-length-3
+words-same c =
+    let p = c .before .before in
+    p .put-bits .kept .0 ∙ at-zeros (at-else (p .before) .before) .zero-u32 .kept .0
 
-returns-3 : tie.Need-returns-3
-returns-3 c = let s = sym (index-taken (c .before .before .before .before .before .before .before .before .before .before .before .before .before .before .before .args .medium .now) (record { x = c .before .before .before .before .before .before .before .before .before .before .before .before .before .before .before .args .x; y = c .before .before .before .before .before .before .before .before .before .before .before .before .before .before .before .args .y; z = c .before .before .before .before .before .before .before .before .before .before .before .before .before .before .before .args .z }) (length (c .before .before .before .before .before .before .before .before .before .before .before .before .before .before .before .args .index-bits .now)) (c .before .before .before .before .before .before .before .before .if1 .left) (sym (c .before .before .before .before .before .before .before .before .before .before .before .zero-u32 .kept .0) ∙ c .before .before .before .before .before .before .before .if2 .left)) in let e = c .before .before .before .before .world-to-index-f .ensures ∙ ap (λ (m : Medium). positionOf (indexBits m (record { x = c .before .before .before .before .before .before .before .before .before .before .before .before .before .before .before .args .x; y = c .before .before .before .before .before .before .before .before .before .before .before .before .before .before .before .args .y; z = c .before .before .before .before .before .before .before .before .before .before .before .before .before .before .before .args .z }))) (c .before .before .before .before .before .medium-from .ensures) in record { number-is = ap (λ (q : Position). q .number) e ∙ ap numberOf s; bits-are = c .before .before .put-bits .ensures ∙ ap (λ (q : Position). getD (q .bits) 0 0 ∷ getD (q .bits) 1 0 ∷ getD (q .bits) 2 0 ∷ []) e ∙ bits-are (mediumFrom (c .before .before .before .before .before .before .before .before .before .before .before .before .before .before .before .args .medium .now) (replicate 6 (pos 0))) (record { x = c .before .before .before .before .before .before .before .before .before .before .before .before .before .before .before .args .x; y = c .before .before .before .before .before .before .before .before .before .before .before .before .before .before .before .args .y; z = c .before .before .before .before .before .before .before .before .before .before .before .before .before .before .before .args .z }) ∙ ap (valueOr (replicate 3 0)) s ∙ ap (λ (k : ℕ). valueOr (replicate k 0) (indexFlat (c .before .before .before .before .before .before .before .before .before .before .before .before .before .before .before .args .medium .now) (record { x = c .before .before .before .before .before .before .before .before .before .before .before .before .before .before .before .args .x; y = c .before .before .before .before .before .before .before .before .before .before .before .before .before .before .before .args .y; z = c .before .before .before .before .before .before .before .before .before .before .before .before .before .before .before .args .z }) (length (c .before .before .before .before .before .before .before .before .before .before .before .before .before .before .before .args .index-bits .now)))) (sym (sym (c .before .before .before .before .before .before .before .before .before .before .before .zero-u32 .kept .0) ∙ c .before .before .before .before .before .before .before .if2 .left)) }
+-- ---- the ways out
+medium-out : tie.Need-returns
+medium-out c = out-medium (c .if1 .taken) (c .before .before .before .zero-u32 .ensures)
+
+places-out : tie.Need-returns-2
+places-out c =
+    let z = at-zeros (c .before) in
+    out-places (c .before .if1 .left) (λ e. c .if2 .taken (z .zero-u32 .kept .0 ∙ e)) (z .zero-u32 .ensures)
+
+position-out : tie.Need-returns-3
+position-out c =
+    let p = c .before .before in
+    let w = p .before .before in
+    let e = at-else (p .before) in
+    out-position (e .before .if1 .left) (three e) (w .before .medium-from .ensures) (w .world-to-index-f .ensures) (p .put-bits .ensures)
 
 pub smokegrid-world-to-index-f-spec : {M : Type 1} → statement M
 smokegrid-world-to-index-f-spec =
     tie.close
     (tie.spec
-    zero-u32-requires
-    same-length
-    returns
-    same-length-2
-    returns-2
-    slice-aggregate-medium-from
-    medium-from-requires
-    world-to-index-f-requires
+    (λ c κs. search needs)
+    (λ c. search needs)
+    medium-out
+    (λ c. search needs)
+    places-out
+    (λ c. omega arith)
+    (λ c κs. search needs)
+    (λ c κs. search needs)
     put-bits-requires
-    same-length-3
-    returns-3)
+    words-same
+    position-out)
