@@ -20,7 +20,7 @@ pub fn decode_density_grid(
     work: &mut [u64],
     record: &mut Record,
 ) -> u32 {
-    // SAFETY: each pointer is valid for its length; the interface asks nothing else.
+    // SAFETY: each pointer is valid for its length, and what is written is borrowed mutably, so it overlaps nothing.
     unsafe {
         smokegrid_decode_density_grid(
             bytes.as_ptr(),
@@ -73,7 +73,7 @@ pub fn box_maximum(tables: &Tables, low: [i32; 3], high: [i32; 3], value: &mut f
 }
 
 pub fn world_to_index_f(medium: &[f32; 18], [x, y, z]: [f32; 3], index_bits: &mut [u32; 3]) -> u32 {
-    // SAFETY: each pointer is valid for its length; the interface asks nothing else.
+    // SAFETY: each pointer is valid for its length, and what is written is borrowed mutably, so it overlaps nothing.
     unsafe {
         smokegrid_world_to_index_f(
             medium.as_ptr(),

@@ -79,7 +79,7 @@ extern "C" {
 macro_rules! with_grid {
     ($name:ident, $tables:expr $(, $argument:expr)*) => {{
         let t = $tables;
-        // SAFETY: each pointer is valid for its length; the interface asks nothing else.
+        // SAFETY: each pointer is valid for its length, and what is written is borrowed mutably, so it overlaps nothing.
         unsafe {
             $name(
                 t.background,

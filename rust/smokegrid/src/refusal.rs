@@ -163,9 +163,9 @@ impl std::error::Error for Refusal {}
 mod tests {
     use super::*;
 
-    /// The numbers, meanings and names of README.md's table.
+    /// The numbers, meanings and names of the table in docs/REFUSALS.md.
     fn readme() -> Vec<(u32, String, String)> {
-        let text = include_str!("../../../README.md");
+        let text = include_str!("../../../docs/REFUSALS.md");
         let cells = |line: &str| -> Option<(u32, String, String)> {
             let mut cells = line.strip_prefix('|')?.strip_suffix('|')?.split('|').map(str::trim);
             let number = cells.next()?.parse().ok()?;
