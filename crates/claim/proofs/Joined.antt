@@ -91,7 +91,8 @@ used-in {b = b} {l = l} d z =
     subst (λ (X : Type 0). X) (sym (λ i. Used ((d .answer-is ∙ ap answerOf e) i) ((d .tables-are ∙ ap (leftOf l) e) i))) (used-room b l t e)
 
 -- the work table has no used part
-pub workless : {a : Lent.Answer} {t : Tables} → Used a t → Used a (tables (t .blocks) (t .rootLinks) (t .rootValues) (t .upperLinks) (t .upperValues) (t .lowerLinks) (t .lowerValues) (t .leafValues) [])
+pub workless : {a : Lent.Answer} {t : Tables} → Used a t
+    → Used a (tables (t .blocks) (t .rootLinks) (t .rootValues) (t .upperLinks) (t .upperValues) (t .lowerLinks) (t .lowerValues) (t .leafValues) [])
 workless u = record {
   blocks = u .blocks;
   rootLinks = u .rootLinks;
@@ -208,7 +209,8 @@ module _ (b : List ℕ) (l : Lent) (places : ℕ) where
       cell = λ z.
           let B = Built.accepted (t .grid) (t .medium) cells places z in
           let is : table ≡ B .table = table-is ∙ ap (valueOr (replicate places +0)) (B .into) in
-          let bounds = subst (λ (m : Medium). (x : Axis) → boundsFault m x ≡ 0) (same-medium b bytes l t e) (built (t .grid) (t .medium) cells (B .table) (B .is) .bounds) in
+          let bounds = subst (λ (m : Medium). (x : Axis) → boundsFault m x ≡ 0) (same-medium b bytes l t e)
+          (built (t .grid) (t .medium) cells (B .table) (B .is) .bounds) in
           let figures = subst (λ (f : List Float). (p : Point) → Inside b p → Bounds b f p) is (claim .figures z) in
           subst (λ (X : Type 0). X) (sym (λ i. Figured b q (joined (loadAnswer (withBuild places (ok t))) (seenOf (ok t)) (foundOf (B .into i))) (is i)))
           (figured (loadAnswer (withBuild places (ok t))) (seenOf (ok t)) (B .table) bounds figures);

@@ -21,7 +21,8 @@ use Rattle.majorant.specs.BoxExamples.{rootless-grid, minus-two}
 
 pub record Bench : Type 0 where
   -- -4097, -4096, -1, 4095 give blocks -2, -1, -1, 0
-  pub blocks : (blockOf (at (negsuc 4096) (negsuc 4095) (negsuc 0)) ≡ at (negsuc 1) (negsuc 0) (negsuc 0)) × (blockOf (at (pos 0) (pos 4095) (pos 4096)) ≡ at (pos 0) (pos 0) (pos 1))
+  pub blocks : (blockOf (at (negsuc 4096) (negsuc 4095) (negsuc 0)) ≡ at (negsuc 1) (negsuc 0) (negsuc 0))
+      × (blockOf (at (pos 0) (pos 4095) (pos 4096)) ≡ at (pos 0) (pos 0) (pos 1))
   -- key 3ffffc0000000000 is block (-1, 0, 0)
   pub key : (e : Entry) → rootOf 0x3ffffc0000000000 e ≡ record { x = negsuc 0; y = pos 0; z = pos 0; entry = e }
   -- bit 62 alone, in the sample's key: 7
@@ -31,7 +32,8 @@ pub record Bench : Type 0 where
   -- root offset 63: 6; 64 passes. The bytes are 832 with a root of no tiles, its count field and its span inside (`empty`)
   pub offsets : (numberOf (decodeDensity (empty 63) places) ≡ 6) × (numberOf (decodeDensity (empty 64) places) ≡ 0)
   -- version 67,108,864 passes; 69,206,016: 3
-  pub versions : (numberOf (decodeDensity (sampleWith (field 16 4 67108864 ∷ [])) places) ≡ 0) × (numberOf (decodeDensity (sampleWith (field 16 4 69206016 ∷ [])) places) ≡ 3)
+  pub versions : (numberOf (decodeDensity (sampleWith (field 16 4 67108864 ∷ [])) places) ≡ 0)
+      × (numberOf (decodeDensity (sampleWith (field 16 4 69206016 ∷ [])) places) ≡ 3)
   -- mul_add of 3f800001, 3f800001, bf800002 is 28800000
   pub mul-add : mulAdd 0x3f80_0001 0x3f80_0001 0xbf80_0002 ≡ 0x2880_0000
   -- f64 1 + 2^-24 narrows to 3f800000

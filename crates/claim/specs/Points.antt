@@ -35,32 +35,62 @@ use Rattle.refusals.specs.Results.{ok}
 -- ---- a medium alike has the same corners and the same map
 corner-alike : (m n : Medium) → Alike m n → (a : Axis) (c k : ℕ) → corner n a c k ≡ corner m a c k
 unfolding corner
-corner-alike m n A a c k = λ i. corner (record { low = A .low i; high = A .high i; indexLow = n .indexLow; indexHigh = n .indexHigh; map = n .map; translation = n .translation }) a c k
+corner-alike m n A a c k = λ i. corner (record {
+  low = A .low i;
+  high = A .high i;
+  indexLow = n .indexLow;
+  indexHigh = n .indexHigh;
+  map = n .map;
+  translation = n .translation;
+}) a c k
 
 index-alike : (m n : Medium) → Alike m n → (p : Point) (a : Axis) → worldToIndex n p a ≡ worldToIndex m p a
 unfolding worldToIndex
-index-alike m n A p a = λ i. worldToIndex (record { low = n .low; high = n .high; indexLow = n .indexLow; indexHigh = n .indexHigh; map = A .map i; translation = A .translation i }) p a
+index-alike m n A p a = λ i. worldToIndex (record {
+  low = n .low;
+  high = n .high;
+  indexLow = n .indexLow;
+  indexHigh = n .indexHigh;
+  map = A .map i;
+  translation = A .translation i;
+}) p a
 
 cell-alike : (m n : Medium) → Alike m n → (c : Cells) (k o : ℕ) → cellCorner n c k o ≡ cellCorner m c k o
-cell-alike m n A c k o = λ i. record { x = corner-alike m n A xAxis (c .x) (cellAxis c k xAxis + o) i; y = corner-alike m n A yAxis (c .y) (cellAxis c k yAxis + o) i; z = corner-alike m n A zAxis (c .z) (cellAxis c k zAxis + o) i }
+cell-alike m n A c k o = λ i. record {
+  x = corner-alike m n A xAxis (c .x) (cellAxis c k xAxis + o) i;
+  y = corner-alike m n A yAxis (c .y) (cellAxis c k yAxis + o) i;
+  z = corner-alike m n A zAxis (c .z) (cellAxis c k zAxis + o) i;
+}
 
 -- the test on `Encloses`, both ways
 encloses-alike : (m n : Medium) → Alike m n → (c : Cells) (k : ℕ) (p : Point) → EnclosesIn n c k p ≡ EnclosesIn m c k p
 encloses-alike m n A c k p = λ i. Between (cell-alike m n A c k 0 i) (cell-alike m n A c k 1 i) p
 
 around-alike : (m n : Medium) → Alike m n → (p : Point) (c : Coord) → AroundIn n p c ≡ AroundIn m p c
-around-alike m n A p c = λ i. (a : Axis) → mathlib.Core.Logic._⊎_ (onCoord a c ≡ floorZ (index-alike m n A p a i)) (onCoord a c ≡ lib.IntN.sucℤ (floorZ (index-alike m n A p a i)))
+around-alike m n A p c = λ i. (a : Axis)
+    → mathlib.Core.Logic._⊎_ (onCoord a c ≡ floorZ (index-alike m n A p a i)) (onCoord a c ≡ lib.IntN.sucℤ (floorZ (index-alike m n A p a i)))
 
 -- ---- the corners and the map in the bytes
 pub fitting : (b : List ℕ) → Fitting (mediumOf b)
 unfolding mediumOf mediumAt
 fitting b = record {
-  low = λ a. elim a [ xAxis ↦ narrow-fits (ofBits binary64 (u64At b 560)) | yAxis ↦ narrow-fits (ofBits binary64 (u64At b 568)) | zAxis ↦ narrow-fits (ofBits binary64 (u64At b 576)) ];
-  high = λ a. elim a [ xAxis ↦ narrow-fits (ofBits binary64 (u64At b 584)) | yAxis ↦ narrow-fits (ofBits binary64 (u64At b 592)) | zAxis ↦ narrow-fits (ofBits binary64 (u64At b 600)) ];
+  low = λ a. elim a [
+    | xAxis ↦ narrow-fits (ofBits binary64 (u64At b 560))
+    | yAxis ↦ narrow-fits (ofBits binary64 (u64At b 568))
+    | zAxis ↦ narrow-fits (ofBits binary64 (u64At b 576))
+  ];
+  high = λ a. elim a [
+    | xAxis ↦ narrow-fits (ofBits binary64 (u64At b 584))
+    | yAxis ↦ narrow-fits (ofBits binary64 (u64At b 592))
+    | zAxis ↦ narrow-fits (ofBits binary64 (u64At b 600))
+  ];
 }
 
 pub few : Numbered cells
-few = record { some = λ a. elim a [ xAxis ↦ lit< tt | yAxis ↦ lit< tt | zAxis ↦ lit< tt ]; few = λ a. elim a [ xAxis ↦ lit≤ tt | yAxis ↦ lit≤ tt | zAxis ↦ lit≤ tt ] }
+few = record {
+  some = λ a. elim a [ xAxis ↦ lit< tt | yAxis ↦ lit< tt | zAxis ↦ lit< tt ];
+  few = λ a. elim a [ xAxis ↦ lit≤ tt | yAxis ↦ lit≤ tt | zAxis ↦ lit≤ tt ];
+}
 
 -- the third field of `Holds`, from the first
 pub points : (b : List ℕ) (q : Places) (t : Accepted) → decodeDensity b q ≡ ok t → ((c : Coord) → Signed32 c → readIn (t .grid) c ≡ voxel b c)
@@ -70,9 +100,11 @@ points b q t d same m A l e p h =
     let B : Alike M m = subst (λ (x : Medium). Alike x m) (density-passed b q t d .0 .medium) A in
     let G = built (t .grid) m cells l e in
     record {
-      enclosed = (let (k, K, i) = enclosed m cells few (held M m B (fitting b)) (G .bounds) p (moved M m B h) in (k, K, subst (λ (X : Type 0). X) (encloses-alike M m B cells k p) i));
+      enclosed = (let (k, K, i) = enclosed m cells few (held M m B (fitting b)) (G .bounds) p
+          (moved M m B h) in (k, K, subst (λ (X : Type 0). X) (encloses-alike M m B cells k p) i));
       bounded = λ k K i c r.
-          let (s, f) = bounded (t .grid) m cells l e p k K (subst (λ (X : Type 0). X) (sym (encloses-alike M m B cells k p)) i) c (subst (λ (X : Type 0). X) (sym (around-alike M m B p c)) r) in
+          let (s, f) = bounded (t .grid) m cells l e p k K (subst (λ (X : Type 0). X) (sym (encloses-alike M m B cells k p)) i) c
+          (subst (λ (X : Type 0). X) (sym (around-alike M m B p c)) r) in
           (s, subst (λ (x : Float). lt (getD l k +0) x ≡ false) (same c s) f);
     }
   where
@@ -87,17 +119,20 @@ points b q t d same m A l e p h =
 
 -- the second field of `Holds`, from the first
 pub maxima : (b : List ℕ) (q : Places) (t : Accepted) → decodeDensity b q ≡ ok t → ((c : Coord) → Signed32 c → readIn (t .grid) c ≡ voxel b c)
-    → (x : Box) → Signed32 (x .lo) → Signed32 (x .hi) → (publicMaximum (t .grid) x ≡ ok (boxMaximum (voxel b) x)) × Greatest (voxel b) x (boxMaximum (voxel b) x)
+    → (x : Box) → Signed32 (x .lo) → Signed32 (x .hi) → (publicMaximum (t .grid) x ≡ ok (boxMaximum (voxel b) x))
+    × Greatest (voxel b) x (boxMaximum (voxel b) x)
 unfolding publicMaximum
 maxima b q t d same x l h = (
-  ap (λ (n : ℕ). passing n (ok (boxMaximum (readIn (t .grid)) x))) (density-passed b q t d .0 .valid) ∙ ap ok (max-same (readIn (t .grid)) (voxel b) x (λ c i. same c (record {
-    x = mag-between (x .lo .x) (c .x) (x .hi .x) (2 ^ 31) (i .x-low .le) (i .x-high .le) (l .x) (h .x);
-    y = mag-between (x .lo .y) (c .y) (x .hi .y) (2 ^ 31) (i .y-low .le) (i .y-high .le) (l .y) (h .y);
-    z = mag-between (x .lo .z) (c .z) (x .hi .z) (2 ^ 31) (i .z-low .le) (i .z-high .le) (l .z) (h .z);
-  }))),
+  ap (λ (n : ℕ). passing n (ok (boxMaximum (readIn (t .grid)) x))) (density-passed b q t d .0 .valid)
+      ∙ ap ok (max-same (readIn (t .grid)) (voxel b) x (λ c i. same c (record {
+        x = mag-between (x .lo .x) (c .x) (x .hi .x) (2 ^ 31) (i .x-low .le) (i .x-high .le) (l .x) (h .x);
+        y = mag-between (x .lo .y) (c .y) (x .hi .y) (2 ^ 31) (i .y-low .le) (i .y-high .le) (l .y) (h .y);
+        z = mag-between (x .lo .z) (c .z) (x .hi .z) (2 ^ 31) (i .z-low .le) (i .z-high .le) (l .z) (h .z);
+      }))),
   greatest (voxel b) x,
 )
 
 -- all that is left of the claim is that a lookup reads what the walk reads
-pub holds : (b : List ℕ) (q : Places) (t : Accepted) → decodeDensity b q ≡ ok t → ((c : Coord) → Signed32 c → ReadsAs b c (lookup (t .grid) c)) → ((c : Coord) → Signed32 c → readIn (t .grid) c ≡ voxel b c) → Holds b t
+pub holds : (b : List ℕ) (q : Places) (t : Accepted) → decodeDensity b q ≡ ok t → ((c : Coord) → Signed32 c → ReadsAs b c (lookup (t .grid) c))
+    → ((c : Coord) → Signed32 c → readIn (t .grid) c ≡ voxel b c) → Holds b t
 holds b q t d reads same = record { lookups = reads; maxima = maxima b q t d same; figures = points b q t d same }

@@ -26,17 +26,25 @@ module _ {A : Type 0} where
   abbrev pub three : List A → ℕ → A → A → A → List A
   three l k x y z = set (set (set l k x) (k + 1) y) (k + 2) z
 
-  pub eighteen : (l l₁ l₂ l₃ l₄ l₅ l₆ : List A) (z a₀ a₁ a₂ a₃ a₄ a₅ a₆ a₇ a₈ a₉ b₀ b₁ b₂ b₃ b₄ b₅ b₆ b₇ : A) → l ≡ replicate 18 z
-      → l₁ ≡ three l 0 a₀ a₁ a₂ → l₂ ≡ three l₁ 3 a₃ a₄ a₅ → l₃ ≡ three l₂ 6 a₆ a₇ a₈ → l₄ ≡ three l₃ 9 a₉ b₀ b₁ → l₅ ≡ three l₄ 12 b₂ b₃ b₄ → l₆ ≡ three l₅ 15 b₅ b₆ b₇
+  -- six times three
+  pub eighteen : {l l₁ l₂ l₃ l₄ l₅ l₆ : List A} {z a₀ a₁ a₂ a₃ a₄ a₅ a₆ a₇ a₈ a₉ b₀ b₁ b₂ b₃ b₄ b₅ b₆ b₇ : A} → l ≡ replicate 18 z
+      → l₁ ≡ three l 0 a₀ a₁ a₂ → l₂ ≡ three l₁ 3 a₃ a₄ a₅ → l₃ ≡ three l₂ 6 a₆ a₇ a₈
+      → l₄ ≡ three l₃ 9 a₉ b₀ b₁ → l₅ ≡ three l₄ 12 b₂ b₃ b₄ → l₆ ≡ three l₅ 15 b₅ b₆ b₇
       → l₆ ≡ a₀ ∷ a₁ ∷ a₂ ∷ a₃ ∷ a₄ ∷ a₅ ∷ a₆ ∷ a₇ ∷ a₈ ∷ a₉ ∷ b₀ ∷ b₁ ∷ b₂ ∷ b₃ ∷ b₄ ∷ b₅ ∷ b₆ ∷ b₇ ∷ []
-  eighteen l l₁ l₂ l₃ l₄ l₅ l₆ z a₀ a₁ a₂ a₃ a₄ a₅ a₆ a₇ a₈ a₉ b₀ b₁ b₂ b₃ b₄ b₅ b₆ b₇ e e₁ e₂ e₃ e₄ e₅ e₆ =
-      e₆ ∙ ap (λ (x : List A). three x 15 b₅ b₆ b₇) (e₅ ∙ ap (λ (x : List A). three x 12 b₂ b₃ b₄) (e₄ ∙ ap (λ (x : List A). three x 9 a₉ b₀ b₁) (e₃ ∙ ap (λ (x : List A). three x 6 a₆ a₇ a₈)
-      (e₂ ∙ ap (λ (x : List A). three x 3 a₃ a₄ a₅) (e₁ ∙ ap (λ (x : List A). three x 0 a₀ a₁ a₂) e)))))
+  eighteen {a₀ = a₀} {a₁} {a₂} {a₃} {a₄} {a₅} {a₆} {a₇} {a₈} {a₉} {b₀} {b₁} {b₂} {b₃} {b₄} {b₅} {b₆} {b₇} e e₁ e₂ e₃ e₄ e₅ e₆ =
+      e₆ ∙ ap (λ (x : List A). three x 15 b₅ b₆ b₇)
+      (e₅ ∙ ap (λ (x : List A). three x 12 b₂ b₃ b₄)
+      (e₄ ∙ ap (λ (x : List A). three x 9 a₉ b₀ b₁)
+      (e₃ ∙ ap (λ (x : List A). three x 6 a₆ a₇ a₈)
+      (e₂ ∙ ap (λ (x : List A). three x 3 a₃ a₄ a₅)
+      (e₁ ∙ ap (λ (x : List A). three x 0 a₀ a₁ a₂) e)))))
 
 -- an i32 that a local holds as bits
 pub seen : (z : ℤ) → mag z < 2 ^ 31 → toZ w32 (ofZ w32 z) ≡ z
 seen z h = toZ-ofZ {w = w32} {z = z} (record { sfits = h })
 
-pub six-signed : (l : List ℤ) (a b c d e f : ℤ) → mag a < 2 ^ 31 → mag b < 2 ^ 31 → mag c < 2 ^ 31 → mag d < 2 ^ 31 → mag e < 2 ^ 31 → mag f < 2 ^ 31 → l ≡ replicate 6 (pos 0)
-    → set (set (set (set (set (set l 0 (toZ w32 (ofZ w32 a))) 1 (toZ w32 (ofZ w32 b))) 2 (toZ w32 (ofZ w32 c))) 3 (toZ w32 (ofZ w32 d))) 4 (toZ w32 (ofZ w32 e))) 5 (toZ w32 (ofZ w32 f)) ≡ a ∷ b ∷ c ∷ d ∷ e ∷ f ∷ []
+pub six-signed : (l : List ℤ) (a b c d e f : ℤ) → mag a < 2 ^ 31 → mag b < 2 ^ 31 → mag c < 2 ^ 31 → mag d < 2 ^ 31 → mag e < 2 ^ 31 → mag f < 2 ^ 31
+    → l ≡ replicate 6 (pos 0)
+    → set (set (set (set (set (set l 0 (toZ w32 (ofZ w32 a))) 1 (toZ w32 (ofZ w32 b))) 2 (toZ w32 (ofZ w32 c))) 3 (toZ w32 (ofZ w32 d))) 4
+    (toZ w32 (ofZ w32 e))) 5 (toZ w32 (ofZ w32 f)) ≡ a ∷ b ∷ c ∷ d ∷ e ∷ f ∷ []
 six-signed l a b c d e f A B C D E F h = six l (pos 0) _ _ _ _ _ _ h ∙ (λ i. seen a A i ∷ seen b B i ∷ seen c C i ∷ seen d D i ∷ seen e E i ∷ seen f F i ∷ [])

@@ -23,7 +23,8 @@ countsOf a = a .roots ∷ a .upper ∷ a .lower ∷ a .leaf ∷ []
 
 -- world minimum, world maximum, inverse map row after row, translation
 abbrev pub floatsOf : Medium → List Float
-floatsOf m = m .low .x ∷ m .low .y ∷ m .low .z ∷ m .high .x ∷ m .high .y ∷ m .high .z ∷ (m .map ++ (m .translation .x ∷ m .translation .y ∷ m .translation .z ∷ []))
+floatsOf m = m .low .x ∷ m .low .y ∷ m .low .z ∷ m .high .x ∷ m .high .y ∷ m .high .z
+    ∷ (m .map ++ (m .translation .x ∷ m .translation .y ∷ m .translation .z ∷ []))
 
 -- index minimum, index maximum
 abbrev pub cornersOf : Medium → List ℤ

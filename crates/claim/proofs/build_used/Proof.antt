@@ -63,13 +63,14 @@ room c = at-start c .pre (c .if1 .left)
 -- ---- the ways out
 refused-out : tie.Need-returns
 refused-out c =
-    let t = c .before .before .before .before in
+    let z = c .before .before in
+    let t = z .before .before in
     let s = at-entry t in
     let a = s .args in
     let places = length (a .majorants .now) in
     let r = buildInto (usedOf (decoded (a .d)) (lent s)) (asMedium (a .d .medium)) cells places in
     let stop = passing-stop (a .d .number) r (t .if1 .taken) in
-    (ap numberOf (sym stop), c .before .before .zero-f32 .ensures ∙ ap (valueOr (replicate places +0)) (sym stop))
+    (ap numberOf (sym stop), z .zero-f32 .ensures ∙ ap (valueOr (replicate places +0)) (sym stop))
 
 built-out : tie.Need-returns-2
 built-out c =

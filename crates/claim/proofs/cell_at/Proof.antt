@@ -1,8 +1,8 @@
 -- `claim::cell_at` meets its contract: the search on each axis, or one that found none. Assumes nothing.
-use mathlib.Core.Path.{sym, _∙_}
+use mathlib.Core.Path.{_≡_, sym, _∙_}
 use Prim.Native.Nat.{_+_, _*_}
 use native.Mathlib.Omega.{arith}
-use Rattle.medium.specs.Medium.{xAxis, yAxis, zAxis}
+use Rattle.medium.specs.Medium.{Medium, Point, xAxis, yAxis, zAxis}
 use Rattle.medium.specs.Record.{asMedium, pointOf}
 use Rattle.index.specs.Found.{axisCell}
 use Rattle.index.specs.Enclosed.{cell-met, cell-none}
@@ -11,93 +11,70 @@ use borrow.Author.Needs.{needs}
 use Rattle.claim.proofs.cell_at.Statement.{statement}
 use Rattle.claim.proofs.cell_at.Tie as tie
 
-x-line-requires : tie.Need-x-line-requires
-x-line-requires c κs = search needs
+-- ---- places: the start, and the search on each axis
+abbrev at-y : tie.After-axis-cell3 → tie.After-axis-cell2
+at-y c = c .before .before
 
-array-read-axis-cell : tie.Need-array-read-axis-cell
-array-read-axis-cell c = search needs
+abbrev at-x : tie.After-axis-cell2 → tie.After-axis-cell
+at-x c = c .before .before
 
-axis-cell-requires : tie.Need-axis-cell-requires
-axis-cell-requires c κs = search needs
+abbrev at-start : tie.After-axis-cell3 → tie.Start
+at-start c = at-x (at-y c) .before .before
 
-y-line-requires : tie.Need-y-line-requires
-y-line-requires c κs = search needs
+abbrev medium : tie.After-axis-cell3 → Medium
+medium c = asMedium (at-start c .args .m)
 
-array-read-axis-cell-2 : tie.Need-array-read-axis-cell-2
-array-read-axis-cell-2 c = search needs
+abbrev point : tie.After-axis-cell3 → Point
+point c = pointOf (at-start c .args .t2)
 
-axis-cell-requires-2 : tie.Need-axis-cell-requires-2
-axis-cell-requires-2 c κs = search needs
+-- ---- what each search answers, by the corners of the medium
+x-is : (c : tie.After-axis-cell3) → at-x (at-y c) .axis-cell .result ≡ axisCell (medium c .low .x) (medium c .high .x) 64 (point c .x)
+x-is c = let s = at-x (at-y c) in s .axis-cell .ensures ∙ (λ i. axisCell (s .before .x-line .ensures i .low) (s .before .x-line .ensures i .high) 64 (point c .x))
 
-z-line-requires : tie.Need-z-line-requires
-z-line-requires c κs = search needs
+y-is : (c : tie.After-axis-cell3) → at-y c .axis-cell2 .result ≡ axisCell (medium c .low .y) (medium c .high .y) 64 (point c .y)
+y-is c = let s = at-y c in s .axis-cell2 .ensures ∙ (λ i. axisCell (s .before .y-line .ensures i .low) (s .before .y-line .ensures i .high) 64 (point c .y))
 
-array-read-axis-cell-3 : tie.Need-array-read-axis-cell-3
-array-read-axis-cell-3 c = search needs
+z-is : (c : tie.After-axis-cell3) → c .axis-cell3 .result ≡ axisCell (medium c .low .z) (medium c .high .z) 64 (point c .z)
+z-is c = c .axis-cell3 .ensures ∙ (λ i. axisCell (c .before .z-line .ensures i .low) (c .before .z-line .ensures i .high) 64 (point c .z))
 
-axis-cell-requires-3 : tie.Need-axis-cell-requires-3
-axis-cell-requires-3 c κs = search needs
+-- ---- the ways out: an axis that found none, and a cell of each
+x-none : tie.Need-returns
+x-none c = let s = c .before in sym (cell-none (medium s) cells (point s) xAxis (omega (arith, c .if1 .taken, x-is s)))
 
-returns : tie.Need-returns
-returns c =
-    let m = asMedium (c .before .before .before .before .before .before .before .args .m) in
-    let p = pointOf (c .before .before .before .before .before .before .before .args .t2) in
-    let e = c .before .before .before .before .before .axis-cell .ensures ∙ (λ i. axisCell (c .before .before .before .before .before .before .x-line .ensures i .low) (c .before .before .before .before .before .before .x-line .ensures i .high) 64 (pointOf (c .before .before .before .before .before .before .before .args .t2) .x)) in
-    sym (cell-none m cells p xAxis (omega (arith, c .if1 .taken, e)))
+y-none : tie.Need-returns-2
+y-none c = let s = c .before .before in sym (cell-none (medium s) cells (point s) yAxis (omega (arith, c .if2 .taken, y-is s)))
 
-returns-2 : tie.Need-returns-2
-returns-2 c =
-    let m = asMedium (c .before .before .before .before .before .before .before .before .args .m) in
-    let p = pointOf (c .before .before .before .before .before .before .before .before .args .t2) in
-    let e = c .before .before .before .before .axis-cell2 .ensures ∙ (λ i. axisCell (c .before .before .before .before .before .y-line .ensures i .low) (c .before .before .before .before .before .y-line .ensures i .high) 64 (pointOf (c .before .before .before .before .before .before .before .before .args .t2) .y)) in
-    sym (cell-none m cells p yAxis (omega (arith, c .if2 .taken, e)))
+z-none : tie.Need-returns-3
+z-none c = let s = c .before .before .before in sym (cell-none (medium s) cells (point s) zAxis (omega (arith, c .if3 .taken, z-is s)))
 
-returns-3 : tie.Need-returns-3
-returns-3 c =
-    let m = asMedium (c .before .before .before .before .before .before .before .before .before .args .m) in
-    let p = pointOf (c .before .before .before .before .before .before .before .before .before .args .t2) in
-    let e = c .before .before .before .axis-cell3 .ensures ∙ (λ i. axisCell (c .before .before .before .before .z-line .ensures i .low) (c .before .before .before .before .z-line .ensures i .high) 64 (pointOf (c .before .before .before .before .before .before .before .before .before .args .t2) .z)) in
-    sym (cell-none m cells p zAxis (omega (arith, c .if3 .taken, e)))
-
-mul-result : tie.Need-mul-result
-mul-result c = search needs
-
-add-result : tie.Need-add-result
-add-result c = search needs
-
-mul-result-2 : tie.Need-mul-result-2
-mul-result-2 c = search needs
-
-add-result-2 : tie.Need-add-result-2
-add-result-2 c = search needs
-
-returns-4 : tie.Need-returns-4
-returns-4 c =
-    let m = asMedium (c .before .before .before .before .before .before .before .before .before .args .m) in
-    let p = pointOf (c .before .before .before .before .before .before .before .before .before .args .t2) in
-    let x = c .before .before .before .before .before .before .before .axis-cell .ensures ∙ (λ i. axisCell (c .before .before .before .before .before .before .before .before .x-line .ensures i .low) (c .before .before .before .before .before .before .before .before .x-line .ensures i .high) 64 (pointOf (c .before .before .before .before .before .before .before .before .before .args .t2) .x)) in
-    let y = c .before .before .before .before .before .axis-cell2 .ensures ∙ (λ i. axisCell (c .before .before .before .before .before .before .y-line .ensures i .low) (c .before .before .before .before .before .before .y-line .ensures i .high) 64 (pointOf (c .before .before .before .before .before .before .before .before .before .args .t2) .y)) in
-    let z = c .before .before .before .axis-cell3 .ensures ∙ (λ i. axisCell (c .before .before .before .before .z-line .ensures i .low) (c .before .before .before .before .z-line .ensures i .high) 64 (pointOf (c .before .before .before .before .before .before .before .before .before .args .t2) .z)) in
-    (λ i. (z i * 64 + y i) * 64 + x i) ∙ sym (cell-met m cells p (λ a. elim a [ xAxis ↦ omega (arith, c .before .before .if1 .left, x) | yAxis ↦ omega (arith, c .before .if2 .left, y) | zAxis ↦ omega (arith, c .if3 .left, z) ]))
+met : tie.Need-returns-4
+met c =
+    let s = c .before .before .before in
+    (λ i. (z-is s i * 64 + y-is s i) * 64 + x-is s i)
+    ∙ sym (cell-met (medium s) cells (point s) (λ a. elim a [
+      | xAxis ↦ omega (arith, c .before .before .if1 .left, x-is s)
+      | yAxis ↦ omega (arith, c .before .if2 .left, y-is s)
+      | zAxis ↦ omega (arith, c .if3 .left, z-is s)
+    ]))
 
 pub cell-at-spec : {M : Type 1} → statement M
 cell-at-spec =
     tie.close
     (tie.spec
-    x-line-requires
-    array-read-axis-cell
-    axis-cell-requires
-    y-line-requires
-    array-read-axis-cell-2
-    axis-cell-requires-2
-    z-line-requires
-    array-read-axis-cell-3
-    axis-cell-requires-3
-    returns
-    returns-2
-    returns-3
-    mul-result
-    add-result
-    mul-result-2
-    add-result-2
-    returns-4)
+    (λ c κs. search needs)
+    (λ c. search needs)
+    (λ c κs. search needs)
+    (λ c κs. search needs)
+    (λ c. search needs)
+    (λ c κs. search needs)
+    (λ c κs. search needs)
+    (λ c. search needs)
+    (λ c κs. search needs)
+    x-none
+    y-none
+    z-none
+    (λ c. search needs)
+    (λ c. search needs)
+    (λ c. search needs)
+    (λ c. search needs)
+    met)

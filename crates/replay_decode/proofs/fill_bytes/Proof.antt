@@ -29,7 +29,11 @@ loop-less : tie.Need-loop-less Inv-loop μ-loop
 loop-less c = omega arith
 
 loop-again : tie.Need-loop-again Inv-loop μ-loop
-loop-again c = (omega (arith, c .before .before .before .before .before .loop-test .taken), c .before .before .put-byte .kept .0 ∙ c .before .before .before .before .before .before .loop .inv .1)
+loop-again c = (
+  omega (arith, c .before .before .before .before .before .loop-test .taken),
+  c .before .before .put-byte .kept .0
+      ∙ c .before .before .before .before .before .before .loop .inv .1,
+)
 
 same-length : tie.Need-same-length Inv-loop μ-loop
 same-length c = c .before .loop .inv .1

@@ -113,19 +113,34 @@ slice-aggregate-same-build-3 : tie.Need-slice-aggregate-same-build-3
 slice-aggregate-same-build-3 c = search needs
 
 slice-aggregate-same-build-4 : tie.Need-slice-aggregate-same-build-4
-slice-aggregate-same-build-4 c = omega (arith, c .before .before .before .before .before .before .before .before .before .before .before .before .before .before .before .before .before .before .before .before .before .before .before .before .before .before .before .before .before .before .before .before .before .before .before .before .decode-density-grid .kept .1 .1 .1 .1 .0)
+slice-aggregate-same-build-4 c = omega (
+  arith,
+  c .before .before .before .before .before .before .before .before .before .before .before .before .before .before .before .before .before .before .before .before .before .before .before .before .before .before .before .before .before .before .before .before .before .before .before .before .decode-density-grid .kept .1 .1 .1 .1 .0,
+)
 
 slice-aggregate-same-build-5 : tie.Need-slice-aggregate-same-build-5
-slice-aggregate-same-build-5 c = omega (arith, c .before .before .before .before .before .before .before .before .before .before .before .before .before .before .before .before .before .before .before .before .before .before .before .before .before .before .before .before .before .before .before .before .before .before .before .before .before .decode-density-grid .kept .1 .1 .1 .1 .1 .0)
+slice-aggregate-same-build-5 c = omega (
+  arith,
+  c .before .before .before .before .before .before .before .before .before .before .before .before .before .before .before .before .before .before .before .before .before .before .before .before .before .before .before .before .before .before .before .before .before .before .before .before .before .decode-density-grid .kept .1 .1 .1 .1 .1 .0,
+)
 
 slice-aggregate-same-build-6 : tie.Need-slice-aggregate-same-build-6
-slice-aggregate-same-build-6 c = omega (arith, c .before .before .before .before .before .before .before .before .before .before .before .before .before .before .before .before .before .before .before .before .before .before .before .before .before .before .before .before .before .before .before .before .before .before .before .before .before .before .decode-density-grid .kept .1 .1 .1 .1 .1 .1 .0)
+slice-aggregate-same-build-6 c = omega (
+  arith,
+  c .before .before .before .before .before .before .before .before .before .before .before .before .before .before .before .before .before .before .before .before .before .before .before .before .before .before .before .before .before .before .before .before .before .before .before .before .before .before .decode-density-grid .kept .1 .1 .1 .1 .1 .1 .0,
+)
 
 slice-aggregate-same-build-7 : tie.Need-slice-aggregate-same-build-7
-slice-aggregate-same-build-7 c = omega (arith, c .before .before .before .before .before .before .before .before .before .before .before .before .before .before .before .before .before .before .before .before .before .before .before .before .before .before .before .before .before .before .before .before .before .before .before .before .before .before .before .decode-density-grid .kept .1 .1 .1 .1 .1 .1 .1 .0)
+slice-aggregate-same-build-7 c = omega (
+  arith,
+  c .before .before .before .before .before .before .before .before .before .before .before .before .before .before .before .before .before .before .before .before .before .before .before .before .before .before .before .before .before .before .before .before .before .before .before .before .before .before .before .decode-density-grid .kept .1 .1 .1 .1 .1 .1 .1 .0,
+)
 
 slice-aggregate-same-build-8 : tie.Need-slice-aggregate-same-build-8
-slice-aggregate-same-build-8 c = omega (arith, c .before .before .before .before .before .before .before .before .before .before .before .before .before .before .before .before .before .before .before .before .before .before .before .before .before .before .before .before .before .before .before .before .before .before .before .before .before .before .before .before .decode-density-grid .kept .1 .1 .1 .1 .1 .1 .1 .1 .0)
+slice-aggregate-same-build-8 c = omega (
+  arith,
+  c .before .before .before .before .before .before .before .before .before .before .before .before .before .before .before .before .before .before .before .before .before .before .before .before .before .before .before .before .before .before .before .before .before .before .before .before .before .before .before .before .decode-density-grid .kept .1 .1 .1 .1 .1 .1 .1 .1 .0,
+)
 
 same-build-requires : tie.Need-same-build-requires
 same-build-requires c κs = search needs
@@ -137,7 +152,10 @@ both-requires-8 : tie.Need-both-requires-8
 both-requires-8 c κs = search needs
 
 slice-aggregate-cleared : tie.Need-slice-aggregate-cleared
-slice-aggregate-cleared c = omega (arith, c .before .before .before .before .before .before .before .before .before .before .before .before .before .before .before .before .before .before .before .before .before .before .before .before .before .before .before .before .before .before .before .before .before .before .before .before .before .before .before .before .before .before .before .before .decode-density-grid .kept .1 .1 .1 .1 .1 .1 .1 .1 .1 .0)
+slice-aggregate-cleared c = omega (
+  arith,
+  c .before .before .before .before .before .before .before .before .before .before .before .before .before .before .before .before .before .before .before .before .before .before .before .before .before .before .before .before .before .before .before .before .before .before .before .before .before .before .before .before .before .before .before .before .decode-density-grid .kept .1 .1 .1 .1 .1 .1 .1 .1 .1 .0,
+)
 
 cleared-requires : tie.Need-cleared-requires
 cleared-requires c κs = search needs

@@ -7,107 +7,64 @@ use Rattle.smokegrid.proofs.Stores.{seen}
 use Rattle.smokegrid.proofs.flat.medium_from.Statement.{statement}
 use Rattle.smokegrid.proofs.flat.medium_from.Tie as tie
 
-shared-slice-read-t5 : tie.Need-shared-slice-read-t5
-shared-slice-read-t5 c = omega arith
+-- ---- places: the start, and the six corners that were read, from the last back
+abbrev at-start : tie.After-t31 → tie.Start
+at-start c = c .before .before .before .before .before .before .before .before .before .before .before .before .before .before .before .before
 
-shared-slice-read-t7 : tie.Need-shared-slice-read-t7
-shared-slice-read-t7 c = omega arith
-
-shared-slice-read-t9 : tie.Need-shared-slice-read-t9
-shared-slice-read-t9 c = omega arith
-
-shared-slice-read-t11 : tie.Need-shared-slice-read-t11
-shared-slice-read-t11 c = omega arith
-
-shared-slice-read-t13 : tie.Need-shared-slice-read-t13
-shared-slice-read-t13 c = omega arith
-
-shared-slice-read-t15 : tie.Need-shared-slice-read-t15
-shared-slice-read-t15 c = omega arith
-
-shared-slice-read-t17 : tie.Need-shared-slice-read-t17
-shared-slice-read-t17 c = omega arith
-
-shared-slice-read-t19 : tie.Need-shared-slice-read-t19
-shared-slice-read-t19 c = omega arith
-
-shared-slice-read-t21 : tie.Need-shared-slice-read-t21
-shared-slice-read-t21 c = omega arith
-
-shared-slice-read-t5-2 : tie.Need-shared-slice-read-t5-2
-shared-slice-read-t5-2 c = omega arith
-
-shared-slice-read-t21-2 : tie.Need-shared-slice-read-t21-2
-shared-slice-read-t21-2 c = omega arith
-
-shared-slice-read-t19-2 : tie.Need-shared-slice-read-t19-2
-shared-slice-read-t19-2 c = omega arith
-
-shared-slice-read-t17-2 : tie.Need-shared-slice-read-t17-2
-shared-slice-read-t17-2 c = omega arith
-
-shared-slice-read-t15-2 : tie.Need-shared-slice-read-t15-2
-shared-slice-read-t15-2 c = omega arith
-
-shared-slice-read-t13-2 : tie.Need-shared-slice-read-t13-2
-shared-slice-read-t13-2 c = omega arith
-
-shared-slice-copy-out-t31 : tie.Need-shared-slice-copy-out-t31
-shared-slice-copy-out-t31 c = omega arith
-
-shared-slice-copy-out-t33 : tie.Need-shared-slice-copy-out-t33
-shared-slice-copy-out-t33 c = omega arith
-
-shared-slice-copy-out-t35 : tie.Need-shared-slice-copy-out-t35
-shared-slice-copy-out-t35 c = omega arith
-
-shared-slice-copy-out-t38 : tie.Need-shared-slice-copy-out-t38
-shared-slice-copy-out-t38 c = omega arith
-
-shared-slice-copy-out-t40 : tie.Need-shared-slice-copy-out-t40
-shared-slice-copy-out-t40 c = omega arith
-
-shared-slice-copy-out-t42 : tie.Need-shared-slice-copy-out-t42
-shared-slice-copy-out-t42 c = omega arith
-
-shared-slice-read-t11-2 : tie.Need-shared-slice-read-t11-2
-shared-slice-read-t11-2 c = omega arith
-
-shared-slice-read-t9-2 : tie.Need-shared-slice-read-t9-2
-shared-slice-read-t9-2 c = omega arith
-
-shared-slice-read-t7-2 : tie.Need-shared-slice-read-t7-2
-shared-slice-read-t7-2 c = omega arith
+abbrev at-corners : tie.After-shared-slice-known18 → tie.After-t42
+at-corners c = c .before .before .before
 
 returns : tie.Need-returns
-returns c = let m = mediumFrom (c .before .before .before .before .before .before .before .before .before .before .before .before .before .before .before .before .before .before .before .before .before .before .before .before .args .m .now) (c .before .before .before .before .before .before .before .before .before .before .before .before .before .before .before .before .before .before .before .before .before .before .before .before .args .c .now) in λ i. record { low = m .low; high = m .high; indexLow = record { x = seen (getD (c .before .before .before .before .before .before .before .before .before .before .before .before .before .before .before .before .before .before .before .before .before .before .before .before .args .c .now) 0 (pos 0)) (c .before .before .before .before .before .before .before .before .t31 .given) i; y = seen (getD (c .before .before .before .before .before .before .before .before .before .before .before .before .before .before .before .before .before .before .before .before .before .before .before .before .args .c .now) 1 (pos 0)) (c .before .before .before .before .before .before .before .t33 .given) i; z = seen (getD (c .before .before .before .before .before .before .before .before .before .before .before .before .before .before .before .before .before .before .before .before .before .before .before .before .args .c .now) 2 (pos 0)) (c .before .before .before .before .before .before .t35 .given) i }; indexHigh = record { x = seen (getD (c .before .before .before .before .before .before .before .before .before .before .before .before .before .before .before .before .before .before .before .before .before .before .before .before .args .c .now) 3 (pos 0)) (c .before .before .before .before .before .t38 .given) i; y = seen (getD (c .before .before .before .before .before .before .before .before .before .before .before .before .before .before .before .before .before .before .before .before .before .before .before .before .args .c .now) 4 (pos 0)) (c .before .before .before .before .t40 .given) i; z = seen (getD (c .before .before .before .before .before .before .before .before .before .before .before .before .before .before .before .before .before .before .before .before .before .before .before .before .args .c .now) 5 (pos 0)) (c .before .before .before .t42 .given) i }; map = m .map; translation = m .translation }
+returns c =
+    let hz = at-corners c in
+    let hx = hz .before .before in
+    let lz = hx .before in
+    let lx = lz .before .before in
+    let a = at-start lx .args in
+    let m = mediumFrom (a .m .now) (a .c .now) in
+    λ i. record {
+      low = m .low;
+      high = m .high;
+      indexLow = record {
+        x = seen (getD (a .c .now) 0 (pos 0)) (lx .t31 .given) i;
+        y = seen (getD (a .c .now) 1 (pos 0)) (lz .before .t33 .given) i;
+        z = seen (getD (a .c .now) 2 (pos 0)) (lz .t35 .given) i;
+      };
+      indexHigh = record {
+        x = seen (getD (a .c .now) 3 (pos 0)) (hx .t38 .given) i;
+        y = seen (getD (a .c .now) 4 (pos 0)) (hz .before .t40 .given) i;
+        z = seen (getD (a .c .now) 5 (pos 0)) (hz .t42 .given) i;
+      };
+      map = m .map;
+      translation = m .translation;
+    }
 
 pub medium-from-spec : {M : Type 1} → statement M
 medium-from-spec =
     tie.close
     (tie.spec
-    shared-slice-read-t5
-    shared-slice-read-t7
-    shared-slice-read-t9
-    shared-slice-read-t11
-    shared-slice-read-t13
-    shared-slice-read-t15
-    shared-slice-read-t17
-    shared-slice-read-t19
-    shared-slice-read-t21
-    shared-slice-read-t5-2
-    shared-slice-read-t21-2
-    shared-slice-read-t19-2
-    shared-slice-read-t17-2
-    shared-slice-read-t15-2
-    shared-slice-read-t13-2
-    shared-slice-copy-out-t31
-    shared-slice-copy-out-t33
-    shared-slice-copy-out-t35
-    shared-slice-copy-out-t38
-    shared-slice-copy-out-t40
-    shared-slice-copy-out-t42
-    shared-slice-read-t11-2
-    shared-slice-read-t9-2
-    shared-slice-read-t7-2
+    (λ c. omega arith)
+    (λ c. omega arith)
+    (λ c. omega arith)
+    (λ c. omega arith)
+    (λ c. omega arith)
+    (λ c. omega arith)
+    (λ c. omega arith)
+    (λ c. omega arith)
+    (λ c. omega arith)
+    (λ c. omega arith)
+    (λ c. omega arith)
+    (λ c. omega arith)
+    (λ c. omega arith)
+    (λ c. omega arith)
+    (λ c. omega arith)
+    (λ c. omega arith)
+    (λ c. omega arith)
+    (λ c. omega arith)
+    (λ c. omega arith)
+    (λ c. omega arith)
+    (λ c. omega arith)
+    (λ c. omega arith)
+    (λ c. omega arith)
+    (λ c. omega arith)
     returns)

@@ -7,63 +7,50 @@ use borrow.Author.Needs.{needs}
 use Rattle.smokegrid.proofs.flat.put_corners.Statement.{statement}
 use Rattle.smokegrid.proofs.flat.put_corners.Tie as tie
 
-element-copy-out-to : tie.Need-element-copy-out-to
-element-copy-out-to c = search needs
+-- ---- the start, from each store
+abbrev start-1 : tie.After-to → tie.Start
+start-1 c = c .before
 
-slice-set-from-to : tie.Need-slice-set-from-to
-slice-set-from-to c = omega (arith, size _ 6 (pos 0) (c .before .pre))
+abbrev start-2 : tie.After-to2 → tie.Start
+start-2 c = start-1 (c .before)
 
-element-copy-out-to-2 : tie.Need-element-copy-out-to-2
-element-copy-out-to-2 c = search needs
+abbrev start-3 : tie.After-to3 → tie.Start
+start-3 c = start-2 (c .before)
 
-slice-set-from-to-2 : tie.Need-slice-set-from-to-2
-slice-set-from-to-2 c = simp length-set (omega (arith, size _ 6 (pos 0) (c .before .before .pre)))
+abbrev start-4 : tie.After-to4 → tie.Start
+start-4 c = start-3 (c .before)
 
-element-copy-out-to-3 : tie.Need-element-copy-out-to-3
-element-copy-out-to-3 c = search needs
+abbrev start-5 : tie.After-to5 → tie.Start
+start-5 c = start-4 (c .before)
 
-slice-set-from-to-3 : tie.Need-slice-set-from-to-3
-slice-set-from-to-3 c = simp length-set (omega (arith, size _ 6 (pos 0) (c .before .before .before .pre)))
-
-element-copy-out-to-4 : tie.Need-element-copy-out-to-4
-element-copy-out-to-4 c = search needs
-
-slice-set-from-to-4 : tie.Need-slice-set-from-to-4
-slice-set-from-to-4 c = simp length-set (omega (arith, size _ 6 (pos 0) (c .before .before .before .before .pre)))
-
-element-copy-out-to-5 : tie.Need-element-copy-out-to-5
-element-copy-out-to-5 c = search needs
-
-slice-set-from-to-5 : tie.Need-slice-set-from-to-5
-slice-set-from-to-5 c = simp length-set (omega (arith, size _ 6 (pos 0) (c .before .before .before .before .before .pre)))
-
-element-copy-out-to-6 : tie.Need-element-copy-out-to-6
-element-copy-out-to-6 c = search needs
-
-slice-set-from-to-6 : tie.Need-slice-set-from-to-6
-slice-set-from-to-6 c = simp length-set (omega (arith, size _ 6 (pos 0) (c .before .before .before .before .before .before .pre)))
-
-same-length : tie.Need-same-length
-same-length c = simp length-set
+abbrev start-6 : tie.After-to6 → tie.Start
+start-6 c = start-5 (c .before)
 
 returns : tie.Need-returns
-returns c = six-signed _ (getD (c .before .before .before .before .before .before .args .t2 .«index_low») 0 (pos 0)) (getD (c .before .before .before .before .before .before .args .t2 .«index_low») 1 (pos 0)) (getD (c .before .before .before .before .before .before .args .t2 .«index_low») 2 (pos 0)) (getD (c .before .before .before .before .before .before .args .t2 .«index_high») 0 (pos 0)) (getD (c .before .before .before .before .before .before .args .t2 .«index_high») 1 (pos 0)) (getD (c .before .before .before .before .before .before .args .t2 .«index_high») 2 (pos 0)) (c .before .before .before .before .before .to .given) (c .before .before .before .before .to2 .given) (c .before .before .before .to3 .given) (c .before .before .to4 .given) (c .before .to5 .given) (c .to6 .given) (c .before .before .before .before .before .before .pre)
+returns c =
+    let fourth = c .before .before in
+    let second = fourth .before .before in
+    let m = start-6 c .args .t2 in
+    six-signed _ (getD (m .«index_low») 0 (pos 0)) (getD (m .«index_low») 1 (pos 0)) (getD (m .«index_low») 2 (pos 0))
+    (getD (m .«index_high») 0 (pos 0)) (getD (m .«index_high») 1 (pos 0)) (getD (m .«index_high») 2 (pos 0))
+    (second .before .to .given) (second .to2 .given) (fourth .before .to3 .given) (fourth .to4 .given) (c .before .to5 .given)
+    (c .to6 .given) (start-6 c .pre)
 
 pub put-corners-spec : {M : Type 1} → statement M
 put-corners-spec =
     tie.close
     (tie.spec
-    element-copy-out-to
-    slice-set-from-to
-    element-copy-out-to-2
-    slice-set-from-to-2
-    element-copy-out-to-3
-    slice-set-from-to-3
-    element-copy-out-to-4
-    slice-set-from-to-4
-    element-copy-out-to-5
-    slice-set-from-to-5
-    element-copy-out-to-6
-    slice-set-from-to-6
-    same-length
+    (λ c. search needs)
+    (λ c. omega (arith, size _ 6 (pos 0) (start-1 c .pre)))
+    (λ c. search needs)
+    (λ c. simp length-set (omega (arith, size _ 6 (pos 0) (start-2 c .pre))))
+    (λ c. search needs)
+    (λ c. simp length-set (omega (arith, size _ 6 (pos 0) (start-3 c .pre))))
+    (λ c. search needs)
+    (λ c. simp length-set (omega (arith, size _ 6 (pos 0) (start-4 c .pre))))
+    (λ c. search needs)
+    (λ c. simp length-set (omega (arith, size _ 6 (pos 0) (start-5 c .pre))))
+    (λ c. search needs)
+    (λ c. simp length-set (omega (arith, size _ 6 (pos 0) (start-6 c .pre))))
+    (λ c. simp length-set)
     returns)
