@@ -29,7 +29,8 @@ point c = pointOf (at-start c .args .t2)
 
 -- ---- what each search answers, by the corners of the medium
 x-is : (c : tie.After-axis-cell3) → at-x (at-y c) .axis-cell .result ≡ axisCell (medium c .low .x) (medium c .high .x) 64 (point c .x)
-x-is c = let s = at-x (at-y c) in s .axis-cell .ensures ∙ (λ i. axisCell (s .before .x-line .ensures i .low) (s .before .x-line .ensures i .high) 64 (point c .x))
+x-is c = let s = at-x (at-y c) in s .axis-cell .ensures
+    ∙ (λ i. axisCell (s .before .x-line .ensures i .low) (s .before .x-line .ensures i .high) 64 (point c .x))
 
 y-is : (c : tie.After-axis-cell3) → at-y c .axis-cell2 .result ≡ axisCell (medium c .low .y) (medium c .high .y) 64 (point c .y)
 y-is c = let s = at-y c in s .axis-cell2 .ensures ∙ (λ i. axisCell (s .before .y-line .ensures i .low) (s .before .y-line .ensures i .high) 64 (point c .y))

@@ -9,12 +9,6 @@ use borrow.Author.Needs.{needs}
 use Rattle.claim.proofs.figure_at.Statement.{statement}
 use Rattle.claim.proofs.figure_at.Tie as tie
 
-mul-result : tie.Need-mul-result
-mul-result c = search needs
-
-shared-slice-read-result : tie.Need-shared-slice-read-result
-shared-slice-read-result c = search needs
-
 returns : tie.Need-returns
 returns c = getD-any (c .before .before .args .figures .now) (c .before .before .args .cell) nan +0 (c .before .if1 .taken)
 
@@ -22,4 +16,4 @@ returns-2 : tie.Need-returns-2
 returns-2 c = zero-literal binary32 ∙ sym (List·getD-eq-default (c .before .args .figures .now) +0 (c .if1 .left))
 
 pub figure-at-spec : {M : Type 1} → statement M
-figure-at-spec = tie.close (tie.spec mul-result shared-slice-read-result returns returns-2)
+figure-at-spec = tie.close (tie.spec (λ c. search needs) (λ c. search needs) returns returns-2)

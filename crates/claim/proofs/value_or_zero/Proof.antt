@@ -9,17 +9,8 @@ use borrow.Author.Needs.{needs}
 use Rattle.claim.proofs.value_or_zero.Statement.{statement}
 use Rattle.claim.proofs.value_or_zero.Tie as tie
 
-enum-known-a : tie.Need-enum-known-a
-enum-known-a c = search needs
-
-enum-known-a-2 : tie.Need-enum-known-a-2
-enum-known-a-2 c = search needs
-
-returns : tie.Need-returns
-returns c = search needs
-
 returns-2 : tie.Need-returns-2
 returns-2 c = zero-literal binary32 ∙ ap (valueOr +0) (ap answer (sym (c .before .a2 .given .1)))
 
 pub value-or-zero-spec : {M : Type 1} → statement M
-value-or-zero-spec = tie.close (tie.spec enum-known-a enum-known-a-2 returns returns-2)
+value-or-zero-spec = tie.close (tie.spec (λ c. search needs) (λ c. search needs) (λ c. search needs) returns-2)

@@ -13,26 +13,17 @@ Inv-loop n bytes₀ i₀ bytes i = (i ≤ n) × (length bytes ≡ length bytes�
 abbrev μ-loop : tie.MeasureT-loop
 μ-loop n bytes₀ i₀ bytes i = n - i
 
+-- ---- the places on the way: each step back is counted once
+abbrev slice-known2→in-loop : tie.After-slice-known2 Inv-loop μ-loop → tie.In-loop Inv-loop μ-loop
+slice-known2→in-loop c = c .before .before .before .before .before
+
 loop-holds : tie.Need-loop-holds Inv-loop μ-loop
 loop-holds c = (omega arith, refl)
 
-read-place-requires : tie.Need-read-place-requires Inv-loop μ-loop
-read-place-requires c κs = search needs
-
-put-byte-requires : tie.Need-put-byte-requires Inv-loop μ-loop
-put-byte-requires c κs = search needs
-
-add-i : tie.Need-add-i Inv-loop μ-loop
-add-i c = omega arith
-
-loop-less : tie.Need-loop-less Inv-loop μ-loop
-loop-less c = omega arith
-
 loop-again : tie.Need-loop-again Inv-loop μ-loop
 loop-again c = (
-  omega (arith, c .before .before .before .before .before .loop-test .taken),
-  c .before .before .put-byte .kept .0
-      ∙ c .before .before .before .before .before .before .loop .inv .1,
+  omega (arith, slice-known2→in-loop c .loop-test .taken),
+  c .before .before .put-byte .kept .0 ∙ slice-known2→in-loop c .before .loop .inv .1,
 )
 
 same-length : tie.Need-same-length Inv-loop μ-loop
@@ -48,10 +39,10 @@ fill-bytes-spec =
     Inv-loop
     μ-loop
     loop-holds
-    read-place-requires
-    put-byte-requires
-    add-i
-    loop-less
+    (λ c κs. search needs)
+    (λ c κs. search needs)
+    (λ c. omega arith)
+    (λ c. omega arith)
     loop-again
     same-length
     returns)

@@ -9,19 +9,10 @@ use Rattle.sparse_grid.specs.Answers.{answer}
 use Rattle.smokegrid.proofs.give.Statement.{statement}
 use Rattle.smokegrid.proofs.give.Tie as tie
 
-enum-known-found : tie.Need-enum-known-found
-enum-known-found c = search needs
-
-enum-known-found-2 : tie.Need-enum-known-found-2
-enum-known-found-2 c = search needs
-
-returns : tie.Need-returns
-returns c = search needs
-
 returns-2 : tie.Need-returns-2
 returns-2 c =
     let e = ap answer (sym (c .before .found2 .given .1)) in
     (ap numberOf e, zero-literal binary32 ∙ ap (valueOr +0) e)
 
 pub give-spec : {M : Type 1} → statement M
-give-spec = tie.close (tie.spec enum-known-found enum-known-found-2 returns returns-2)
+give-spec = tie.close (tie.spec (λ c. search needs) (λ c. search needs) (λ c. search needs) returns-2)

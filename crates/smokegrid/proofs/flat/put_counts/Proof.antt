@@ -18,9 +18,6 @@ slice-write-counts-3 c = simp length-set (omega (arith, size _ 4 0 (c .pre)))
 slice-write-counts-4 : tie.Need-slice-write-counts-4
 slice-write-counts-4 c = simp length-set (omega (arith, size _ 4 0 (c .pre)))
 
-same-length : tie.Need-same-length
-same-length c = search needs
-
 returns : tie.Need-returns
 returns c = four _ 0 _ _ _ _ (c .pre)
 
@@ -32,5 +29,5 @@ put-counts-spec =
     slice-write-counts-2
     slice-write-counts-3
     slice-write-counts-4
-    same-length
+    (λ c. search needs)
     returns)
