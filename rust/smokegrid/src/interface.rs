@@ -1,99 +1,406 @@
-//! The declarations of include/smokegrid.h. tests/oracle declares the functions by this file too.
+//! Written by rust/declare from include/smokegrid.h: change that, and run it again.
+//! The functions of include/smokegrid.h, each behind a function over slices.
 
-/// The declarations of the functions that take a grid, whose tables are 17 arguments.
-macro_rules! grid_functions {
-    ($($name:ident($($argument:ident: $kind:ty),*);)*) => {
-        extern "C" {
-            $(pub fn $name(
-                background: f32,
-                blocks: *const i32, blocks_len: usize,
-                root_links: *const u32, root_links_len: usize,
-                root_values: *const f32, root_values_len: usize,
-                upper_links: *const u32, upper_links_len: usize,
-                upper_values: *const f32, upper_values_len: usize,
-                lower_links: *const u32, lower_links_len: usize,
-                lower_values: *const f32, lower_values_len: usize,
-                leaf_values: *const f32, leaf_values_len: usize
-                $(, $argument: $kind)*
-            ) -> u32;)*
-        }
-    };
+/// The tables of a grid as inputs.
+#[derive(Clone, Copy)]
+pub struct GridTables<'a> {
+    pub background: f32,
+    pub blocks: &'a [i32],
+    pub root_links: &'a [u32],
+    pub root_values: &'a [f32],
+    pub upper_links: &'a [u32],
+    pub upper_values: &'a [f32],
+    pub lower_links: &'a [u32],
+    pub lower_values: &'a [f32],
+    pub leaf_values: &'a [f32],
 }
 
-grid_functions! {
-    smokegrid_validate();
-    smokegrid_validate_density();
-    smokegrid_get_value(x: i32, y: i32, z: i32, value: *mut f32);
-    smokegrid_box_maximum(
-        lx: i32, ly: i32, lz: i32, hx: i32, hy: i32, hz: i32, value: *mut f32
-    );
-    smokegrid_build_majorant(
-        medium: *const f32, medium_len: usize, corners: *const i32, corners_len: usize,
-        majorants: *mut f32, majorants_len: usize
-    );
+mod c {
+    extern "C" {
+        pub fn smokegrid_decode_density_grid(
+            bytes: *const u8,
+            bytes_len: usize,
+            blocks: *mut i32,
+            blocks_len: usize,
+            root_links: *mut u32,
+            root_links_len: usize,
+            root_values: *mut f32,
+            root_values_len: usize,
+            upper_links: *mut u32,
+            upper_links_len: usize,
+            upper_values: *mut f32,
+            upper_values_len: usize,
+            lower_links: *mut u32,
+            lower_links_len: usize,
+            lower_values: *mut f32,
+            lower_values_len: usize,
+            leaf_values: *mut f32,
+            leaf_values_len: usize,
+            work: *mut u64,
+            work_len: usize,
+            counts: *mut u64,
+            counts_len: usize,
+            background: *mut f32,
+            medium: *mut f32,
+            medium_len: usize,
+            corners: *mut i32,
+            corners_len: usize,
+        ) -> u32;
+        pub fn smokegrid_validate(
+            background: f32,
+            blocks: *const i32,
+            blocks_len: usize,
+            root_links: *const u32,
+            root_links_len: usize,
+            root_values: *const f32,
+            root_values_len: usize,
+            upper_links: *const u32,
+            upper_links_len: usize,
+            upper_values: *const f32,
+            upper_values_len: usize,
+            lower_links: *const u32,
+            lower_links_len: usize,
+            lower_values: *const f32,
+            lower_values_len: usize,
+            leaf_values: *const f32,
+            leaf_values_len: usize,
+        ) -> u32;
+        pub fn smokegrid_validate_density(
+            background: f32,
+            blocks: *const i32,
+            blocks_len: usize,
+            root_links: *const u32,
+            root_links_len: usize,
+            root_values: *const f32,
+            root_values_len: usize,
+            upper_links: *const u32,
+            upper_links_len: usize,
+            upper_values: *const f32,
+            upper_values_len: usize,
+            lower_links: *const u32,
+            lower_links_len: usize,
+            lower_values: *const f32,
+            lower_values_len: usize,
+            leaf_values: *const f32,
+            leaf_values_len: usize,
+        ) -> u32;
+        pub fn smokegrid_get_value(
+            background: f32,
+            blocks: *const i32,
+            blocks_len: usize,
+            root_links: *const u32,
+            root_links_len: usize,
+            root_values: *const f32,
+            root_values_len: usize,
+            upper_links: *const u32,
+            upper_links_len: usize,
+            upper_values: *const f32,
+            upper_values_len: usize,
+            lower_links: *const u32,
+            lower_links_len: usize,
+            lower_values: *const f32,
+            lower_values_len: usize,
+            leaf_values: *const f32,
+            leaf_values_len: usize,
+            x: i32,
+            y: i32,
+            z: i32,
+            value: *mut f32,
+        ) -> u32;
+        pub fn smokegrid_box_maximum(
+            background: f32,
+            blocks: *const i32,
+            blocks_len: usize,
+            root_links: *const u32,
+            root_links_len: usize,
+            root_values: *const f32,
+            root_values_len: usize,
+            upper_links: *const u32,
+            upper_links_len: usize,
+            upper_values: *const f32,
+            upper_values_len: usize,
+            lower_links: *const u32,
+            lower_links_len: usize,
+            lower_values: *const f32,
+            lower_values_len: usize,
+            leaf_values: *const f32,
+            leaf_values_len: usize,
+            lx: i32,
+            ly: i32,
+            lz: i32,
+            hx: i32,
+            hy: i32,
+            hz: i32,
+            value: *mut f32,
+        ) -> u32;
+        pub fn smokegrid_world_to_index_f(
+            medium: *const f32,
+            medium_len: usize,
+            x: f32,
+            y: f32,
+            z: f32,
+            index_bits: *mut u32,
+            index_bits_len: usize,
+        ) -> u32;
+        pub fn smokegrid_build_majorant(
+            background: f32,
+            blocks: *const i32,
+            blocks_len: usize,
+            root_links: *const u32,
+            root_links_len: usize,
+            root_values: *const f32,
+            root_values_len: usize,
+            upper_links: *const u32,
+            upper_links_len: usize,
+            upper_values: *const f32,
+            upper_values_len: usize,
+            lower_links: *const u32,
+            lower_links_len: usize,
+            lower_values: *const f32,
+            lower_values_len: usize,
+            leaf_values: *const f32,
+            leaf_values_len: usize,
+            medium: *const f32,
+            medium_len: usize,
+            corners: *const i32,
+            corners_len: usize,
+            majorants: *mut f32,
+            majorants_len: usize,
+        ) -> u32;
+    }
 }
 
-extern "C" {
-    pub fn smokegrid_decode_density_grid(
-        bytes: *const u8,
-        bytes_len: usize,
-        blocks: *mut i32,
-        blocks_len: usize,
-        root_links: *mut u32,
-        root_links_len: usize,
-        root_values: *mut f32,
-        root_values_len: usize,
-        upper_links: *mut u32,
-        upper_links_len: usize,
-        upper_values: *mut f32,
-        upper_values_len: usize,
-        lower_links: *mut u32,
-        lower_links_len: usize,
-        lower_values: *mut f32,
-        lower_values_len: usize,
-        leaf_values: *mut f32,
-        leaf_values_len: usize,
-        work: *mut u64,
-        work_len: usize,
-        counts: *mut u64,
-        counts_len: usize,
-        background: *mut f32,
-        medium: *mut f32,
-        medium_len: usize,
-        corners: *mut i32,
-        corners_len: usize,
-    ) -> u32;
-
-    pub fn smokegrid_world_to_index_f(
-        medium: *const f32,
-        medium_len: usize,
-        x: f32,
-        y: f32,
-        z: f32,
-        index_bits: *mut u32,
-        index_bits_len: usize,
-    ) -> u32;
+#[inline]
+#[allow(clippy::too_many_arguments)]
+pub fn decode_density_grid(
+    bytes: &[u8],
+    blocks: &mut [i32],
+    root_links: &mut [u32],
+    root_values: &mut [f32],
+    upper_links: &mut [u32],
+    upper_values: &mut [f32],
+    lower_links: &mut [u32],
+    lower_values: &mut [f32],
+    leaf_values: &mut [f32],
+    work: &mut [u64],
+    counts: &mut [u64],
+    background: &mut f32,
+    medium: &mut [f32],
+    corners: &mut [i32],
+) -> u32 {
+    // SAFETY: each pointer is valid for its length, and what is written is borrowed mutably, so it overlaps nothing.
+    unsafe {
+        c::smokegrid_decode_density_grid(
+            bytes.as_ptr(),
+            bytes.len(),
+            blocks.as_mut_ptr(),
+            blocks.len(),
+            root_links.as_mut_ptr(),
+            root_links.len(),
+            root_values.as_mut_ptr(),
+            root_values.len(),
+            upper_links.as_mut_ptr(),
+            upper_links.len(),
+            upper_values.as_mut_ptr(),
+            upper_values.len(),
+            lower_links.as_mut_ptr(),
+            lower_links.len(),
+            lower_values.as_mut_ptr(),
+            lower_values.len(),
+            leaf_values.as_mut_ptr(),
+            leaf_values.len(),
+            work.as_mut_ptr(),
+            work.len(),
+            counts.as_mut_ptr(),
+            counts.len(),
+            background,
+            medium.as_mut_ptr(),
+            medium.len(),
+            corners.as_mut_ptr(),
+            corners.len(),
+        )
+    }
 }
 
-/// A call with the tables of a grid and then the other arguments.
-macro_rules! with_grid {
-    ($name:ident, $tables:expr $(, $argument:expr)*) => {{
-        let t = $tables;
-        // SAFETY: each pointer is valid for its length, and what is written is borrowed mutably, so it overlaps nothing.
-        unsafe {
-            $name(
-                t.background,
-                t.blocks.as_ptr(), t.blocks.len(),
-                t.root_links.as_ptr(), t.root_links.len(),
-                t.root_values.as_ptr(), t.root_values.len(),
-                t.upper_links.as_ptr(), t.upper_links.len(),
-                t.upper_values.as_ptr(), t.upper_values.len(),
-                t.lower_links.as_ptr(), t.lower_links.len(),
-                t.lower_values.as_ptr(), t.lower_values.len(),
-                t.leaf_values.as_ptr(), t.leaf_values.len()
-                $(, $argument)*
-            )
-        }
-    }};
+#[inline]
+#[allow(clippy::too_many_arguments)]
+pub fn validate(grid: GridTables) -> u32 {
+    // SAFETY: each pointer is valid for its length, and what is written is borrowed mutably, so it overlaps nothing.
+    unsafe {
+        c::smokegrid_validate(
+            grid.background,
+            grid.blocks.as_ptr(),
+            grid.blocks.len(),
+            grid.root_links.as_ptr(),
+            grid.root_links.len(),
+            grid.root_values.as_ptr(),
+            grid.root_values.len(),
+            grid.upper_links.as_ptr(),
+            grid.upper_links.len(),
+            grid.upper_values.as_ptr(),
+            grid.upper_values.len(),
+            grid.lower_links.as_ptr(),
+            grid.lower_links.len(),
+            grid.lower_values.as_ptr(),
+            grid.lower_values.len(),
+            grid.leaf_values.as_ptr(),
+            grid.leaf_values.len(),
+        )
+    }
 }
-pub(crate) use with_grid;
+
+#[inline]
+#[allow(clippy::too_many_arguments)]
+pub fn validate_density(grid: GridTables) -> u32 {
+    // SAFETY: each pointer is valid for its length, and what is written is borrowed mutably, so it overlaps nothing.
+    unsafe {
+        c::smokegrid_validate_density(
+            grid.background,
+            grid.blocks.as_ptr(),
+            grid.blocks.len(),
+            grid.root_links.as_ptr(),
+            grid.root_links.len(),
+            grid.root_values.as_ptr(),
+            grid.root_values.len(),
+            grid.upper_links.as_ptr(),
+            grid.upper_links.len(),
+            grid.upper_values.as_ptr(),
+            grid.upper_values.len(),
+            grid.lower_links.as_ptr(),
+            grid.lower_links.len(),
+            grid.lower_values.as_ptr(),
+            grid.lower_values.len(),
+            grid.leaf_values.as_ptr(),
+            grid.leaf_values.len(),
+        )
+    }
+}
+
+#[inline]
+#[allow(clippy::too_many_arguments)]
+pub fn get_value(grid: GridTables, x: i32, y: i32, z: i32, value: &mut f32) -> u32 {
+    // SAFETY: each pointer is valid for its length, and what is written is borrowed mutably, so it overlaps nothing.
+    unsafe {
+        c::smokegrid_get_value(
+            grid.background,
+            grid.blocks.as_ptr(),
+            grid.blocks.len(),
+            grid.root_links.as_ptr(),
+            grid.root_links.len(),
+            grid.root_values.as_ptr(),
+            grid.root_values.len(),
+            grid.upper_links.as_ptr(),
+            grid.upper_links.len(),
+            grid.upper_values.as_ptr(),
+            grid.upper_values.len(),
+            grid.lower_links.as_ptr(),
+            grid.lower_links.len(),
+            grid.lower_values.as_ptr(),
+            grid.lower_values.len(),
+            grid.leaf_values.as_ptr(),
+            grid.leaf_values.len(),
+            x,
+            y,
+            z,
+            value,
+        )
+    }
+}
+
+#[inline]
+#[allow(clippy::too_many_arguments)]
+pub fn box_maximum(
+    grid: GridTables,
+    lx: i32,
+    ly: i32,
+    lz: i32,
+    hx: i32,
+    hy: i32,
+    hz: i32,
+    value: &mut f32,
+) -> u32 {
+    // SAFETY: each pointer is valid for its length, and what is written is borrowed mutably, so it overlaps nothing.
+    unsafe {
+        c::smokegrid_box_maximum(
+            grid.background,
+            grid.blocks.as_ptr(),
+            grid.blocks.len(),
+            grid.root_links.as_ptr(),
+            grid.root_links.len(),
+            grid.root_values.as_ptr(),
+            grid.root_values.len(),
+            grid.upper_links.as_ptr(),
+            grid.upper_links.len(),
+            grid.upper_values.as_ptr(),
+            grid.upper_values.len(),
+            grid.lower_links.as_ptr(),
+            grid.lower_links.len(),
+            grid.lower_values.as_ptr(),
+            grid.lower_values.len(),
+            grid.leaf_values.as_ptr(),
+            grid.leaf_values.len(),
+            lx,
+            ly,
+            lz,
+            hx,
+            hy,
+            hz,
+            value,
+        )
+    }
+}
+
+#[inline]
+#[allow(clippy::too_many_arguments)]
+pub fn world_to_index_f(medium: &[f32], x: f32, y: f32, z: f32, index_bits: &mut [u32]) -> u32 {
+    // SAFETY: each pointer is valid for its length, and what is written is borrowed mutably, so it overlaps nothing.
+    unsafe {
+        c::smokegrid_world_to_index_f(
+            medium.as_ptr(),
+            medium.len(),
+            x,
+            y,
+            z,
+            index_bits.as_mut_ptr(),
+            index_bits.len(),
+        )
+    }
+}
+
+#[inline]
+#[allow(clippy::too_many_arguments)]
+pub fn build_majorant(
+    grid: GridTables,
+    medium: &[f32],
+    corners: &[i32],
+    majorants: &mut [f32],
+) -> u32 {
+    // SAFETY: each pointer is valid for its length, and what is written is borrowed mutably, so it overlaps nothing.
+    unsafe {
+        c::smokegrid_build_majorant(
+            grid.background,
+            grid.blocks.as_ptr(),
+            grid.blocks.len(),
+            grid.root_links.as_ptr(),
+            grid.root_links.len(),
+            grid.root_values.as_ptr(),
+            grid.root_values.len(),
+            grid.upper_links.as_ptr(),
+            grid.upper_links.len(),
+            grid.upper_values.as_ptr(),
+            grid.upper_values.len(),
+            grid.lower_links.as_ptr(),
+            grid.lower_links.len(),
+            grid.lower_values.as_ptr(),
+            grid.lower_values.len(),
+            grid.leaf_values.as_ptr(),
+            grid.leaf_values.len(),
+            medium.as_ptr(),
+            medium.len(),
+            corners.as_ptr(),
+            corners.len(),
+            majorants.as_mut_ptr(),
+            majorants.len(),
+        )
+    }
+}

@@ -1,111 +1,13 @@
-//! The Rust modules behind the functions of smokegrid.h, as a shared library: what the comparison
-//! is tried on. Built from a copy with one wrong step, it must be found out.
+//! Written by rust/declare from include/smokegrid.h: change that, and run it again.
+//! What C calls: each function hands on to `behind`, over slices.
 
-use oracle::loader::{Answer, Lent, Loader, Rust, Tables};
+mod behind;
+
+use oracle::loader::Tables;
 use std::slice::{from_raw_parts, from_raw_parts_mut};
 
-/// Functions that take a grid: the tables become `$grid` in the body.
-macro_rules! grid_function {
-    ($name:ident, $grid:ident, ($($argument:ident: $kind:ty),*), $body:expr) => {
-        /// # Safety
-        /// Each pointer is valid for its length.
-        #[no_mangle]
-        pub unsafe extern "C" fn $name(
-            background: f32,
-            blocks: *const i32,
-            blocks_len: usize,
-            root_links: *const u32,
-            root_links_len: usize,
-            root_values: *const f32,
-            root_values_len: usize,
-            upper_links: *const u32,
-            upper_links_len: usize,
-            upper_values: *const f32,
-            upper_values_len: usize,
-            lower_links: *const u32,
-            lower_links_len: usize,
-            lower_values: *const f32,
-            lower_values_len: usize,
-            leaf_values: *const f32,
-            leaf_values_len: usize
-            $(, $argument: $kind)*
-        ) -> u32 {
-            let $grid = Tables {
-                background,
-                blocks: from_raw_parts(blocks, blocks_len),
-                root_links: from_raw_parts(root_links, root_links_len),
-                root_values: from_raw_parts(root_values, root_values_len),
-                upper_links: from_raw_parts(upper_links, upper_links_len),
-                upper_values: from_raw_parts(upper_values, upper_values_len),
-                lower_links: from_raw_parts(lower_links, lower_links_len),
-                lower_values: from_raw_parts(lower_values, lower_values_len),
-                leaf_values: from_raw_parts(leaf_values, leaf_values_len),
-            };
-            $body
-        }
-    };
-}
-
-unsafe fn given(value: *mut f32, (number, bits): Answer) -> u32 {
-    *value = f32::from_bits(bits);
-    number
-}
-
-grid_function!(smokegrid_validate, grid, (), Rust.validate(grid));
-
-grid_function!(smokegrid_validate_density, grid, (), Rust.validate_density(grid));
-
-grid_function!(
-    smokegrid_get_value,
-    grid,
-    (x: i32, y: i32, z: i32, value: *mut f32),
-    given(value, Rust.get_values(grid, &[[x, y, z]])[0])
-);
-
-grid_function!(
-    smokegrid_box_maximum,
-    grid,
-    (lx: i32, ly: i32, lz: i32, hx: i32, hy: i32, hz: i32, value: *mut f32),
-    given(value, Rust.box_maxima(grid, &[[lx, ly, lz, hx, hy, hz]])[0])
-);
-
-grid_function!(
-    smokegrid_build_majorant,
-    grid,
-    (
-        medium: *const f32,
-        medium_len: usize,
-        corners: *const i32,
-        corners_len: usize,
-        majorants: *mut f32,
-        majorants_len: usize
-    ),
-    Rust.build_majorant(
-        grid,
-        from_raw_parts(medium, medium_len),
-        from_raw_parts(corners, corners_len),
-        from_raw_parts_mut(majorants, majorants_len)
-    )
-);
-
 /// # Safety
-/// Each pointer is valid for its length.
-#[no_mangle]
-pub unsafe extern "C" fn smokegrid_world_to_index_f(
-    medium: *const f32,
-    medium_len: usize,
-    x: f32,
-    y: f32,
-    z: f32,
-    index_bits: *mut u32,
-    index_bits_len: usize,
-) -> u32 {
-    let medium = from_raw_parts(medium, medium_len);
-    Rust.world_to_index_f(medium, [x, y, z], from_raw_parts_mut(index_bits, index_bits_len))
-}
-
-/// # Safety
-/// Each pointer is valid for its length.
+/// Each pointer is valid for its length, and no buffer that is written overlaps another.
 #[no_mangle]
 pub unsafe extern "C" fn smokegrid_decode_density_grid(
     bytes: *const u8,
@@ -136,20 +38,243 @@ pub unsafe extern "C" fn smokegrid_decode_density_grid(
     corners: *mut i32,
     corners_len: usize,
 ) -> u32 {
-    let lent = Lent {
-        blocks: from_raw_parts_mut(blocks, blocks_len),
-        root_links: from_raw_parts_mut(root_links, root_links_len),
-        root_values: from_raw_parts_mut(root_values, root_values_len),
-        upper_links: from_raw_parts_mut(upper_links, upper_links_len),
-        upper_values: from_raw_parts_mut(upper_values, upper_values_len),
-        lower_links: from_raw_parts_mut(lower_links, lower_links_len),
-        lower_values: from_raw_parts_mut(lower_values, lower_values_len),
-        leaf_values: from_raw_parts_mut(leaf_values, leaf_values_len),
-        work: from_raw_parts_mut(work, work_len),
-        counts: from_raw_parts_mut(counts, counts_len),
-        background: &mut *background,
-        medium: from_raw_parts_mut(medium, medium_len),
-        corners: from_raw_parts_mut(corners, corners_len),
+    behind::decode_density_grid(
+        from_raw_parts(bytes, bytes_len),
+        from_raw_parts_mut(blocks, blocks_len),
+        from_raw_parts_mut(root_links, root_links_len),
+        from_raw_parts_mut(root_values, root_values_len),
+        from_raw_parts_mut(upper_links, upper_links_len),
+        from_raw_parts_mut(upper_values, upper_values_len),
+        from_raw_parts_mut(lower_links, lower_links_len),
+        from_raw_parts_mut(lower_values, lower_values_len),
+        from_raw_parts_mut(leaf_values, leaf_values_len),
+        from_raw_parts_mut(work, work_len),
+        from_raw_parts_mut(counts, counts_len),
+        &mut *background,
+        from_raw_parts_mut(medium, medium_len),
+        from_raw_parts_mut(corners, corners_len),
+    )
+}
+
+/// # Safety
+/// Each pointer is valid for its length, and no buffer that is written overlaps another.
+#[no_mangle]
+pub unsafe extern "C" fn smokegrid_validate(
+    background: f32,
+    blocks: *const i32,
+    blocks_len: usize,
+    root_links: *const u32,
+    root_links_len: usize,
+    root_values: *const f32,
+    root_values_len: usize,
+    upper_links: *const u32,
+    upper_links_len: usize,
+    upper_values: *const f32,
+    upper_values_len: usize,
+    lower_links: *const u32,
+    lower_links_len: usize,
+    lower_values: *const f32,
+    lower_values_len: usize,
+    leaf_values: *const f32,
+    leaf_values_len: usize,
+) -> u32 {
+    let grid = Tables {
+        background,
+        blocks: from_raw_parts(blocks, blocks_len),
+        root_links: from_raw_parts(root_links, root_links_len),
+        root_values: from_raw_parts(root_values, root_values_len),
+        upper_links: from_raw_parts(upper_links, upper_links_len),
+        upper_values: from_raw_parts(upper_values, upper_values_len),
+        lower_links: from_raw_parts(lower_links, lower_links_len),
+        lower_values: from_raw_parts(lower_values, lower_values_len),
+        leaf_values: from_raw_parts(leaf_values, leaf_values_len),
     };
-    Rust.decode_density_grid(from_raw_parts(bytes, bytes_len), lent)
+    behind::validate(grid)
+}
+
+/// # Safety
+/// Each pointer is valid for its length, and no buffer that is written overlaps another.
+#[no_mangle]
+pub unsafe extern "C" fn smokegrid_validate_density(
+    background: f32,
+    blocks: *const i32,
+    blocks_len: usize,
+    root_links: *const u32,
+    root_links_len: usize,
+    root_values: *const f32,
+    root_values_len: usize,
+    upper_links: *const u32,
+    upper_links_len: usize,
+    upper_values: *const f32,
+    upper_values_len: usize,
+    lower_links: *const u32,
+    lower_links_len: usize,
+    lower_values: *const f32,
+    lower_values_len: usize,
+    leaf_values: *const f32,
+    leaf_values_len: usize,
+) -> u32 {
+    let grid = Tables {
+        background,
+        blocks: from_raw_parts(blocks, blocks_len),
+        root_links: from_raw_parts(root_links, root_links_len),
+        root_values: from_raw_parts(root_values, root_values_len),
+        upper_links: from_raw_parts(upper_links, upper_links_len),
+        upper_values: from_raw_parts(upper_values, upper_values_len),
+        lower_links: from_raw_parts(lower_links, lower_links_len),
+        lower_values: from_raw_parts(lower_values, lower_values_len),
+        leaf_values: from_raw_parts(leaf_values, leaf_values_len),
+    };
+    behind::validate_density(grid)
+}
+
+/// # Safety
+/// Each pointer is valid for its length, and no buffer that is written overlaps another.
+#[no_mangle]
+pub unsafe extern "C" fn smokegrid_get_value(
+    background: f32,
+    blocks: *const i32,
+    blocks_len: usize,
+    root_links: *const u32,
+    root_links_len: usize,
+    root_values: *const f32,
+    root_values_len: usize,
+    upper_links: *const u32,
+    upper_links_len: usize,
+    upper_values: *const f32,
+    upper_values_len: usize,
+    lower_links: *const u32,
+    lower_links_len: usize,
+    lower_values: *const f32,
+    lower_values_len: usize,
+    leaf_values: *const f32,
+    leaf_values_len: usize,
+    x: i32,
+    y: i32,
+    z: i32,
+    value: *mut f32,
+) -> u32 {
+    let grid = Tables {
+        background,
+        blocks: from_raw_parts(blocks, blocks_len),
+        root_links: from_raw_parts(root_links, root_links_len),
+        root_values: from_raw_parts(root_values, root_values_len),
+        upper_links: from_raw_parts(upper_links, upper_links_len),
+        upper_values: from_raw_parts(upper_values, upper_values_len),
+        lower_links: from_raw_parts(lower_links, lower_links_len),
+        lower_values: from_raw_parts(lower_values, lower_values_len),
+        leaf_values: from_raw_parts(leaf_values, leaf_values_len),
+    };
+    behind::get_value(grid, x, y, z, &mut *value)
+}
+
+/// # Safety
+/// Each pointer is valid for its length, and no buffer that is written overlaps another.
+#[no_mangle]
+pub unsafe extern "C" fn smokegrid_box_maximum(
+    background: f32,
+    blocks: *const i32,
+    blocks_len: usize,
+    root_links: *const u32,
+    root_links_len: usize,
+    root_values: *const f32,
+    root_values_len: usize,
+    upper_links: *const u32,
+    upper_links_len: usize,
+    upper_values: *const f32,
+    upper_values_len: usize,
+    lower_links: *const u32,
+    lower_links_len: usize,
+    lower_values: *const f32,
+    lower_values_len: usize,
+    leaf_values: *const f32,
+    leaf_values_len: usize,
+    lx: i32,
+    ly: i32,
+    lz: i32,
+    hx: i32,
+    hy: i32,
+    hz: i32,
+    value: *mut f32,
+) -> u32 {
+    let grid = Tables {
+        background,
+        blocks: from_raw_parts(blocks, blocks_len),
+        root_links: from_raw_parts(root_links, root_links_len),
+        root_values: from_raw_parts(root_values, root_values_len),
+        upper_links: from_raw_parts(upper_links, upper_links_len),
+        upper_values: from_raw_parts(upper_values, upper_values_len),
+        lower_links: from_raw_parts(lower_links, lower_links_len),
+        lower_values: from_raw_parts(lower_values, lower_values_len),
+        leaf_values: from_raw_parts(leaf_values, leaf_values_len),
+    };
+    behind::box_maximum(grid, lx, ly, lz, hx, hy, hz, &mut *value)
+}
+
+/// # Safety
+/// Each pointer is valid for its length, and no buffer that is written overlaps another.
+#[no_mangle]
+pub unsafe extern "C" fn smokegrid_world_to_index_f(
+    medium: *const f32,
+    medium_len: usize,
+    x: f32,
+    y: f32,
+    z: f32,
+    index_bits: *mut u32,
+    index_bits_len: usize,
+) -> u32 {
+    behind::world_to_index_f(
+        from_raw_parts(medium, medium_len),
+        x,
+        y,
+        z,
+        from_raw_parts_mut(index_bits, index_bits_len),
+    )
+}
+
+/// # Safety
+/// Each pointer is valid for its length, and no buffer that is written overlaps another.
+#[no_mangle]
+pub unsafe extern "C" fn smokegrid_build_majorant(
+    background: f32,
+    blocks: *const i32,
+    blocks_len: usize,
+    root_links: *const u32,
+    root_links_len: usize,
+    root_values: *const f32,
+    root_values_len: usize,
+    upper_links: *const u32,
+    upper_links_len: usize,
+    upper_values: *const f32,
+    upper_values_len: usize,
+    lower_links: *const u32,
+    lower_links_len: usize,
+    lower_values: *const f32,
+    lower_values_len: usize,
+    leaf_values: *const f32,
+    leaf_values_len: usize,
+    medium: *const f32,
+    medium_len: usize,
+    corners: *const i32,
+    corners_len: usize,
+    majorants: *mut f32,
+    majorants_len: usize,
+) -> u32 {
+    let grid = Tables {
+        background,
+        blocks: from_raw_parts(blocks, blocks_len),
+        root_links: from_raw_parts(root_links, root_links_len),
+        root_values: from_raw_parts(root_values, root_values_len),
+        upper_links: from_raw_parts(upper_links, upper_links_len),
+        upper_values: from_raw_parts(upper_values, upper_values_len),
+        lower_links: from_raw_parts(lower_links, lower_links_len),
+        lower_values: from_raw_parts(lower_values, lower_values_len),
+        leaf_values: from_raw_parts(leaf_values, leaf_values_len),
+    };
+    behind::build_majorant(
+        grid,
+        from_raw_parts(medium, medium_len),
+        from_raw_parts(corners, corners_len),
+        from_raw_parts_mut(majorants, majorants_len),
+    )
 }

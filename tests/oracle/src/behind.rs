@@ -1,0 +1,78 @@
+//! The Rust modules behind the functions of smokegrid.h, as a library: what the comparison is tried on. Built from a copy with one
+//! wrong step, it must be found out.
+
+use oracle::loader::{Answer, Lent, Loader, Rust, Tables};
+
+fn given(value: &mut f32, (number, bits): Answer) -> u32 {
+    *value = f32::from_bits(bits);
+    number
+}
+
+#[allow(clippy::too_many_arguments)]
+pub fn decode_density_grid(
+    bytes: &[u8],
+    blocks: &mut [i32],
+    root_links: &mut [u32],
+    root_values: &mut [f32],
+    upper_links: &mut [u32],
+    upper_values: &mut [f32],
+    lower_links: &mut [u32],
+    lower_values: &mut [f32],
+    leaf_values: &mut [f32],
+    work: &mut [u64],
+    counts: &mut [u64],
+    background: &mut f32,
+    medium: &mut [f32],
+    corners: &mut [i32],
+) -> u32 {
+    let lent = Lent {
+        blocks,
+        root_links,
+        root_values,
+        upper_links,
+        upper_values,
+        lower_links,
+        lower_values,
+        leaf_values,
+        work,
+        counts,
+        background,
+        medium,
+        corners,
+    };
+    Rust.decode_density_grid(bytes, lent)
+}
+
+pub fn validate(grid: Tables) -> u32 {
+    Rust.validate(grid)
+}
+
+pub fn validate_density(grid: Tables) -> u32 {
+    Rust.validate_density(grid)
+}
+
+pub fn get_value(grid: Tables, x: i32, y: i32, z: i32, value: &mut f32) -> u32 {
+    given(value, Rust.get_values(grid, &[[x, y, z]])[0])
+}
+
+#[allow(clippy::too_many_arguments)]
+pub fn box_maximum(
+    grid: Tables,
+    lx: i32,
+    ly: i32,
+    lz: i32,
+    hx: i32,
+    hy: i32,
+    hz: i32,
+    value: &mut f32,
+) -> u32 {
+    given(value, Rust.box_maxima(grid, &[[lx, ly, lz, hx, hy, hz]])[0])
+}
+
+pub fn world_to_index_f(medium: &[f32], x: f32, y: f32, z: f32, index_bits: &mut [u32]) -> u32 {
+    Rust.world_to_index_f(medium, [x, y, z], index_bits)
+}
+
+pub fn build_majorant(grid: Tables, medium: &[f32], corners: &[i32], majorants: &mut [f32]) -> u32 {
+    Rust.build_majorant(grid, medium, corners, majorants)
+}
