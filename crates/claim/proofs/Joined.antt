@@ -12,6 +12,7 @@ use Rattle.layout.specs.Bytes.{Bytes}
 use Rattle.layout.specs.Walk.{voxel}
 use Rattle.sparse_grid.specs.Tables.{Grid}
 use Rattle.medium.specs.Medium.{Medium, Point, Axis, boundsFault}
+use Rattle.medium.specs.Alike.{alike-same}
 use Rattle.nanovdb.specs.Decode.{Accepted, decodeDensity, mediumOf}
 use Rattle.nanovdb.specs.Lent as Lent
 use Rattle.nanovdb.specs.Lent.{Lent, Tables, tables, placesOf, decodeInto, answerOf, leftOf, Used, usedOf}
@@ -129,7 +130,7 @@ module _ (b : List ℕ) (l : Lent) (places : ℕ) where
         let p : buildIn a g places ≡ buildInto g (a .medium) cells places = ap (λ (n : ℕ). passing n (buildInto g (a .medium) cells places)) z in
         record {
           grid = H;
-          figures = λ zero. H .keeps .figures (a .medium) (record { low = refl; high = refl; map = refl; translation = refl }) places k table
+          figures = λ zero. H .keeps .figures (a .medium) alike-same places k table
               (k-is ∙ ap numberOf p) (table-is ∙ ap (valueOr (replicate places +0)) p) zero .1;
         }
 

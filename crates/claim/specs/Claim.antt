@@ -12,6 +12,7 @@ use Rattle.layout.specs.Coordinates.{Coord, Signed32}
 use Rattle.layout.specs.Walk.{voxel}
 use Rattle.sparse_grid.specs.Lookup.{lookup}
 use Rattle.medium.specs.Medium.{Medium, Point}
+use Rattle.medium.specs.Alike.{Alike}
 use Rattle.nanovdb.specs.Nodes.{Places}
 use Rattle.nanovdb.specs.Decode.{Accepted, decodeDensity, mediumOf}
 use Rattle.nanovdb.specs.Agreement.{ReadsAs}
@@ -30,13 +31,6 @@ Encloses b n k p = EnclosesIn (mediumOf b) n k p
 -- the point lies inside or on the world box in the bytes
 abbrev pub Inside : List ℕ → Point → Type 0
 Inside b p = Between (mediumOf b .low) (mediumOf b .high) p
-
--- a medium with the corners, the map and the translation of m
-pub record Alike (m n : Medium) : Type 0 where
-  pub low : n .low ≡ m .low
-  pub high : n .high ≡ m .high
-  pub map : n .map ≡ m .map
-  pub translation : n .translation ≡ m .translation
 
 abbrev pub cells : Cells
 cells = record { x = 64; y = 64; z = 64 }

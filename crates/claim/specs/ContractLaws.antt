@@ -15,6 +15,7 @@ use Rattle.sparse_grid.specs.Tables.{Grid}
 use Rattle.sparse_grid.specs.Lookup.{lookup}
 use Rattle.sparse_grid.specs.Answers.{valueOnly}
 use Rattle.medium.specs.Medium.{Point, Medium, mapFault}
+use Rattle.medium.specs.Alike.{Alike}
 use Rattle.nanovdb.specs.Decode.{Accepted, decodeDensity, mediumOf}
 use Rattle.nanovdb.specs.Lent.{Lent, Answer, Tables, placesOf, decodeInto, answerOf, leftOf, filled, usedOf}
 use Rattle.nanovdb.specs.Agreement.{ReadsAs}
@@ -26,7 +27,7 @@ use Rattle.index.specs.Answers.{indexBits}
 use Rattle.majorant.specs.Boxes.{Box, Greatest, boxMaximum}
 use Rattle.majorant.specs.Build.{publicMaximum, buildInto}
 use Rattle.majorant.specs.Accepted as Built
-use Rattle.claim.specs.Claim.{Alike, Inside, Bounds, Holds, cells}
+use Rattle.claim.specs.Claim.{Inside, Bounds, Holds, cells}
 use Rattle.claim.specs.Theorem.{demand3}
 use Rattle.claim.specs.Contracts.{indexOf, Keeps, Handed, ThroughContracts}
 

@@ -14,6 +14,7 @@ use Rattle.sparse_grid.specs.Tables.{Grid}
 use Rattle.sparse_grid.specs.Lookup.{lookup}
 use Rattle.sparse_grid.specs.Answers.{valueOnly}
 use Rattle.medium.specs.Medium.{Point, Medium, xAxis, yAxis, zAxis}
+use Rattle.medium.specs.Alike.{Alike}
 use Rattle.nanovdb.specs.Decode.{decodeDensity, mediumOf}
 use Rattle.nanovdb.specs.Lent.{Lent, Answer, Tables, decodeInto, answerOf, leftOf, filled, Used, usedOf}
 use Rattle.nanovdb.specs.Agreement.{ReadsAs}
@@ -21,7 +22,7 @@ use Rattle.index.specs.Index.{worldToIndex}
 use Rattle.index.specs.Answers.{indexBits}
 use Rattle.majorant.specs.Boxes.{Box, Greatest, boxMaximum}
 use Rattle.majorant.specs.Build.{publicMaximum, buildInto}
-use Rattle.claim.specs.Claim.{Alike, Inside, Bounds, cells}
+use Rattle.claim.specs.Claim.{Inside, Bounds, cells}
 
 -- the bits of a point's index position, with the map and the translation in the bytes
 abbrev pub indexOf : List ℕ → Point → List ℕ

@@ -19,6 +19,7 @@ use Rattle.layout.specs.Coordinates.{Coord, Signed32}
 use Rattle.layout.specs.Walk.{voxel}
 use Rattle.sparse_grid.specs.Lookup.{readIn}
 use Rattle.medium.specs.Medium.{Point, Medium, Axis, onPoint, onCoord}
+use Rattle.medium.specs.Alike.{Alike, alike-but-box}
 use Rattle.nanovdb.specs.Nodes.{Places}
 use Rattle.nanovdb.specs.Decode.{Accepted, decodeDensity, mediumOf, mediumAt}
 use Rattle.nanovdb.specs.Agreement.{ReadsAs}
@@ -29,31 +30,17 @@ use Rattle.index.specs.Enclosed.{Fitting, Numbered, enclosed}
 use Rattle.majorant.specs.Boxes.{Box, Greatest, boxMaximum}
 use Rattle.majorant.specs.Maximum.{greatest, max-same}
 use Rattle.majorant.specs.Bounded.{bounded, built}
-use Rattle.claim.specs.Claim.{Alike, Inside, cells, Bounds, Holds}
+use Rattle.claim.specs.Claim.{Inside, cells, Bounds, Holds}
 use Rattle.refusals.specs.Results.{ok}
 
 -- ---- a medium alike has the same corners and the same map
 corner-alike : (m n : Medium) → Alike m n → (a : Axis) (c k : ℕ) → corner n a c k ≡ corner m a c k
 unfolding corner
-corner-alike m n A a c k = λ i. corner (record {
-  low = A .low i;
-  high = A .high i;
-  indexLow = n .indexLow;
-  indexHigh = n .indexHigh;
-  map = n .map;
-  translation = n .translation;
-}) a c k
+corner-alike m n A a c k = ap (λ (x : Medium). corner x a c k) (alike-but-box A)
 
 index-alike : (m n : Medium) → Alike m n → (p : Point) (a : Axis) → worldToIndex n p a ≡ worldToIndex m p a
 unfolding worldToIndex
-index-alike m n A p a = λ i. worldToIndex (record {
-  low = n .low;
-  high = n .high;
-  indexLow = n .indexLow;
-  indexHigh = n .indexHigh;
-  map = A .map i;
-  translation = A .translation i;
-}) p a
+index-alike m n A p a = ap (λ (x : Medium). worldToIndex x p a) (alike-but-box A)
 
 cell-alike : (m n : Medium) → Alike m n → (c : Cells) (k o : ℕ) → cellCorner n c k o ≡ cellCorner m c k o
 cell-alike m n A c k o = λ i. record {

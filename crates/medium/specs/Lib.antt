@@ -1,2 +1,3 @@
 pub mod Medium
 pub mod Record
+pub mod Alike

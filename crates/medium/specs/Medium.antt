@@ -25,6 +25,17 @@ pub record Medium : Type 0 where
   pub map : List Float
   pub translation : Point
 
+-- a medium from its parts: media are made by this, so that a further field is added in one place
+abbrev pub makeMedium : Point → Point → Coord → Coord → List Float → Point → Medium
+makeMedium low high indexLow indexHigh map translation = record {
+  low = low;
+  high = high;
+  indexLow = indexLow;
+  indexHigh = indexHigh;
+  map = map;
+  translation = translation;
+}
+
 -- the three axes
 pub data Axis : Type 0 where
   xAxis yAxis zAxis : Axis

@@ -4,7 +4,7 @@ use lib.IntN.{ℤ, pos}
 use lib.ListN.{getD}
 use lib.Ieee.{Float, nan}
 use Rattle.layout.specs.Coordinates.{Coord}
-use Rattle.medium.specs.Medium.{Point, Medium}
+use Rattle.medium.specs.Medium.{Point, Medium, makeMedium}
 use Rattle.medium.specs.declared.Medium as Code
 
 abbrev pub pointOf : List Float → Point
@@ -17,11 +17,6 @@ abbrev pub nineOf : List Float → List Float
 nineOf l = getD l 0 nan ∷ getD l 1 nan ∷ getD l 2 nan ∷ getD l 3 nan ∷ getD l 4 nan ∷ getD l 5 nan ∷ getD l 6 nan ∷ getD l 7 nan ∷ getD l 8 nan ∷ []
 
 abbrev pub asMedium : Code.Medium → Medium
-asMedium m = record {
-  low = pointOf (m .low);
-  high = pointOf (m .high);
-  indexLow = coordOf (m .«index_low»);
-  indexHigh = coordOf (m .«index_high»);
-  map = nineOf (m .map);
-  translation = pointOf (m .translation);
-}
+asMedium m =
+    makeMedium (pointOf (m .low)) (pointOf (m .high)) (coordOf (m .«index_low»)) (coordOf (m .«index_high»)) (nineOf (m .map))
+    (pointOf (m .translation))

@@ -15,7 +15,7 @@ use Rattle.sparse_grid.specs.declared.Entry.{Entry}
 use Rattle.sparse_grid.specs.declared.Entry.the-variants.{Child, Tile}
 use Rattle.sparse_grid.specs.Tables.{Grid}
 use Rattle.sparse_grid.specs.Validate.{validate, densityFault}
-use Rattle.medium.specs.Medium.{Medium, each, boundsFault, indexFault, mapFault}
+use Rattle.medium.specs.Medium.{Medium, makeMedium, each, boundsFault, indexFault, mapFault}
 use Rattle.nanovdb.specs.Nodes.{Places}
 use Rattle.nanovdb.specs.Tree.{Root, Roots, tree}
 
@@ -26,14 +26,13 @@ boundAt b at = narrow (f64At b at)
 -- what the header, the map and the index box of a root at `root` say of the medium
 unfoldable pub mediumAt : List ℕ → ℕ → Medium
 mediumAt b root =
-    record {
-      low = record { x = boundAt b 560; y = boundAt b 568; z = boundAt b 576 };
-      high = record { x = boundAt b 584; y = boundAt b 592; z = boundAt b 600 };
-      indexLow = record { x = i32At b root; y = i32At b (root + 4); z = i32At b (root + 8) };
-      indexHigh = record { x = i32At b (root + 12); y = i32At b (root + 16); z = i32At b (root + 20) };
-      map = f32At b 332 ∷ f32At b 336 ∷ f32At b 340 ∷ f32At b 344 ∷ f32At b 348 ∷ f32At b 352 ∷ f32At b 356 ∷ f32At b 360 ∷ f32At b 364 ∷ [];
-      translation = record { x = f32At b 368; y = f32At b 372; z = f32At b 376 };
-    }
+    makeMedium
+    (record { x = boundAt b 560; y = boundAt b 568; z = boundAt b 576 })
+    (record { x = boundAt b 584; y = boundAt b 592; z = boundAt b 600 })
+    (record { x = i32At b root; y = i32At b (root + 4); z = i32At b (root + 8) })
+    (record { x = i32At b (root + 12); y = i32At b (root + 16); z = i32At b (root + 20) })
+    (f32At b 332 ∷ f32At b 336 ∷ f32At b 340 ∷ f32At b 344 ∷ f32At b 348 ∷ f32At b 352 ∷ f32At b 356 ∷ f32At b 360 ∷ f32At b 364 ∷ [])
+    (record { x = f32At b 368; y = f32At b 372; z = f32At b 376 })
 
 -- the root stands at 672 plus the u64 at 696
 abbrev pub rootPlace : List ℕ → ℕ

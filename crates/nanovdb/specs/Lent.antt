@@ -12,7 +12,7 @@ use Rattle.float.specs.Zero.{+0}
 use Rattle.lent.specs.Padded.{padded}
 use Rattle.layout.specs.Coordinates.{Coord}
 use Rattle.sparse_grid.specs.Tables.{Grid, gridOf}
-use Rattle.medium.specs.Medium.{Point, Medium}
+use Rattle.medium.specs.Medium.{Point, Medium, makeMedium}
 use Rattle.nanovdb.specs.Nodes.{Places}
 use Rattle.nanovdb.specs.Decode.{Accepted}
 
@@ -61,7 +61,7 @@ abbrev noCoord : Coord
 noCoord = record { x = pos 0; y = pos 0; z = pos 0 }
 
 abbrev pub noMedium : Medium
-noMedium = record { low = noPoint; high = noPoint; indexLow = noCoord; indexHigh = noCoord; map = +0 ∷ +0 ∷ +0 ∷ +0 ∷ +0 ∷ +0 ∷ +0 ∷ +0 ∷ +0 ∷ []; translation = noPoint }
+noMedium = makeMedium noPoint noPoint noCoord noCoord (+0 ∷ +0 ∷ +0 ∷ +0 ∷ +0 ∷ +0 ∷ +0 ∷ +0 ∷ +0 ∷ []) noPoint
 
 abbrev pub answerOf : Result Accepted → Answer
 answerOf (ok t) = record {

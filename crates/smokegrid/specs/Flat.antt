@@ -11,7 +11,7 @@ use Rattle.refusals.specs.Faults.{unless, passing}
 use Rattle.float.specs.Zero.{+0}
 use Rattle.layout.specs.Coordinates.{Coord}
 use Rattle.sparse_grid.specs.Tables.{Grid}
-use Rattle.medium.specs.Medium.{Point, Medium}
+use Rattle.medium.specs.Medium.{Point, Medium, makeMedium}
 use Rattle.nanovdb.specs.Decode.{Accepted, decodeDensity}
 use Rattle.nanovdb.specs.Lent.{Lent, Answer, answerOf, decodeInto}
 use Rattle.index.specs.Answers.{indexBits}
@@ -64,14 +64,10 @@ point l k = record { x = getD l k nan; y = getD l (k + 1) nan; z = getD l (k + 2
 
 -- the medium of 18 numbers and 6 corners: an array of that length has every place that is read, so the defaults are never met
 abbrev pub mediumFrom : List Float → List ℤ → Medium
-mediumFrom l c = record {
-  low = point l 0;
-  high = point l 3;
-  indexLow = three c 0;
-  indexHigh = three c 3;
-  map = getD l 6 nan ∷ getD l 7 nan ∷ getD l 8 nan ∷ getD l 9 nan ∷ getD l 10 nan ∷ getD l 11 nan ∷ getD l 12 nan ∷ getD l 13 nan ∷ getD l 14 nan ∷ [];
-  translation = point l 15;
-}
+mediumFrom l c =
+    makeMedium (point l 0) (point l 3) (three c 0) (three c 3)
+    (getD l 6 nan ∷ getD l 7 nan ∷ getD l 8 nan ∷ getD l 9 nan ∷ getD l 10 nan ∷ getD l 11 nan ∷ getD l 12 nan ∷ getD l 13 nan ∷ getD l 14 nan ∷ [])
+    (point l 15)
 
 -- 18 for a medium or index bits of another length; the corners play no part
 unfoldable pub indexFlat : List Float → Point → ℕ → Result (List ℕ)

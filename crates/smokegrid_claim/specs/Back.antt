@@ -13,7 +13,7 @@ use Rattle.nanovdb.specs.Decode.{Accepted, decodeDensity, mediumOf, mediumAt}
 use Rattle.nanovdb.specs.Lent.{Lent, decodeInto, leftOf}
 use Rattle.nanovdb.specs.Numbers.{Numbered, numbered, not-zero}
 use Rattle.nanovdb.specs.UsedLaws.{used-parts, used-room}
-use Rattle.claim.specs.Claim.{Alike}
+use Rattle.medium.specs.Alike.{Alike}
 use Rattle.claim.specs.ContractLaws.{same-medium}
 use Rattle.smokegrid.specs.Flat.{floatsOf, cornersOf, mediumFrom, flatFault, decodeFlat, countsLeft, backgroundLeft, mediumLeft, cornersLeft}
 use Rattle.smokegrid.specs.Promises.{Left, Decodes}
