@@ -7,7 +7,7 @@ ghost use Rattle.refusals.specs.Results.{numberOf, valueOr};
 ghost use Rattle.float.specs.Zero.{+0};
 ghost use Rattle.layout.specs.Bytes.{Bytes};
 ghost use Rattle.sparse_grid.specs.Tables.{gridOf};
-ghost use Rattle.sparse_grid.specs.Answers.{answer as outcome};
+ghost use Rattle.sparse_grid.specs.Answers.{outcome};
 ghost use Rattle.medium.specs.Record.{asMedium, pointOf};
 ghost use Rattle.decode.specs.Answers.{answer as decoded};
 ghost use Rattle.nanovdb.specs.Lent.{tables, lengths, Used, usedOf};

@@ -14,8 +14,8 @@ module _ {A : Type 0} where
     pub same : length s ≡ length d
     pub filled : s ≡ replicate n v ++ drop n d
 
-  pub fill-none : (v : A) (d : List A) → Filled v d 0 d
-  fill-none v d = record { within = omega arith; same = refl; filled = refl }
+  pub fill-none : {v : A} {d : List A} → Filled v d 0 d
+  fill-none = record { within = omega arith; same = refl; filled = refl }
 
   fill-suc : (n : ℕ) (v : A) (d : List A) → n < length d → set (replicate n v ++ drop n d) n v ≡ replicate (suc n) v ++ drop (suc n) d
   fill-suc n v [] l = absurd (not-suc-le-zero l)
@@ -23,8 +23,8 @@ module _ {A : Type 0} where
   fill-suc (suc n) v (x ∷ d) l = ap (λ (t : List A). v ∷ t) (fill-suc n v d (le-of-suc-le-suc l))
 
   -- one store more, at n
-  pub fill-more : (v : A) (d : List A) (n : ℕ) (s : List A) → Filled v d n s → n < length s → Filled v d (n + 1) (set s n v)
-  fill-more v d n s f l =
+  pub fill-more : {v : A} {d : List A} {n : ℕ} {s : List A} → Filled v d n s → n < length s → Filled v d (n + 1) (set s n v)
+  fill-more {v} {d} {n} f l =
       let h : n < length d = omega (arith, f .same) in
       record {
         within = omega arith;
@@ -33,8 +33,8 @@ module _ {A : Type 0} where
       }
 
   -- filled to its end
-  pub fill-all : (v : A) (d : List A) (n : ℕ) (s : List A) → Filled v d n s → length s ≤ n → s ≡ replicate (length d) v
-  fill-all v d n s f l =
+  pub fill-all : {v : A} {d : List A} {n : ℕ} {s : List A} → Filled v d n s → length s ≤ n → s ≡ replicate (length d) v
+  fill-all {v} {d} {n} f l =
       let z : drop n d ≡ [] = drop-of-length-le d {i = n} (omega (arith, f .same)) in
       let e : n ≡ length d = omega (arith, f .same, f .within) in
       f .filled ∙ rw z (append-nil _ ∙ ap (λ (k : ℕ). replicate k v) e)

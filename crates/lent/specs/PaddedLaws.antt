@@ -13,10 +13,6 @@ module _ {A : Type 0} where
   unfolding padded
   padded-none n z = let e : n - 0 ≡ n = omega arith in ap (λ (k : ℕ). replicate k z) e
 
-  pub padded-length : (n : ℕ) (z : A) (l : List A) → length l ≤ n → length (padded n z l) ≡ n
-  unfolding padded
-  padded-length n z l h = length-append l (replicate (n - length l) z) ∙ omega (arith, length-replicate (n - length l) z)
-
   -- the used part has a place in its own table
   pub padded-fits : (t : List A) (z : A) (l : List A) → t ≡ padded (length t) z l → length l ≤ length t
   unfolding padded

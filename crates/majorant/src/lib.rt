@@ -3,7 +3,7 @@ ghost use mathlib.Core.Path.{_≡_};
 ghost use Rattle.sparse_grid.specs.Tables.{gridOf};
 ghost use Rattle.sparse_grid.specs.Answers.{answer};
 ghost use lib.ListN.{length, replicate};
-ghost use Rattle.refusals.specs.Results.{numberOf, valueOr};
+ghost use Rattle.refusals.specs.Results.{numberOf, valueOr, said};
 ghost use Rattle.float.specs.Zero.{+0};
 ghost use Rattle.medium.specs.Record.{asMedium};
 ghost use Rattle.majorant.specs.Build.{publicMaximum, cube, buildInto};
@@ -39,7 +39,11 @@ pub fn box_maximum(
     hy: i32,
     hz: i32,
 ) -> Answer
-    ensures { λ r. ⌜ answer r ≡ publicMaximum (gridOf background (now (blocks .entry)) (now («root_links» .entry)) (now («root_values» .entry)) (now («upper_links» .entry)) (now («upper_values» .entry)) (now («lower_links» .entry)) (now («lower_values» .entry)) (now («leaf_values» .entry))) (between lx ly lz hx hy hz) ⌝ }
+    ensures { λ r.
+        let g = gridOf background (now (blocks .entry)) (now («root_links» .entry)) (now («root_values» .entry))
+        (now («upper_links» .entry)) (now («upper_values» .entry)) (now («lower_links» .entry)) (now («lower_values» .entry))
+        (now («leaf_values» .entry)) in
+        ⌜ answer r ≡ said +0 (publicMaximum g (between lx ly lz hx hy hz)) ⌝ }
 {
     let fault = validate(
         background,

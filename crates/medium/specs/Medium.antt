@@ -85,7 +85,9 @@ zeroes v = eq v +0
 unfoldable pub mapFault : Medium → ℕ
 mapFault m =
     let at : ℕ → Float = λ i. getD (m .map) i +0 in
-    unless (diagonal (at 0) && zeroes (at 1) && zeroes (at 2) && zeroes (at 3) && diagonal (at 4) && zeroes (at 5) && zeroes (at 6) && zeroes (at 7) && diagonal (at 8)
+    unless (diagonal (at 0) && zeroes (at 1) && zeroes (at 2)
+    && zeroes (at 3) && diagonal (at 4) && zeroes (at 5)
+    && zeroes (at 6) && zeroes (at 7) && diagonal (at 8)
     && finite (m .translation .x) && finite (m .translation .y) && finite (m .translation .z)) 13
 
 -- the checks of a build, in order

@@ -2,7 +2,7 @@
 use mathlib.Core.Path.{_≡_, refl, sym, ap, _∙_, subst}
 use mathlib.Core.Bool.{Bool, cond}
 use mathlib.Core.List.{List, [], _∷_, _++_}
-use Prim.Native.Nat.{ℕ, zero, suc, _+_, _-_, _*_, _/_, _≤_, _<_, min}
+use Prim.Native.Nat.{ℕ, zero, suc, _+_, _-_, _*_, _≤_, _<_, min}
 use native.Mathlib.Omega.{arith}
 use lib.IntN.{ℤ, pos}
 use lib.ListN.{length, getD, take, drop, replicate, length-append}
@@ -14,23 +14,26 @@ use Rattle.lent.specs.Padded.{padded}
 use Rattle.sparse_grid.specs.Tables.{Grid}
 use Rattle.nanovdb.specs.Decode.{Accepted, decodeDensity}
 use Rattle.nanovdb.specs.Lent.{Lent, Answer, Tables, answerOf, leftOf, decodeInto}
-use Rattle.text.specs.Page.{Page, page, puts}
-use Rattle.text.specs.PageLaws.{puts-front}
-use Rattle.report.specs.Report.{gridLine, nodesLine, boxLine, backLine, rootLine, rootLines, refusedLine, longLine, textOf, lent, reportOf}
+use Rattle.text.specs.Page.{Page, page}
+use Rattle.text.specs.PageLaws.{Wrote, same-text, puts-front}
+use Rattle.report.specs.Report.{gridLine, nodesLine, boxLine, backLine, rootLine, rootLines, refusedLine, longLine}
+use Rattle.report.specs.Report.{textOf, lent, reportOf}
 use Rattle.report.specs.Inner.{rootsIn, linesIn, textIn}
 use Rattle.nanovdb.specs.Numbers.{Numbered, value, number, numbered}
 
 -- ---- the branches of the code
 
-pub text-refused : (p q : Page) (n : ℕ) (a : Answer) (blocks : List ℤ) (values : List Float) → (a .number ≡ 0 → ⊥) → q ≡ puts p (refusedLine (a .number)) → q ≡ puts p (textIn n a blocks values)
-unfolding textIn
-text-refused p q n a blocks values h e =
-    e ∙ ap (λ (t : Bool). puts p (cond t (linesIn n a blocks values) (refusedLine (a .number)))) (sym (ne-eqb (a .number) 0 h))
+module _ (n : ℕ) (a : Answer) (blocks : List ℤ) (values : List Float) where
+  abbrev byNumber : Bool → List ℕ
+  byNumber t = cond t (linesIn n a blocks values) (refusedLine (a .number))
 
-pub text-lines : (p q : Page) (n : ℕ) (a : Answer) (blocks : List ℤ) (values : List Float) → a .number ≡ 0 → q ≡ puts p (linesIn n a blocks values) → q ≡ puts p (textIn n a blocks values)
-unfolding textIn
-text-lines p q n a blocks values h e =
-    e ∙ ap (λ (t : Bool). puts p (cond t (linesIn n a blocks values) (refusedLine (a .number)))) (sym (eq-eqb (a .number) 0 h))
+  pub text-refused : {p q : Page} → (a .number ≡ 0 → ⊥) → Wrote p (refusedLine (a .number)) q → Wrote p (textIn n a blocks values) q
+  unfolding textIn
+  text-refused h e = same-text e (ap byNumber (sym (ne-eqb (a .number) 0 h)))
+
+  pub text-lines : {p q : Page} → a .number ≡ 0 → Wrote p (linesIn n a blocks values) q → Wrote p (textIn n a blocks values) q
+  unfolding textIn
+  text-lines h e = same-text e (ap byNumber (sym (eq-eqb (a .number) 0 h)))
 
 -- ---- the tables, which have zeros past the roots
 
@@ -53,47 +56,65 @@ module _ {A : Type 0} where
   unfolding padded
   padded-most n z l t e h = omega (arith, ap length e, length-append l (replicate (n - length l) z))
 
-lines-same : (n : ℕ) (g : Grid) (blocks : List ℤ) (values : List Float)
-    → ((i : ℕ) → getD blocks i (pos 0) ≡ getD (g .blocks) i (pos 0)) → ((i : ℕ) → getD values i +0 ≡ getD (g .rootValues) i +0) → rootLines (rootsIn blocks values) n ≡ rootLines g n
+-- blocks and values that read as those of the grid do
+record Alike (g : Grid) (blocks : List ℤ) (values : List Float) : Type 0 where
+  block : (i : ℕ) → getD blocks i (pos 0) ≡ getD (g .blocks) i (pos 0)
+  value : (i : ℕ) → getD values i +0 ≡ getD (g .rootValues) i +0
+
+lines-same : {g : Grid} {blocks : List ℤ} {values : List Float} (n : ℕ) → Alike g blocks values → rootLines (rootsIn blocks values) n ≡ rootLines g n
 unfolding rootLines
-lines-same zero g blocks values h k = refl
-lines-same (suc n) g blocks values h k = λ i. lines-same n g blocks values h k i ++ rootLine (record { x = h (3 * n) i; y = h (3 * n + 1) i; z = h (3 * n + 2) i }) (k n i)
+lines-same zero h = refl
+lines-same (suc n) h =
+    λ i. lines-same n h i
+    ++ rootLine (record { x = h .block (3 * n) i; y = h .block (3 * n + 1) i; z = h .block (3 * n + 2) i }) (h .value n i)
 
 text-is : (n : ℕ) (l : Lent) {r : Result Accepted} → Numbered r → textIn n (answerOf r) (leftOf l r .blocks) (leftOf l r .rootValues) ≡ textOf n r
 unfolding textIn linesIn textOf
 text-is n l (value t) =
     let g = t .grid in
-    ap (λ (x : List ℕ). gridLine n ++ (nodesLine (length (g .rootLinks)) (length (g .upperLinks) / 32768) (length (g .lowerLinks) / 4096) (length (g .leafValues) / 512) ++ (boxLine (t .medium) ++ (backLine (g .background) ++ x))))
-    (lines-same (length (g .rootLinks)) g (padded (l .blocks) (pos 0) (g .blocks)) (padded (l .rootValues) +0 (g .rootValues)) (getD-padded (l .blocks) (pos 0) (g .blocks)) (getD-padded (l .rootValues) +0 (g .rootValues)))
-text-is n l (number k) = ap (λ (t : Bool). cond t (linesIn n (answerOf (refused (suc k))) (leftOf l (refused (suc k)) .blocks) (leftOf l (refused (suc k)) .rootValues)) (refusedLine (suc k))) (ne-eqb (suc k) 0 (λ e. omega arith))
+    let a = answerOf (ok t) in
+    let same : Alike g (padded (l .blocks) (pos 0) (g .blocks)) (padded (l .rootValues) +0 (g .rootValues))
+    = record { block = getD-padded (l .blocks) (pos 0) (g .blocks); value = getD-padded (l .rootValues) +0 (g .rootValues) } in
+    ap (λ (x : List ℕ).
+    gridLine n ++ (nodesLine (a .roots) (a .upper) (a .lower) (a .leaf) ++ (boxLine (t .medium) ++ (backLine (g .background) ++ x))))
+    (lines-same (length (g .rootLinks)) same)
+text-is n l (number k) =
+    let r = refused (suc k) in
+    ap (λ (t : Bool). cond t (linesIn n (answerOf r) (leftOf l r .blocks) (leftOf l r .rootValues)) (refusedLine (suc k)))
+    (ne-eqb (suc k) 0 (λ e. omega arith))
 
 -- ---- the report
 
-pub report-is : (b : List ℕ) (l : Lent) (a : Answer) (t : Tables) → l ≡ lent → length b ≤ 32768 → a ≡ answerOf (decodeInto decodeDensity b l) → t ≡ leftOf l (decodeInto decodeDensity b l)
-    → textIn (length b) a (t .blocks) (t .rootValues) ≡ reportOf b
+-- an answer and tables as the decode of b leaves them
+pub record Left (b : List ℕ) (a : Answer) (t : Tables) : Type 0 where
+  pub answer : a ≡ answerOf (decodeInto decodeDensity b lent)
+  pub tables : t ≡ leftOf lent (decodeInto decodeDensity b lent)
+
+-- what the test of the length decides
+abbrev bySize : List ℕ → Bool → List ℕ
+bySize b t = cond t (textOf (length b) (decodeInto decodeDensity b lent)) longLine
+
+pub report-is : {b : List ℕ} {a : Answer} {t : Tables} → Left b a t → length b ≤ 32768 → textIn (length b) a (t .blocks) (t .rootValues) ≡ reportOf b
 unfolding reportOf
-report-is b l a t e h d f =
-    (λ i. textIn (length b) (d i) (f i .blocks) (f i .rootValues))
-    ∙ ap (λ (x : Lent). textIn (length b) (answerOf (decodeInto decodeDensity b x)) (leftOf x (decodeInto decodeDensity b x) .blocks) (leftOf x (decodeInto decodeDensity b x) .rootValues)) e
+report-is {b} left h =
+    (λ i. textIn (length b) (left .answer i) (left .tables i .blocks) (left .tables i .rootValues))
     ∙ text-is (length b) lent (numbered b lent)
-    ∙ ap (λ (x : Bool). cond x (textOf (length b) (decodeInto decodeDensity b lent)) longLine) (sym (le-leb (length b) 32768 h))
+    ∙ ap (bySize b) (sym (le-leb (length b) 32768 h))
 
 pub long-is : (b : List ℕ) → 32768 < length b → longLine ≡ reportOf b
 unfolding reportOf
-long-is b h = ap (λ (x : Bool). cond x (textOf (length b) (decodeInto decodeDensity b lent)) longLine) (sym (lt-leb (length b) 32768 h))
+long-is b h = ap (bySize b) (sym (lt-leb (length b) 32768 h))
 
 -- no more roots than are lent
-most : (r : Result Accepted) (a : Answer) (t : Tables) → a ≡ answerOf r → t ≡ leftOf lent r → length (t .rootLinks) ≡ 999 → a .roots ≤ 999
-most (ok x) a t d f h = subst (λ (y : Answer). y .roots ≤ 999) (sym d) (padded-most 999 0 (x .grid .rootLinks) (t .rootLinks) (ap (λ (y : Tables). y .rootLinks) f) h)
-most (refused n) a t d f h = subst (λ (y : Answer). y .roots ≤ 999) (sym d) (omega arith)
+most : (r : Result Accepted) (t : Tables) → t ≡ leftOf lent r → length (t .rootLinks) ≡ 999 → answerOf r .roots ≤ 999
+most (ok x) t f h = padded-most 999 0 (x .grid .rootLinks) (t .rootLinks) (ap (λ (y : Tables). y .rootLinks) f) h
+most (refused n) t f h = omega arith
 
-pub roots-most : (b : List ℕ) (l : Lent) (a : Answer) (t : Tables) → l ≡ lent → a ≡ answerOf (decodeInto decodeDensity b l) → t ≡ leftOf l (decodeInto decodeDensity b l) → length (t .rootLinks) ≡ 999 → a .roots ≤ 999
-roots-most b l a t e d f h =
-    most (decodeInto decodeDensity b lent) a t
-    (d ∙ ap (λ (x : Lent). answerOf (decodeInto decodeDensity b x)) e)
-    (f ∙ ap (λ (x : Lent). leftOf x (decodeInto decodeDensity b x)) e)
-    h
+pub roots-most : {b : List ℕ} {a : Answer} {t : Tables} → Left b a t → length (t .rootLinks) ≡ 999 → a .roots ≤ 999
+roots-most {b} {t = t} left h =
+    subst (λ (y : Answer). y .roots ≤ 999) (sym (left .answer)) (most (decodeInto decodeDensity b lent) t (left .tables) h)
 
 -- a text at the front of a slice
-pub at-front : (l o bs : List ℕ) (r : ℕ) → page o r ≡ puts (page l 0) bs → (r ≡ min (length bs) (length l)) × (o ≡ take (length l) bs ++ drop (length bs) l)
-at-front l o bs r e = let f = e ∙ puts-front l bs in (ap (λ (p : Page). p .at) f, ap (λ (p : Page). p .cells) f)
+pub at-front : {l o bs : List ℕ} {r : ℕ} → Wrote (page l 0) bs (page o r)
+    → (r ≡ min (length bs) (length l)) × (o ≡ take (length l) bs ++ drop (length bs) l)
+at-front {l} {bs = bs} e = let f = e .is ∙ puts-front l bs in (ap (λ (p : Page). p .at) f, ap (λ (p : Page). p .cells) f)

@@ -20,7 +20,11 @@ rootsIn blocks values = gridOf +0 blocks [] values [] [] [] [] []
 
 unfoldable pub linesIn : ℕ → Answer → List ℤ → List Float → List ℕ
 linesIn n a blocks values =
-    gridLine n ++ (nodesLine (a .roots) (a .upper) (a .lower) (a .leaf) ++ (boxLine (a .medium) ++ (backLine (a .background) ++ rootLines (rootsIn blocks values) (a .roots))))
+    gridLine n
+    ++ (nodesLine (a .roots) (a .upper) (a .lower) (a .leaf)
+    ++ (boxLine (a .medium)
+    ++ (backLine (a .background)
+    ++ rootLines (rootsIn blocks values) (a .roots))))
 
 unfoldable pub textIn : ℕ → Answer → List ℤ → List Float → List ℕ
 textIn n a blocks values = cond (eqb (a .number) 0) (linesIn n a blocks values) (refusedLine (a .number))

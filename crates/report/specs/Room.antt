@@ -1,5 +1,5 @@
 -- How long the text can be: 65,536 bytes hold it. Assumes nothing.
-use mathlib.Core.Path.{_≡_, refl, sym, ap, _∙_, subst}
+use mathlib.Core.Path.{_≡_, refl, sym, subst}
 use mathlib.Core.Bool.{Bool, true, false, cond}
 use mathlib.Core.List.{List, _++_}
 use Prim.Native.Nat.{ℕ, zero, suc, _+_, _-_, _*_, _/_, _^_, _≤_, _<_}
@@ -23,9 +23,10 @@ use Rattle.sparse_grid.specs.Sound.{sound}
 use Rattle.medium.specs.Medium.{Medium}
 use Rattle.nanovdb.specs.Decode.{Accepted, mediumOf, rootPlace, decodeDensity}
 use Rattle.nanovdb.specs.Passed.{density-passed}
-use Rattle.nanovdb.specs.Lent.{Lent, lentFault, placesOf, Answer, answerOf, decodeInto}
+use Rattle.nanovdb.specs.Lent.{lentFault, placesOf, Answer, answerOf, decodeInto}
 use Rattle.text.specs.Lengths.{decimal-length, signed-length, sixteens-length}
-use Rattle.report.specs.Report.{gridWord, nodesWord, boxWord, backWord, rootWord, refusedWord, newline, number, coordinate, triple, bits, gridLine, nodesLine, boxLine, backLine, rootLine, rootLines, refusedLine, longLine, textOf, lent, reportOf}
+use Rattle.report.specs.Report.{gridWord, nodesWord, boxWord, backWord, rootWord, refusedWord, newline, number, coordinate, triple, bits}
+use Rattle.report.specs.Report.{gridLine, nodesLine, boxLine, backLine, rootLine, rootLines, refusedLine, longLine, textOf, lent, reportOf}
 
 -- the counts and the number of an answer that the code holds are u64
 pub record Counted (a : Answer) : Type 0 where
@@ -75,7 +76,8 @@ grid-room n h = both (within gridWord 4 (omega arith)) (both (number-room n h) e
 nodes-room : (r u l f : ℕ) → r ≤ 999 → u < 2 ^ 64 → l < 2 ^ 64 → f < 2 ^ 64 → Within (nodesLine r u l f) 90
 unfolding nodesLine nodesWord
 nodes-room r u l f hr hu hl hf =
-    both (within nodesWord 5 (omega arith)) (both (number-room r (omega arith)) (both (number-room u hu) (both (number-room l hl) (both (number-room f hf) end))))
+    both (within nodesWord 5 (omega arith))
+    (both (number-room r (omega arith)) (both (number-room u hu) (both (number-room l hl) (both (number-room f hf) end))))
 
 box-room : (m : Medium) → Signed32 (m .indexLow) → Signed32 (m .indexHigh) → Within (boxLine m) 76
 unfolding boxLine boxWord
@@ -124,15 +126,28 @@ block-mag (negsuc n) e = omega (arith, leb→le n 524287 (and-l (leb n 524287) t
 
 low-corner : (b : List ℕ) → ((i : ℕ) → getD b i 0 < 256) → Signed32 (mediumOf b .indexLow)
 unfolding mediumOf
-low-corner b h = let at = rootPlace b in record { x = signed-mag _ (u32-below b at h); y = signed-mag _ (u32-below b (at + 4) h); z = signed-mag _ (u32-below b (at + 8) h) }
+low-corner b h =
+    let at = rootPlace b in
+    record {
+      x = signed-mag _ (u32-below b at h);
+      y = signed-mag _ (u32-below b (at + 4) h);
+      z = signed-mag _ (u32-below b (at + 8) h);
+    }
 
 high-corner : (b : List ℕ) → ((i : ℕ) → getD b i 0 < 256) → Signed32 (mediumOf b .indexHigh)
 unfolding mediumOf
-high-corner b h = let at = rootPlace b in record { x = signed-mag _ (u32-below b (at + 12) h); y = signed-mag _ (u32-below b (at + 16) h); z = signed-mag _ (u32-below b (at + 20) h) }
+high-corner b h =
+    let at = rootPlace b in
+    record {
+      x = signed-mag _ (u32-below b (at + 12) h);
+      y = signed-mag _ (u32-below b (at + 16) h);
+      z = signed-mag _ (u32-below b (at + 20) h);
+    }
 
 -- ---- the text
 
-text-room : (b : List ℕ) → ((i : ℕ) → getD b i 0 < 256) → length b ≤ 32768 → (r : Result Accepted) → decodeInto decodeDensity b lent ≡ r → Counted (answerOf r) → answerOf r .roots ≤ 999
+text-room : (b : List ℕ) → ((i : ℕ) → getD b i 0 < 256) → length b ≤ 32768
+    → (r : Result Accepted) → decodeInto decodeDensity b lent ≡ r → Counted (answerOf r) → answerOf r .roots ≤ 999
     → length (textOf (length b) r) ≤ 65536
 unfolding textOf decodeInto
 text-room b bytes size (ok t) e counted few =
@@ -144,19 +159,22 @@ text-room b bytes size (ok t) e counted few =
     let low = subst (λ (m : Medium). Signed32 (m .indexLow)) (sym (q .medium)) (low-corner b bytes) in
     let high = subst (λ (m : Medium). Signed32 (m .indexHigh)) (sym (q .medium)) (high-corner b bytes) in
     let roots = roots-room g (length (g .rootLinks)) block in
+    let nodes =
+    nodes-room (length (g .rootLinks)) (length (g .upperLinks) / 32768) (length (g .lowerLinks) / 4096) (length (g .leafValues) / 512)
+    few (counted .upper) (counted .lower) (counted .leaf) in
     let all =
     both (grid-room (length b) (omega arith))
-    (both (nodes-room (length (g .rootLinks)) (length (g .upperLinks) / 32768) (length (g .lowerLinks) / 4096) (length (g .leafValues) / 512) few (counted .upper) (counted .lower) (counted .leaf))
+    (both nodes
     (both (box-room (t .medium) low high)
     (both (back-room (g .background)) (within (rootLines g (length (g .rootLinks))) 49950 (omega arith))))) in
     omega (arith, all .most)
 text-room b bytes size (refused k) e counted few = omega (arith, refused-room k (counted .number) .most)
 
 -- 65,536 bytes hold the report, where the numbers of the decode's answer are u64
-pub report-room : (b : List ℕ) (l : Lent) (a : Answer) → ((i : ℕ) → getD b i 0 < 256) → length b ≤ 32768 → l ≡ lent → a ≡ answerOf (decodeInto decodeDensity b l) → Counted a → a .roots ≤ 999
-    → length (reportOf b) ≤ 65536
+pub report-room : (b : List ℕ) {a : Answer} → ((i : ℕ) → getD b i 0 < 256) → length b ≤ 32768
+    → a ≡ answerOf (decodeInto decodeDensity b lent) → Counted a → a .roots ≤ 999 → length (reportOf b) ≤ 65536
 unfolding reportOf
-report-room b l a bytes size same d counted few =
-    let d′ = d ∙ ap (λ (x : Lent). answerOf (decodeInto decodeDensity b x)) same in
-    subst (λ (t : Bool). length (cond t (textOf (length b) (decodeInto decodeDensity b lent)) longLine) ≤ 65536) (sym (le-leb (length b) 32768 size))
-    (text-room b bytes size (decodeInto decodeDensity b lent) refl (subst Counted d′ counted) (subst (λ (x : Answer). x .roots ≤ 999) d′ few))
+report-room b bytes size d counted few =
+    let read = decodeInto decodeDensity b lent in
+    subst (λ (t : Bool). length (cond t (textOf (length b) read) longLine) ≤ 65536) (sym (le-leb (length b) 32768 size))
+    (text-room b bytes size read refl (subst Counted d counted) (subst (λ (x : Answer). x .roots ≤ 999) d few))

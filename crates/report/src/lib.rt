@@ -19,7 +19,9 @@ pub const MOST: usize = 32768;
 // The lines of a grid of n bytes.
 fn put_lines(out: &mut [u8], n: u64, d: Decoded, blocks: &[i32], values: &[f32]) -> usize
     requires { ⌜ (d .roots ≤ 999) × (2997 ≤ length (now blocks)) × (999 ≤ length (now values)) ⌝ }
-    ensures { λ r. ⌜ page (now (out .exit)) r ≡ puts (page (now (out .entry)) 0) (linesIn n (answer d) (now (blocks .entry)) (now (values .entry))) ⌝ }
+    ensures { λ r.
+        let lines = linesIn n (answer d) (now (blocks .entry)) (now (values .entry)) in
+        ⌜ page (now (out .exit)) r ≡ puts (page (now (out .entry)) 0) lines ⌝ }
 {
     let second = lines::put_grid(out, 0, n);
     let third = lines::put_nodes(
@@ -38,7 +40,9 @@ fn put_lines(out: &mut [u8], n: u64, d: Decoded, blocks: &[i32], values: &[f32])
 // The text of what was decoded from n bytes.
 fn put_text(out: &mut [u8], n: u64, d: Decoded, blocks: &[i32], values: &[f32]) -> usize
     requires { ⌜ (d .roots ≤ 999) × (2997 ≤ length (now blocks)) × (999 ≤ length (now values)) ⌝ }
-    ensures { λ r. ⌜ page (now (out .exit)) r ≡ puts (page (now (out .entry)) 0) (textIn n (answer d) (now (blocks .entry)) (now (values .entry))) ⌝ }
+    ensures { λ r.
+        let text = textIn n (answer d) (now (blocks .entry)) (now (values .entry)) in
+        ⌜ page (now (out .exit)) r ≡ puts (page (now (out .entry)) 0) text ⌝ }
     ensures { λ _. ⌜ Counted (answer d) ⌝ }
 {
     if d.number != 0 {
@@ -51,7 +55,9 @@ fn put_text(out: &mut [u8], n: u64, d: Decoded, blocks: &[i32], values: &[f32]) 
 // 65,536 bytes hold every text.
 pub fn report(bytes: &[u8], out: &mut [u8]) -> usize
     ensures { λ r. ⌜ r ≡ min (length (reportOf (now (bytes .entry)))) (length (now (out .entry))) ⌝ }
-    ensures { λ _. ⌜ now (out .exit) ≡ take (length (now (out .entry))) (reportOf (now (bytes .entry))) ++ drop (length (reportOf (now (bytes .entry)))) (now (out .entry)) ⌝ }
+    ensures { λ _.
+        let text = reportOf (now (bytes .entry)) in
+        ⌜ now (out .exit) ≡ take (length (now (out .entry))) text ++ drop (length text) (now (out .entry)) ⌝ }
     ensures { λ _. ⌜ length (reportOf (now (bytes .entry))) ≤ 65536 ⌝ }
 {
     if bytes.len() > MOST {

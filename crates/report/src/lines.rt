@@ -7,7 +7,8 @@ ghost use Rattle.float.specs.Zero.{+0};
 ghost use Rattle.medium.specs.Record.{asMedium};
 ghost use Rattle.sparse_grid.specs.Tables.{blockAt};
 ghost use Rattle.text.specs.Page.{page, puts};
-ghost use Rattle.report.specs.Report.{number, coordinate, triple, bits, gridLine, nodesLine, boxLine, backLine, rootLine, rootLines, refusedLine, longLine};
+ghost use Rattle.report.specs.Report.{number, coordinate, triple, bits};
+ghost use Rattle.report.specs.Report.{gridLine, nodesLine, boxLine, backLine, rootLine, rootLines, refusedLine, longLine};
 ghost use Rattle.report.specs.Inner.{coordOf, rootsIn};
 use medium::Medium;
 
@@ -100,7 +101,9 @@ pub(crate) fn put_back(out: &mut [u8], at: usize, v: f32) -> usize
 // Root i: its block and its value.
 fn put_root(out: &mut [u8], at: usize, blocks: &[i32], values: &[f32], i: usize) -> usize
     requires { ⌜ (i < 999) × (2997 ≤ length (now blocks)) × (999 ≤ length (now values)) ⌝ }
-    ensures { λ r. ⌜ page (now (out .exit)) r ≡ puts (page (now (out .entry)) at) (rootLine (blockAt (rootsIn (now (blocks .entry)) []) i) (getD (now (values .entry)) i +0)) ⌝ }
+    ensures { λ r.
+        let line = rootLine (blockAt (rootsIn (now (blocks .entry)) []) i) (getD (now (values .entry)) i +0) in
+        ⌜ page (now (out .exit)) r ≡ puts (page (now (out .entry)) at) line ⌝ }
 {
     let second = text::put_bytes(out, at, b"root");
     let third = put_triple(
@@ -123,7 +126,9 @@ pub(crate) fn put_roots(
     n: usize,
 ) -> usize
     requires { ⌜ (n ≤ 999) × (2997 ≤ length (now blocks)) × (999 ≤ length (now values)) ⌝ }
-    ensures { λ r. ⌜ page (now (out .exit)) r ≡ puts (page (now (out .entry)) at) (rootLines (rootsIn (now (blocks .entry)) (now (values .entry))) n) ⌝ }
+    ensures { λ r.
+        let lines = rootLines (rootsIn (now (blocks .entry)) (now (values .entry))) n in
+        ⌜ page (now (out .exit)) r ≡ puts (page (now (out .entry)) at) lines ⌝ }
 {
     let mut next = at;
     let mut i: usize = 0;

@@ -5,7 +5,7 @@ ghost use Rattle.refusals.specs.Results.{numberOf, valueOr};
 ghost use Rattle.float.specs.Zero.{+0};
 ghost use Rattle.sparse_grid.specs.Tables.{gridOf};
 ghost use Rattle.sparse_grid.specs.Validate.{validate as validateS, validateDensity};
-ghost use Rattle.sparse_grid.specs.Answers.{answer, at};
+ghost use Rattle.sparse_grid.specs.Answers.{outcome, at};
 ghost use Rattle.nanovdb.specs.Lent.{tables, lengths};
 ghost use Rattle.majorant.specs.Boxes.{between};
 ghost use Rattle.smokegrid.specs.Promises.{Decodes, GetsValue, BoxMaximum, WorldToIndex, Builds};
@@ -28,8 +28,8 @@ use sparse_grid::validate_density;
 
 // An answer as C takes it: the value through `value`, +0.0 after a refusal, and the number.
 fn give(found: Answer, value: &mut f32) -> u32
-    ensures { λ r. ⌜ r ≡ numberOf (answer found) ⌝ }
-    ensures { λ _. ⌜ now (value .exit) ≡ valueOr +0 (answer found) ⌝ }
+    ensures { λ r. ⌜ r ≡ numberOf (outcome found) ⌝ }
+    ensures { λ _. ⌜ now (value .exit) ≡ valueOr +0 (outcome found) ⌝ }
 {
     match found {
         Answer::Value(v) => {

@@ -65,8 +65,10 @@ module _ (g : Grid) (b : Coord) where
   pub earlier-found : (i j : ℕ) → j < i → sameBlock (blockAt g j) b ≡ true → earlier g i b ≡ true
   unfolding earlier
   earlier-found zero j l q = absurd (omega arith)
-  earlier-found (suc i) j l q =
-      elim (eq-or-lt-of-le (le-of-suc-le-suc l)) [ inl e ↦ or-some (earlier g i b) (sameBlock (blockAt g i) b) (ap (λ (k : ℕ). sameBlock (blockAt g k) b) (sym e) ∙ q) | inr k ↦ ap (λ (t : Bool). t || sameBlock (blockAt g i) b) (earlier-found i j k q) ]
+  earlier-found (suc i) j l q = elim (eq-or-lt-of-le (le-of-suc-le-suc l)) [
+    | inl e ↦ or-some (earlier g i b) (sameBlock (blockAt g i) b) (ap (λ (k : ℕ). sameBlock (blockAt g k) b) (sym e) ∙ q)
+    | inr k ↦ ap (λ (t : Bool). t || sameBlock (blockAt g i) b) (earlier-found i j k q)
+  ]
 
 -- a block that rises above all before it is none of them
 pub risen : (blocks : List ℤ) (i top : ℕ) (b : Coord) → Topped blocks i top → top ≤ rank b → earlier (blocksOf blocks) i b ≡ false
@@ -82,53 +84,78 @@ topped-none blocks top j l = absurd (omega arith)
 
 pub topped-next : (blocks : List ℤ) (i top next : ℕ) → Topped blocks i top → top ≤ next → rank (rootBlock blocks i) < next → Topped blocks (i + 1) next
 topped-next blocks i top next t h k j l =
-    elim (eq-or-lt-of-le (le-of-suc-le-suc (subst (λ (n : ℕ). j < n) (add-one i) l))) [ inl e ↦ subst (λ (n : ℕ). rank (rootBlock blocks n) < next) (sym e) k | inr q ↦ lt-of-lt-of-le (t j q) h ]
+    elim (eq-or-lt-of-le (le-of-suc-le-suc (subst (λ (n : ℕ). j < n) (add-one i) l))) [
+      | inl e ↦ subst (λ (n : ℕ). rank (rootBlock blocks n) < next) (sym e) k
+      | inr q ↦ lt-of-lt-of-le (t j q) h
+    ]
 
--- ---- a root record, as it reaches a callee
+-- ---- the tables of the roots, and a root record that was read there
 
-module _ (blocks : List ℤ) (links : List ℕ) (values : List Float) (i : ℕ) (r : Root) (is : r ≡ rootOf blocks links values i) (fx : SFits w32 (r .x)) (fy : SFits w32 (r .y)) (fz : SFits w32 (r .z)) where
-  -- its block
-  pub handed : at (toZ w32 (ofZ w32 (r .x))) (toZ w32 (ofZ w32 (r .y))) (toZ w32 (ofZ w32 (r .z))) ≡ rootBlock blocks i
-  handed = (λ k. at (seen fx k) (seen fy k) (seen fz k)) ∙ ap blockOfRoot is
+pub record Roots : Type 0 where
+  pub blocks : List ℤ
+  pub links : List ℕ
+  pub values : List Float
 
-  -- another root, compared with it
-  pub compared : (j : ℕ) (s : Root) → s ≡ rootOf blocks links values j → sameBlock (blockOfRoot s) (at (toZ w32 (ofZ w32 (r .x))) (toZ w32 (ofZ w32 (r .y))) (toZ w32 (ofZ w32 (r .z)))) ≡ sameBlock (rootBlock blocks j) (rootBlock blocks i)
-  unfolding handed
-  compared j s e = λ k. sameBlock (blockOfRoot (e k)) (handed k)
+pub record Read (t : Roots) (i : ℕ) (r : Root) : Type 0 where
+  pub is : r ≡ rootOf (t .blocks) (t .links) (t .values) i
 
--- ---- the fault of a root
+-- its numbers fit, as those of every record do
+pub record Fit (r : Root) : Type 0 where
+  pub x : SFits w32 (r .x)
+  pub y : SFits w32 (r .y)
+  pub z : SFits w32 (r .z)
 
-module _ (blocks : List ℤ) (links : List ℕ) (values : List Float) (uppers i : ℕ) where
-  pub outside : ranged (rootBlock blocks i) ≡ false → rootFaultIn blocks links values uppers i ≡ 11
-  unfolding rootFaultIn
-  outside h = ap (λ (t : Bool). unless (t && not (earlier (blocksOf blocks) i (rootBlock blocks i))) 11 then entryFault uppers (getD links i 0) (getD values i +0)) h
+-- its block, as it reaches a callee
+abbrev pub passed : Root → Coord
+passed r = at (toZ w32 (ofZ w32 (r .x))) (toZ w32 (ofZ w32 (r .y))) (toZ w32 (ofZ w32 (r .z)))
 
-  pub again : ranged (rootBlock blocks i) ≡ true → earlier (blocksOf blocks) i (rootBlock blocks i) ≡ true → rootFaultIn blocks links values uppers i ≡ 11
-  unfolding rootFaultIn
-  again h e =
-      ap (λ (t : Bool). unless (t && not (earlier (blocksOf blocks) i (rootBlock blocks i))) 11 then entryFault uppers (getD links i 0) (getD values i +0)) h
-      ∙ ap (λ (t : Bool). unless (not t) 11 then entryFault uppers (getD links i 0) (getD values i +0)) e
+passed-is : {t : Roots} {i : ℕ} {r : Root} → Read t i r → Fit r → passed r ≡ rootBlock (t .blocks) i
+passed-is read fit = (λ k. at (seen (fit .x) k) (seen (fit .y) k) (seen (fit .z) k)) ∙ ap blockOfRoot (read .is)
 
-  pub entry-left : ranged (rootBlock blocks i) ≡ true → earlier (blocksOf blocks) i (rootBlock blocks i) ≡ false → rootFaultIn blocks links values uppers i ≡ entryFault uppers (getD links i 0) (getD values i +0)
-  unfolding rootFaultIn
-  entry-left h e =
-      ap (λ (t : Bool). unless (t && not (earlier (blocksOf blocks) i (rootBlock blocks i))) 11 then entryFault uppers (getD links i 0) (getD values i +0)) h
-      ∙ ap (λ (t : Bool). unless (not t) 11 then entryFault uppers (getD links i 0) (getD values i +0)) e
+-- another root, compared with it
+pub compared : {t : Roots} {i j : ℕ} {r s : Root} → Read t i r → Fit r → Read t j s
+    → sameBlock (blockOfRoot s) (passed r) ≡ sameBlock (rootBlock (t .blocks) j) (rootBlock (t .blocks) i)
+unfolding passed-is
+compared read fit other = λ k. sameBlock (blockOfRoot (other .is k)) (passed-is read fit k)
 
--- ---- the roots in order
+-- ---- the fault of an entry and of a root
 
-entry-of : (uppers l : ℕ) (v : Float) → faultOf uppers (entryOf l v) (eq v +0) ≡ entryFault uppers l v
-entry-of uppers zero v = refl
-entry-of uppers (suc l) v = refl
+entry-of : (count l : ℕ) (v : Float) → faultOf count (entryOf l v) (eq v +0) ≡ entryFault count l v
+entry-of count zero v = refl
+entry-of count (suc l) v = refl
 
 -- the fault of the entry at slot i, as the code comes by it
-pub slot-entry : (links : List ℕ) (values : List Float) (count i : ℕ) (e : Entry) → e ≡ entryAt links values i → i < length values
+pub slot-entry : {e : Entry} (links : List ℕ) (values : List Float) (count i : ℕ) → e ≡ entryAt links values i → i < length values
     → faultOf count e (eq (getD values i nan) +0) ≡ entryFault count (getD links i 0) (getD values i +0)
-slot-entry links values count i e is l = (λ k. faultOf count (is k) (eq (getD-any values i nan +0 l k) +0)) ∙ entry-of count (getD links i 0) (getD values i +0)
+slot-entry links values count i is l =
+    (λ k. faultOf count (is k) (eq (getD-any values i nan +0 l k) +0)) ∙ entry-of count (getD links i 0) (getD values i +0)
 
-module _ (blocks : List ℤ) (links : List ℕ) (values : List Float) (uppers i : ℕ) (r : Root) (is : r ≡ rootOf blocks links values i) where
-  pub its-range : {t : Bool} → ranged (blockOfRoot r) ≡ t → ranged (rootBlock blocks i) ≡ t
-  its-range h = ap (λ (s : Root). ranged (blockOfRoot s)) (sym is) ∙ h
+abbrev pub faultAt : Roots → ℕ → ℕ → ℕ
+faultAt t = rootFaultIn (t .blocks) (t .links) (t .values)
 
-  pub its-entry : i < length values → faultOf uppers (r .entry) (eq (getD values i nan) +0) ≡ entryFault uppers (getD links i 0) (getD values i +0)
-  its-entry l = slot-entry links values uppers i (r .entry) (ap (λ (s : Root). s .entry) is) l
+-- whether some root before i has its block
+abbrev pub repeats : Roots → ℕ → Bool
+repeats t i = earlier (blocksOf (t .blocks)) i (rootBlock (t .blocks) i)
+
+abbrev slotFault : Roots → ℕ → ℕ → ℕ
+slotFault t uppers i = entryFault uppers (getD (t .links) i 0) (getD (t .values) i +0)
+
+by-tests : (t : Roots) (uppers i : ℕ) {inside again : Bool} → ranged (rootBlock (t .blocks) i) ≡ inside → repeats t i ≡ again
+    → faultAt t uppers i ≡ (unless (inside && not again) 11 then slotFault t uppers i)
+unfolding rootFaultIn
+by-tests t uppers i p q = λ k. unless (p k && not (q k)) 11 then slotFault t uppers i
+
+module _ {t : Roots} {i : ℕ} {r : Root} (uppers : ℕ) (read : Read t i r) where
+  inside : {b : Bool} → ranged (blockOfRoot r) ≡ b → ranged (rootBlock (t .blocks) i) ≡ b
+  inside h = ap (λ (s : Root). ranged (blockOfRoot s)) (sym (read .is)) ∙ h
+
+  pub outside : ranged (blockOfRoot r) ≡ false → faultAt t uppers i ≡ 11
+  outside h = by-tests t uppers i (inside h) refl
+
+  pub again : ranged (blockOfRoot r) ≡ true → repeats t i ≡ true → faultAt t uppers i ≡ 11
+  again h e = by-tests t uppers i (inside h) e
+
+  pub entry-left : ranged (blockOfRoot r) ≡ true → repeats t i ≡ false → i < length (t .values)
+      → faultAt t uppers i ≡ faultOf uppers (r .entry) (eq (getD (t .values) i nan) +0)
+  entry-left h e l =
+      by-tests t uppers i (inside h) e ∙ sym (slot-entry (t .links) (t .values) uppers i (ap (λ (s : Root). s .entry) (read .is)) l)

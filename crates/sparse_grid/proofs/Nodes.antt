@@ -3,8 +3,7 @@ use Prim.Native.Nat.{ℕ, zero, suc, _+_, _-_, _*_, _/_, _%_, _≤_, _<_}
 use native.Mathlib.Omega.{arith}
 use mathlib.Core.Path.{_≡_, refl, sym, ap, _∙_}
 use mathlib.Core.Bool.{Bool, true, false, cond}
-use mathlib.Core.List.{List, []}
-use lib.IntN.{ℤ}
+use mathlib.Core.List.{[]}
 use lib.Dec.{leb}
 use lib.ListN.{length}
 use lib.Ieee.{Float}
@@ -43,81 +42,96 @@ module _ (k x y z : ℕ) where
 
 -- ---- a node is read without what stands above it
 
-lower-entry-only : (g : Grid) (c : Coord) (e : Entry) → lowerEntry (nodesOf [] [] (g .lowerLinks) (g .lowerValues) (g .leafValues)) c e ≡ lowerEntry g c e
+abbrev pub lowers : Grid → Grid
+lowers g = nodesOf [] [] (g .lowerLinks) (g .lowerValues) (g .leafValues)
+
+abbrev pub nodes : Grid → Grid
+nodes g = nodesOf (g .upperLinks) (g .upperValues) (g .lowerLinks) (g .lowerValues) (g .leafValues)
+
+lower-entry-only : (g : Grid) (c : Coord) (e : Entry) → lowerEntry (lowers g) c e ≡ lowerEntry g c e
 lower-entry-only g c (Child j) = refl
 lower-entry-only g c (Tile v) = refl
 
-pub lower-only : (g : Grid) (k : ℕ) (c : Coord) → lowerAt (nodesOf [] [] (g .lowerLinks) (g .lowerValues) (g .leafValues)) k c ≡ lowerAt g k c
-lower-only g k c = ap (λ (f : Found). cond (leb (4096 * (k + 1)) (length (g .lowerLinks))) f (found.refused 11)) (lower-entry-only g c (entryAt (g .lowerLinks) (g .lowerValues) (4096 * k + slot 16 8 c)))
+pub lower-only : (g : Grid) (k : ℕ) (c : Coord) → lowerAt (lowers g) k c ≡ lowerAt g k c
+lower-only g k c =
+    ap (λ (f : Found). cond (leb (4096 * (k + 1)) (length (g .lowerLinks))) f (found.refused 11))
+    (lower-entry-only g c (entryAt (g .lowerLinks) (g .lowerValues) (4096 * k + slot 16 8 c)))
 
-upper-entry-only : (g : Grid) (c : Coord) (e : Entry) → upperEntry (nodesOf (g .upperLinks) (g .upperValues) (g .lowerLinks) (g .lowerValues) (g .leafValues)) c e ≡ upperEntry g c e
-upper-entry-only g c (Child j) = sym (lower-only (nodesOf (g .upperLinks) (g .upperValues) (g .lowerLinks) (g .lowerValues) (g .leafValues)) j c) ∙ lower-only g j c
+upper-entry-only : (g : Grid) (c : Coord) (e : Entry) → upperEntry (nodes g) c e ≡ upperEntry g c e
+upper-entry-only g c (Child j) = sym (lower-only (nodes g) j c) ∙ lower-only g j c
 upper-entry-only g c (Tile v) = refl
 
-upper-only : (g : Grid) (k : ℕ) (c : Coord) → upperAt (nodesOf (g .upperLinks) (g .upperValues) (g .lowerLinks) (g .lowerValues) (g .leafValues)) k c ≡ upperAt g k c
-upper-only g k c = ap (λ (f : Found). cond (leb (32768 * (k + 1)) (length (g .upperLinks))) f (found.refused 11)) (upper-entry-only g c (entryAt (g .upperLinks) (g .upperValues) (32768 * k + slot 32 128 c)))
+upper-only : (g : Grid) (k : ℕ) (c : Coord) → upperAt (nodes g) k c ≡ upperAt g k c
+upper-only g k c =
+    ap (λ (f : Found). cond (leb (32768 * (k + 1)) (length (g .upperLinks))) f (found.refused 11))
+    (upper-entry-only g c (entryAt (g .upperLinks) (g .upperValues) (32768 * k + slot 32 128 c)))
 
-pub root-only : (g : Grid) (c : Coord) (e : Entry) → rootEntry (nodesOf (g .upperLinks) (g .upperValues) (g .lowerLinks) (g .lowerValues) (g .leafValues)) c e ≡ rootEntry g c e
+root-only : (g : Grid) (c : Coord) (e : Entry) → rootEntry (nodes g) c e ≡ rootEntry g c e
 root-only g c (Child k) = upper-only g k c
 root-only g c (Tile v) = refl
 
 -- ---- the roots from i on
 
-module _ (background : Float) (blocks : List ℤ) (links : List ℕ) (values : List Float) (b : Coord) where
-  pub hit : (n i : ℕ) → i < n → sameBlock (rootBlock blocks i) b ≡ true → entryFrom background blocks links values (n - i) i b ≡ entryAt links values i
-  unfolding entryFrom
-  hit n i l h =
-      let e : n - i ≡ suc (n - (i + 1)) = omega arith in
-      ap (λ (k : ℕ). entryFrom background blocks links values k i b) e
-      ∙ ap (λ (t : Bool). cond t (entryAt links values i) (entryFrom background blocks links values (n - (i + 1)) (i + 1) b)) h
+-- the entry of the first root of n from i on whose block is b
+abbrev pub entryIn : Grid → ℕ → ℕ → Coord → Entry
+entryIn g = entryFrom (g .background) (g .blocks) (g .rootLinks) (g .rootValues)
 
-  pub miss : (n i : ℕ) → i < n → sameBlock (rootBlock blocks i) b ≡ false → entryFrom background blocks links values (n - i) i b ≡ entryFrom background blocks links values (n - (i + 1)) (i + 1) b
+module _ (g : Grid) (b : Coord) (n i : ℕ) where
+  -- root i decides, and after it the rest
+  step : {t : Bool} → i < n → sameBlock (rootBlock (g .blocks) i) b ≡ t
+      → entryIn g (n - i) i b ≡ cond t (entryAt (g .rootLinks) (g .rootValues) i) (entryIn g (n - (i + 1)) (i + 1) b)
   unfolding entryFrom
-  miss n i l h =
+  step l h =
       let e : n - i ≡ suc (n - (i + 1)) = omega arith in
-      ap (λ (k : ℕ). entryFrom background blocks links values k i b) e
-      ∙ ap (λ (t : Bool). cond t (entryAt links values i) (entryFrom background blocks links values (n - (i + 1)) (i + 1) b)) h
+      ap (λ (k : ℕ). entryIn g k i b) e
+      ∙ ap (λ (t : Bool). cond t (entryAt (g .rootLinks) (g .rootValues) i) (entryIn g (n - (i + 1)) (i + 1) b)) h
 
-  pub none : (n i : ℕ) → n ≤ i → entryFrom background blocks links values (n - i) i b ≡ Tile background
+  pub hit : i < n → sameBlock (rootBlock (g .blocks) i) b ≡ true → entryIn g (n - i) i b ≡ entryAt (g .rootLinks) (g .rootValues) i
+  hit l h = step l h
+
+  pub miss : i < n → sameBlock (rootBlock (g .blocks) i) b ≡ false → entryIn g (n - i) i b ≡ entryIn g (n - (i + 1)) (i + 1) b
+  miss l h = step l h
+
+  pub none : n ≤ i → entryIn g (n - i) i b ≡ Tile (g .background)
   unfolding entryFrom
-  none n i l = let e : n - i ≡ 0 = omega arith in ap (λ (k : ℕ). entryFrom background blocks links values k i b) e
+  none l = let e : n - i ≡ 0 = omega arith in ap (λ (k : ℕ). entryIn g k i b) e
 
 -- the background is read as a tile is, but for its level
-pub by-entry : (g : Grid) (c : Coord) (n i : ℕ)
-    → valueOnly (rootEntry g c (entryFrom (g .background) (g .blocks) (g .rootLinks) (g .rootValues) n i (blockOf c))) ≡ valueOnly (rootsFrom g n i c)
+by-entry : (g : Grid) (c : Coord) (n i : ℕ) → valueOnly (rootEntry g c (entryIn g n i (blockOf c))) ≡ valueOnly (rootsFrom g n i c)
 unfolding entryFrom rootsFrom
 by-entry g c zero i = refl
 by-entry g c (suc n) i = go (sameBlock (rootBlock (g .blocks) i) (blockOf c)) (by-entry g c n (i + 1))
   where
-    go : (t : Bool)
-        → valueOnly (rootEntry g c (entryFrom (g .background) (g .blocks) (g .rootLinks) (g .rootValues) n (i + 1) (blockOf c))) ≡ valueOnly (rootsFrom g n (i + 1) c)
-        → valueOnly (rootEntry g c (cond t (entryAt (g .rootLinks) (g .rootValues) i) (entryFrom (g .background) (g .blocks) (g .rootLinks) (g .rootValues) n (i + 1) (blockOf c))))
-        ≡ valueOnly (cond t (rootEntry g c (entryAt (g .rootLinks) (g .rootValues) i)) (rootsFrom g n (i + 1) c))
+    go : (t : Bool) → valueOnly (rootEntry g c (entryIn g n (i + 1) (blockOf c))) ≡ valueOnly (rootsFrom g n (i + 1) c)
+        → let e = entryAt (g .rootLinks) (g .rootValues) i in
+        valueOnly (rootEntry g c (cond t e (entryIn g n (i + 1) (blockOf c)))) ≡ valueOnly (cond t (rootEntry g c e) (rootsFrom g n (i + 1) c))
     go true e = refl
     go false e = e
 
 -- ---- the whole lookup
 
 module _ (g : Grid) (c : Coord) where
-  pub unpaired : (pairFault g ≡ 0 → ⊥) → refused (pairFault g) ≡ valueOnly (lookup g c)
-  unfolding lookup
-  unpaired h = ap (λ (t : Bool). valueOnly (cond t (rootsFrom g (length (g .rootLinks)) 0 c) (found.refused (pairFault g)))) (sym (ne-eqb (pairFault g) 0 h))
+  -- what the test of the pairs decides
+  paired : Bool → Result Float
+  paired t = valueOnly (cond t (rootsFrom g (length (g .rootLinks)) 0 c) (found.refused (pairFault g)))
 
-  pub by-root : pairFault g ≡ 0 → valueOnly (rootEntry g c (entryFrom (g .background) (g .blocks) (g .rootLinks) (g .rootValues) (length (g .rootLinks)) 0 (blockOf c))) ≡ valueOnly (lookup g c)
-  unfolding lookup
-  by-root h =
-      by-entry g c (length (g .rootLinks)) 0
-      ∙ ap (λ (t : Bool). valueOnly (cond t (rootsFrom g (length (g .rootLinks)) 0 c) (found.refused (pairFault g)))) (sym (eq-eqb (pairFault g) 0 h))
+  pub unpaired : (pairFault g ≡ 0 → ⊥) → refused (pairFault g) ≡ valueOnly (lookup g c)
+  unfolding lookup paired
+  unpaired h = ap paired (sym (ne-eqb (pairFault g) 0 h))
+
+  by-root : pairFault g ≡ 0 → valueOnly (rootEntry g c (entryIn g (length (g .rootLinks)) 0 (blockOf c))) ≡ valueOnly (lookup g c)
+  unfolding lookup paired
+  by-root h = by-entry g c (length (g .rootLinks)) 0 ∙ ap paired (sym (eq-eqb (pairFault g) 0 h))
 
   -- what stands below the root entry e at the place p, where both are those of b, the coordinate as the code has it
-  pub by-place : (b p : Coord) (e : Entry) (r : Result Float) → pairFault g ≡ 0
-      → r ≡ valueOnly (rootEntry (nodesOf (g .upperLinks) (g .upperValues) (g .lowerLinks) (g .lowerValues) (g .leafValues)) p e)
-      → p ≡ b → e ≡ entryFrom (g .background) (g .blocks) (g .rootLinks) (g .rootValues) (length (g .rootLinks)) 0 (blockOf b) → b ≡ c → r ≡ valueOnly (lookup g c)
-  by-place b p e r h q there entry same =
+  pub by-place : {b p : Coord} {e : Entry} {r : Result Float} → pairFault g ≡ 0
+      → r ≡ valueOnly (rootEntry (nodes g) p e) → p ≡ b → e ≡ entryIn g (length (g .rootLinks)) 0 (blockOf b) → b ≡ c
+      → r ≡ valueOnly (lookup g c)
+  by-place {b} {p} {e} h q there entry same =
       q
       ∙ ap valueOnly (root-only g p e)
       ∙ (λ t. valueOnly (rootEntry g (there t) (entry t)))
-      ∙ (λ t. valueOnly (rootEntry g (same t) (entryFrom (g .background) (g .blocks) (g .rootLinks) (g .rootValues) (length (g .rootLinks)) 0 (blockOf (same t)))))
+      ∙ (λ t. valueOnly (rootEntry g (same t) (entryIn g (length (g .rootLinks)) 0 (blockOf (same t)))))
       ∙ by-root h
 
 -- ---- what a function answers that stores the value and answers a number

@@ -20,33 +20,36 @@ pub record Tested (values : List Float) (p : Float → Bool) (n : ℕ) (sound : 
   pub inside : i ≤ length values
   pub first : firstFault i (fault values p n) ≡ unless sound (suc n)
 
-module _ (values : List Float) (p : Float → Bool) (n : ℕ) where
+module _ {values : List Float} {p : Float → Bool} {n : ℕ} where
   pub begun : Tested values p n true 0
   begun = record { inside = omega arith; first = firstFault-none (fault values p n) }
 
   -- place i, whose value, read with another default, passes where t is true; the program asks whether it does not
-  module _ (i : ℕ) (s t : Bool) (here : t ≡ p (getD values i nan)) (within : i < length values) (tested : Tested values p n s i) where
+  module _ {i : ℕ} {s t : Bool} (tested : Tested values p n s i) (within : i < length values) (here : t ≡ p (getD values i nan)) where
     next : (b : Bool) → not t ≡ b → firstFault (i + 1) (fault values p n) ≡ (unless s (suc n) then unless (not b) (suc n))
     unfolding firstFault
     next b e =
         ap (λ (k : ℕ). firstFault k (fault values p n)) (add-one i)
         ∙ ap (λ (a : ℕ). a then fault values p n i) (tested .first)
-        ∙ ap (λ (u : Bool). unless s (suc n) then unless u (suc n)) (ap p (getD-any values i +0 nan within) ∙ sym here ∙ sym (Bool·not-not t) ∙ ap not e)
+        ∙ ap (λ (u : Bool). unless s (suc n) then unless u (suc n))
+        (ap p (getD-any values i +0 nan within) ∙ sym here ∙ sym (Bool·not-not t) ∙ ap not e)
 
-    pub passed : not t ≡ false → (u : Bool) → u ≡ s → Tested values p n u (i + 1)
-    passed e u q = record { inside = omega arith; first = next false e ∙ same s ∙ ap (λ (b : Bool). unless b (suc n)) (sym q) }
+    pub passed : {u : Bool} → not t ≡ false → u ≡ s → Tested values p n u (i + 1)
+    passed e q = record { inside = omega arith; first = next false e ∙ same s ∙ ap (λ (b : Bool). unless b (suc n)) (sym q) }
       where
         same : (b : Bool) → (unless b (suc n) then 0) ≡ unless b (suc n)
         same true = then-next 0 0 (omega arith)
         same false = then-stop (suc n) 0 (λ z. omega arith)
 
-    pub failed : not t ≡ true → (u : Bool) → u ≡ false → Tested values p n u (i + 1)
-    failed e u q = record { inside = omega arith; first = next true e ∙ same s ∙ ap (λ (b : Bool). unless b (suc n)) (sym q) }
+    pub failed : {u : Bool} → not t ≡ true → u ≡ false → Tested values p n u (i + 1)
+    failed e q = record { inside = omega arith; first = next true e ∙ same s ∙ ap (λ (b : Bool). unless b (suc n)) (sym q) }
       where
         same : (b : Bool) → (unless b (suc n) then suc n) ≡ suc n
         same true = then-next 0 (suc n) (omega arith)
         same false = then-stop (suc n) (suc n) (λ z. omega arith)
 
-  pub ended : (i : ℕ) (s : Bool) → Tested values p n s i → length values ≤ i → unless s (suc n) ≡ firstFault (length values) (fault values p n)
+  pub ended : {i : ℕ} {s : Bool} → Tested values p n s i → length values ≤ i → unless s (suc n) ≡ firstFault (length values) (fault values p n)
   unfolding firstFault
-  ended i s tested l = let q : length values ≡ i = omega (arith, tested .inside) in sym (tested .first) ∙ ap (λ (k : ℕ). firstFault k (fault values p n)) (sym q)
+  ended {i} tested l =
+      let q : length values ≡ i = omega (arith, tested .inside) in
+      sym (tested .first) ∙ ap (λ (k : ℕ). firstFault k (fault values p n)) (sym q)

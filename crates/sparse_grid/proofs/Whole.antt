@@ -9,7 +9,8 @@ use Rattle.refusals.specs.FaultSteps.{then-assoc}
 use Rattle.float.specs.Zero.{+0}
 use Rattle.layout.specs.Coordinates.{Coord, sameBlock}
 use Rattle.sparse_grid.specs.Tables.{Grid, gridOf, blockAt}
-use Rattle.sparse_grid.specs.Validate.{valueFault, entryFault, entriesFault, valuesFault, negative, negativesFault, earlier, rootFault, pairFault, shapeFault, validate, densityFault, validateDensity}
+use Rattle.sparse_grid.specs.Validate.{valueFault, entryFault, entriesFault, valuesFault, negative, negativesFault}
+use Rattle.sparse_grid.specs.Validate.{earlier, rootFault, pairFault, shapeFault, validate, densityFault, validateDensity}
 use Rattle.sparse_grid.specs.Inner.{blocksOf, ranged, rootFaultIn, rootsFault, tablesFault, contentsFault}
 
 -- ---- the roots' faults go by four tables
@@ -21,14 +22,21 @@ earlier-in g (suc i) b = ap (λ (t : Bool). t || sameBlock (blockAt g i) b) (ear
 
 root-in : (g : Grid) (i : ℕ) → rootFault g i ≡ rootFaultIn (g .blocks) (g .rootLinks) (g .rootValues) (length (g .upperLinks) / 32768) i
 unfolding rootFault rootFaultIn
-root-in g i = ap (λ (t : Bool). unless (ranged (blockAt g i) && not t) 11 then entryFault (length (g .upperLinks) / 32768) (getD (g .rootLinks) i 0) (getD (g .rootValues) i +0)) (earlier-in g i (blockAt g i))
+root-in g i =
+    let entry = entryFault (length (g .upperLinks) / 32768) (getD (g .rootLinks) i 0) (getD (g .rootValues) i +0) in
+    ap (λ (t : Bool). unless (ranged (blockAt g i) && not t) 11 then entry) (earlier-in g i (blockAt g i))
 
-pub roots-in : (g : Grid) → rootsFault (g .blocks) (g .rootLinks) (g .rootValues) (length (g .upperLinks) / 32768) ≡ firstFault (length (g .rootLinks)) (rootFault g)
+pub roots-in : (g : Grid)
+    → rootsFault (g .blocks) (g .rootLinks) (g .rootValues) (length (g .upperLinks) / 32768) ≡ firstFault (length (g .rootLinks)) (rootFault g)
 roots-in g = sym (λ k. firstFault (length (g .rootLinks)) (λ i. root-in g i k))
 
 -- ---- a part of the grid is tested without the rest
 
-pub pair-only : (g : Grid) → pairFault (gridOf +0 (g .blocks) (g .rootLinks) (g .rootValues) (g .upperLinks) (g .upperValues) (g .lowerLinks) (g .lowerValues) []) ≡ pairFault g
+-- without background and leaves
+abbrev linked : Grid → Grid
+linked g = gridOf +0 (g .blocks) (g .rootLinks) (g .rootValues) (g .upperLinks) (g .upperValues) (g .lowerLinks) (g .lowerValues) []
+
+pub pair-only : (g : Grid) → pairFault (linked g) ≡ pairFault g
 unfolding pairFault
 pair-only g = refl
 
@@ -36,11 +44,20 @@ pub shape-only : (g : Grid) → shapeFault (gridOf +0 [] (g .rootLinks) [] (g .u
 unfolding shapeFault
 shape-only g = refl
 
-pub tables-only : (g : Grid) → tablesFault (gridOf +0 (g .blocks) (g .rootLinks) (g .rootValues) (g .upperLinks) (g .upperValues) (g .lowerLinks) (g .lowerValues) (g .leafValues)) ≡ tablesFault g
+-- without background
+abbrev tabled : Grid → Grid
+tabled g =
+    gridOf +0 (g .blocks) (g .rootLinks) (g .rootValues) (g .upperLinks) (g .upperValues) (g .lowerLinks) (g .lowerValues) (g .leafValues)
+
+pub tables-only : (g : Grid) → tablesFault (tabled g) ≡ tablesFault g
 unfolding pairFault shapeFault
 tables-only g = refl
 
-pub density-only : (g : Grid) → densityFault (gridOf (g .background) [] [] (g .rootValues) [] (g .upperValues) [] (g .lowerValues) (g .leafValues)) ≡ densityFault g
+-- without blocks and links
+abbrev valued : Grid → Grid
+valued g = gridOf (g .background) [] [] (g .rootValues) [] (g .upperValues) [] (g .lowerValues) (g .leafValues)
+
+pub density-only : (g : Grid) → densityFault (valued g) ≡ densityFault g
 unfolding densityFault
 density-only g = refl
 

@@ -87,7 +87,9 @@ shr-4096 n =
 -- ---- how the code lifts a number
 
 pub lift : (z : ℤ) → mag z < 2147483648 → (n : ℕ) × (z ≡ back 2147483648 n) × (n < 4294967296) × (z +ℤ pos 2147483648 ≡ pos n)
-lift (pos k) h = let e : k + 2147483648 - 2147483648 ≡ k = omega arith in (k + 2147483648, sym (back-high 2147483648 (k + 2147483648) (omega arith) ∙ ap pos e), omega arith, refl)
+lift (pos k) h =
+    let e : k + 2147483648 - 2147483648 ≡ k = omega arith in
+    (k + 2147483648, sym (back-high 2147483648 (k + 2147483648) (omega arith) ∙ ap pos e), omega arith, refl)
 lift (negsuc k) h =
     let e : 2147483648 - (2147483648 - suc k + 1) ≡ k = omega arith in (
       2147483648 - suc k,

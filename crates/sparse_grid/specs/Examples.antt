@@ -24,7 +24,7 @@ blocks-above = refl
 minus-one : (modZ (negsuc 0) 4096 / 128 ≡ 31) × (modZ (negsuc 0) 128 / 8 ≡ 15) × (modZ (negsuc 0) 8 / 1 ≡ 7)
 minus-one = (refl, refl, refl)
 
-last-slots : (slot 32 128 (at (negsuc 0) (negsuc 0) (negsuc 0)) ≡ 32767) × (slot 16 8 (at (negsuc 0) (negsuc 0) (negsuc 0)) ≡ 4095) × (slot 8 1 (at (negsuc 0) (negsuc 0) (negsuc 0)) ≡ 511)
+last-slots : let c = at (negsuc 0) (negsuc 0) (negsuc 0) in (slot 32 128 c ≡ 32767) × (slot 16 8 c ≡ 4095) × (slot 8 1 c ≡ 511)
 last-slots = (refl, refl, refl)
 
 -- z varies fastest
@@ -35,7 +35,8 @@ z-fastest = (refl, refl, refl)
 minus-zero : Float
 minus-zero = fin true 0 (pos 0)
 
-beside-child : (entryFault 1 1 minus-zero ≡ 0) × (entryFault 1 1 nan ≡ 11) × (entryFault 1 2 nan ≡ 11) × (entryFault 0 0 nan ≡ 12) × (entryFault 0 0 minus-zero ≡ 0)
+beside-child : (entryFault 1 1 minus-zero ≡ 0) × (entryFault 1 1 nan ≡ 11) × (entryFault 1 2 nan ≡ 11)
+    × (entryFault 0 0 nan ≡ 12) × (entryFault 0 0 minus-zero ≡ 0)
 unfolding eq minus-zero
 beside-child = (refl, refl, refl, refl, refl)
 

@@ -19,21 +19,30 @@ pub data Found : Type 0 where
 
 -- in leaf k, in a lower node, in an upper node: 11 where the whole node is not in its table
 abbrev pub leafAt : Grid → ℕ → Coord → Found
-leafAt g k c = cond (leb (512 * (k + 1)) (length (g .leafValues))) (value (getD (g .leafValues) (512 * k + slot 8 1 c) +0) ofLeaf) (refused 11)
+leafAt g k c =
+    cond (leb (512 * (k + 1)) (length (g .leafValues)))
+    (value (getD (g .leafValues) (512 * k + slot 8 1 c) +0) ofLeaf)
+    (refused 11)
 
 abbrev pub lowerEntry : Grid → Coord → Entry → Found
 lowerEntry g c (Child k) = leafAt g k c
 lowerEntry g c (Tile v) = value v ofLower
 
 abbrev pub lowerAt : Grid → ℕ → Coord → Found
-lowerAt g k c = cond (leb (4096 * (k + 1)) (length (g .lowerLinks))) (lowerEntry g c (entryAt (g .lowerLinks) (g .lowerValues) (4096 * k + slot 16 8 c))) (refused 11)
+lowerAt g k c =
+    cond (leb (4096 * (k + 1)) (length (g .lowerLinks)))
+    (lowerEntry g c (entryAt (g .lowerLinks) (g .lowerValues) (4096 * k + slot 16 8 c)))
+    (refused 11)
 
 abbrev pub upperEntry : Grid → Coord → Entry → Found
 upperEntry g c (Child k) = lowerAt g k c
 upperEntry g c (Tile v) = value v ofUpper
 
 abbrev pub upperAt : Grid → ℕ → Coord → Found
-upperAt g k c = cond (leb (32768 * (k + 1)) (length (g .upperLinks))) (upperEntry g c (entryAt (g .upperLinks) (g .upperValues) (32768 * k + slot 32 128 c))) (refused 11)
+upperAt g k c =
+    cond (leb (32768 * (k + 1)) (length (g .upperLinks)))
+    (upperEntry g c (entryAt (g .upperLinks) (g .upperValues) (32768 * k + slot 32 128 c)))
+    (refused 11)
 
 abbrev pub rootEntry : Grid → Coord → Entry → Found
 rootEntry g c (Child k) = upperAt g k c

@@ -58,8 +58,14 @@ both false b h = absurd (subst T (sym h) tt)
 pub raise : (z : ℤ) → blockIn z ≡ true → (z +ℤ pos 524288 ≡ pos (raised z)) × (raised z < 1048576)
 raise (pos k) h = let l = high k (both true (leZ (pos k) (pos 524287)) h .1) in (ap pos (omega arith), omega arith)
 raise (negsuc k) h =
-    let l = low k (both (leZ (negsuc 524287) (negsuc k)) true h .0) in
-    (ap (λ (b : Bool). cond b (negsuc (suc k - suc 524288)) (pos (524288 - suc k))) (le-ltb 524288 (suc k) (omega arith)) ∙ ap pos (omega arith), omega arith)
+    let l = low k (both (leZ (negsuc 524287) (negsuc k)) true h .0) in (
+      ap (λ (b : Bool). cond b (negsuc (suc k - suc 524288)) (pos (524288 - suc k))) (le-ltb 524288 (suc k) (omega arith)) ∙ ap pos (omega arith),
+      omega arith,
+    )
+
+-- as the code comes by it
+abbrev pub raisedBits : ℤ → ℤ
+raisedBits z = toZ w32 (ofZ w32 (toZ w32 (ofZ w32 z) +ℤ pos 524288))
 
 module _ (z : ℤ) (f : SFits w32 z) (h : blockIn z ≡ true) where
   sum : toZ w32 (ofZ w32 z) +ℤ pos 524288 ≡ pos (raised z)
@@ -68,13 +74,15 @@ module _ (z : ℤ) (f : SFits w32 z) (h : blockIn z ≡ true) where
   pub raised-fits : SFits w32 (toZ w32 (ofZ w32 z) +ℤ pos 524288)
   raised-fits = subst (SFits w32) (sym sum) (record { sfits = lt-of-lt-of-le (raise z h .1) (lit≤ {m = 1048576} {n = 2147483648} tt) })
 
-  result : toZ w32 (ofZ w32 (toZ w32 (ofZ w32 z) +ℤ pos 524288)) ≡ pos (raised z)
+  result : raisedBits z ≡ pos (raised z)
   result = seen raised-fits ∙ sum
 
-  pub raised-cast : T (nonNeg (toZ w32 (ofZ w32 (toZ w32 (ofZ w32 z) +ℤ pos 524288)))) × Fits w64 (natAbs (toZ w32 (ofZ w32 (toZ w32 (ofZ w32 z) +ℤ pos 524288))))
-  raised-cast = subst (λ (k : ℤ). T (nonNeg k) × Fits w64 (natAbs k)) (sym result) (tt, record { fits = lt-of-lt-of-le (raise z h .1) (lit≤ {m = 1048576} {n = 18446744073709551616} tt) })
+  pub raised-cast : T (nonNeg (raisedBits z)) × Fits w64 (natAbs (raisedBits z))
+  raised-cast =
+      subst (λ (k : ℤ). T (nonNeg k) × Fits w64 (natAbs k)) (sym result)
+      (tt, record { fits = lt-of-lt-of-le (raise z h .1) (lit≤ {m = 1048576} {n = 18446744073709551616} tt) })
 
-  pub is-raised : (natAbs (toZ w32 (ofZ w32 (toZ w32 (ofZ w32 z) +ℤ pos 524288))) ≡ raised z) × (natAbs (toZ w32 (ofZ w32 (toZ w32 (ofZ w32 z) +ℤ pos 524288))) < 1048576)
+  pub is-raised : (natAbs (raisedBits z) ≡ raised z) × (natAbs (raisedBits z) < 1048576)
   is-raised = subst (λ (k : ℤ). (natAbs k ≡ raised z) × (natAbs k < 1048576)) (sym result) (refl, raise z h .1)
 
 -- ---- a coordinate, shifted and biased
@@ -87,25 +95,34 @@ shifted {z} f =
 pub shifted-on : {z r : ℤ} → SFits w32 z → r ≡ shrZ (toZ w32 (ofZ w32 z)) 4096 → toZ w32 (ofZ w32 r) ≡ shrZ z 4096
 shifted-on f e = ap (λ (k : ℤ). toZ w32 (ofZ w32 k)) e ∙ shifted f
 
+-- a coordinate plus 2^31, as the code comes by it
+abbrev pub biasedBits : ℤ → ℤ
+biasedBits z = toZ w64 (ofZ w64 (toZ w64 (ofZ w64 (toZ w32 (ofZ w32 z))) +ℤ pos 2147483648))
+
 module _ (z : ℤ) (f : SFits w32 z) where
   number : (n : ℕ) × (z ≡ back 2147483648 n) × (n < 4294967296) × (z +ℤ pos 2147483648 ≡ pos n)
   number = lift z (f .sfits)
 
   pub wide-fits : SFits w64 (toZ w32 (ofZ w32 z))
-  wide-fits = subst (SFits w64) (sym (seen f)) (record { sfits = lt-of-lt-of-le (f .sfits) (lit≤ {m = 2147483648} {n = 9223372036854775808} tt) })
+  wide-fits =
+      subst (SFits w64) (sym (seen f))
+      (record { sfits = lt-of-lt-of-le (f .sfits) (lit≤ {m = 2147483648} {n = 9223372036854775808} tt) })
 
   wide-sum : toZ w64 (ofZ w64 (toZ w32 (ofZ w32 z))) +ℤ pos 2147483648 ≡ pos (number .0)
   unfolding number
   wide-sum = ap (λ (k : ℤ). k +ℤ pos 2147483648) (toZ-ofZ w64 (toZ w32 (ofZ w32 z)) wide-fits ∙ seen f) ∙ number .3
 
   pub sum-fits : SFits w64 (toZ w64 (ofZ w64 (toZ w32 (ofZ w32 z))) +ℤ pos 2147483648)
-  sum-fits = subst (SFits w64) (sym wide-sum) (record { sfits = lt-of-lt-of-le (number .2) (lit≤ {m = 4294967296} {n = 9223372036854775808} tt) })
+  sum-fits =
+      subst (SFits w64) (sym wide-sum)
+      (record { sfits = lt-of-lt-of-le (number .2) (lit≤ {m = 4294967296} {n = 9223372036854775808} tt) })
 
-  wide-result : toZ w64 (ofZ w64 (toZ w64 (ofZ w64 (toZ w32 (ofZ w32 z))) +ℤ pos 2147483648)) ≡ pos (number .0)
+  wide-result : biasedBits z ≡ pos (number .0)
   wide-result = toZ-ofZ w64 _ sum-fits ∙ wide-sum
 
-  pub not-negative : T (nonNeg (toZ w64 (ofZ w64 (toZ w64 (ofZ w64 (toZ w32 (ofZ w32 z))) +ℤ pos 2147483648))))
+  pub not-negative : T (nonNeg (biasedBits z))
   not-negative = subst (λ (k : ℤ). T (nonNeg k)) (sym wide-result) tt
 
-  pub is-biased : (z ≡ back 2147483648 (natAbs (toZ w64 (ofZ w64 (toZ w64 (ofZ w64 (toZ w32 (ofZ w32 z))) +ℤ pos 2147483648))))) × (natAbs (toZ w64 (ofZ w64 (toZ w64 (ofZ w64 (toZ w32 (ofZ w32 z))) +ℤ pos 2147483648))) < 4294967296)
-  is-biased = subst (λ (k : ℤ). (z ≡ back 2147483648 (natAbs k)) × (natAbs k < 4294967296)) (sym wide-result) (number .1, number .2)
+  pub is-biased : (z ≡ back 2147483648 (natAbs (biasedBits z))) × (natAbs (biasedBits z) < 4294967296)
+  is-biased =
+      subst (λ (k : ℤ). (z ≡ back 2147483648 (natAbs k)) × (natAbs k < 4294967296)) (sym wide-result) (number .1, number .2)

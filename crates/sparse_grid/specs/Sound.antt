@@ -97,14 +97,18 @@ module _ (g : Grid) (i : ℕ) (h : rootFault g i ≡ 0) where
   root-apart : earlier g i (blockAt g i) ≡ false
   root-apart =
       let b = blockAt g i in
-      not-true (earlier g i b) (true-of (not (earlier g i b)) (and-r (blockIn (b .x) && blockIn (b .y) && blockIn (b .z)) (not (earlier g i b)) (root-parts .0)))
+      let again = earlier g i b in
+      not-true again (true-of (not again) (and-r (blockIn (b .x) && blockIn (b .y) && blockIn (b .z)) (not again) (root-parts .0)))
 
   root-ranged : (blockIn (blockAt g i .x) ≡ true) × (blockIn (blockAt g i .y) ≡ true) × (blockIn (blockAt g i .z) ≡ true)
   root-ranged =
       let b = blockAt g i in
       let p = and-l (blockIn (b .x) && blockIn (b .y) && blockIn (b .z)) (not (earlier g i b)) (root-parts .0) in
-      let q = and-l (blockIn (b .x) && blockIn (b .y)) (blockIn (b .z)) p in
-      (true-of _ (and-l (blockIn (b .x)) (blockIn (b .y)) q), true-of _ (and-r (blockIn (b .x)) (blockIn (b .y)) q), true-of _ (and-r (blockIn (b .x) && blockIn (b .y)) (blockIn (b .z)) p))
+      let q = and-l (blockIn (b .x) && blockIn (b .y)) (blockIn (b .z)) p in (
+        true-of _ (and-l (blockIn (b .x)) (blockIn (b .y)) q),
+        true-of _ (and-r (blockIn (b .x)) (blockIn (b .y)) q),
+        true-of _ (and-r (blockIn (b .x) && blockIn (b .y)) (blockIn (b .z)) p),
+      )
 
 module _ (g : Grid) (v : validate g ≡ 0) where
   -- every part of `validate` passed
@@ -128,11 +132,17 @@ module _ (g : Grid) (v : validate g ≡ 0) where
   root : (i : ℕ) → i < length (g .rootLinks) → rootFault g i ≡ 0
   root = firstFault-zero (length (g .rootLinks)) (rootFault g) (parts .2)
 
-  upper-entry : (i : ℕ) → i < length (g .upperLinks) → entryFault (length (g .lowerLinks) / 4096) (getD (g .upperLinks) i 0) (getD (g .upperValues) i +0) ≡ 0
-  upper-entry = firstFault-zero (length (g .upperLinks)) (λ i. entryFault (length (g .lowerLinks) / 4096) (getD (g .upperLinks) i 0) (getD (g .upperValues) i +0)) (parts .3)
+  abbrev upperFault : ℕ → ℕ
+  upperFault i = entryFault (length (g .lowerLinks) / 4096) (getD (g .upperLinks) i 0) (getD (g .upperValues) i +0)
 
-  lower-entry : (i : ℕ) → i < length (g .lowerLinks) → entryFault (length (g .leafValues) / 512) (getD (g .lowerLinks) i 0) (getD (g .lowerValues) i +0) ≡ 0
-  lower-entry = firstFault-zero (length (g .lowerLinks)) (λ i. entryFault (length (g .leafValues) / 512) (getD (g .lowerLinks) i 0) (getD (g .lowerValues) i +0)) (parts .4)
+  upper-entry : (i : ℕ) → i < length (g .upperLinks) → upperFault i ≡ 0
+  upper-entry = firstFault-zero (length (g .upperLinks)) upperFault (parts .3)
+
+  abbrev lowerFault : ℕ → ℕ
+  lowerFault i = entryFault (length (g .leafValues) / 512) (getD (g .lowerLinks) i 0) (getD (g .lowerValues) i +0)
+
+  lower-entry : (i : ℕ) → i < length (g .lowerLinks) → lowerFault i ≡ 0
+  lower-entry = firstFault-zero (length (g .lowerLinks)) lowerFault (parts .4)
 
   leaf-value : (i : ℕ) → i < length (g .leafValues) → valueFault (getD (g .leafValues) i +0) ≡ 0
   leaf-value = firstFault-zero (length (g .leafValues)) (λ i. valueFault (getD (g .leafValues) i +0)) (parts .6)
@@ -144,9 +154,15 @@ module _ (g : Grid) (v : validate g ≡ 0) where
     blocks = pairs g (parts .0) .blocks;
     upper = pairs g (parts .0) .upper;
     lower = pairs g (parts .0) .lower;
-    root-linked = λ i. let h = all-linked (g .rootLinks) (length (g .upperLinks) / 32768) (λ j l. entry-linked _ _ _ (root-parts g j (root j l) .1)) i in omega arith;
-    upper-linked = λ i. let h = all-linked (g .upperLinks) (length (g .lowerLinks) / 4096) (λ j l. entry-linked _ _ _ (upper-entry j l)) i in omega arith;
-    lower-linked = λ i. let h = all-linked (g .lowerLinks) (length (g .leafValues) / 512) (λ j l. entry-linked _ _ _ (lower-entry j l)) i in omega arith;
+    root-linked = λ i.
+        let h = all-linked (g .rootLinks) (length (g .upperLinks) / 32768) (λ j l. entry-linked _ _ _ (root-parts g j (root j l) .1)) i in
+        omega arith;
+    upper-linked = λ i.
+        let h = all-linked (g .upperLinks) (length (g .lowerLinks) / 4096) (λ j l. entry-linked _ _ _ (upper-entry j l)) i in
+        omega arith;
+    lower-linked = λ i.
+        let h = all-linked (g .lowerLinks) (length (g .leafValues) / 512) (λ j l. entry-linked _ _ _ (lower-entry j l)) i in
+        omega arith;
     apart = λ i l. root-apart g i (root i l);
     ranged = λ i l. root-ranged g i (root i l);
     background-finite = unless-zero (finite (g .background)) 11 (parts .5);

@@ -68,7 +68,8 @@ pairFault g =
 unfoldable pub shapeFault : Grid → ℕ
 shapeFault g =
     unless (eqb (length (g .upperLinks) % 32768) 0 && eqb (length (g .lowerLinks) % 4096) 0 && eqb (length (g .leafValues) % 512) 0
-    && ltb (length (g .rootLinks)) (2 ^ 32) && ltb (length (g .upperLinks)) (2 ^ 32) && ltb (length (g .lowerLinks)) (2 ^ 32) && ltb (length (g .leafValues)) (2 ^ 32)) 18
+    && ltb (length (g .rootLinks)) (2 ^ 32) && ltb (length (g .upperLinks)) (2 ^ 32)
+    && ltb (length (g .lowerLinks)) (2 ^ 32) && ltb (length (g .leafValues)) (2 ^ 32)) 18
 
 unfoldable pub validate : Grid → ℕ
 unfolding pairFault shapeFault firstFault rootFault

@@ -8,9 +8,11 @@ ghost use Rattle.float.specs.Zero.{+0};
 ghost use lib.Ieee.{eq, lt};
 ghost use Rattle.layout.specs.Coordinates.{sameBlock};
 ghost use Rattle.sparse_grid.specs.Tables.{gridOf};
-ghost use Rattle.sparse_grid.specs.Validate.{valueFault, negative, entriesFault, valuesFault, negativesFault, blockIn, earlier, pairFault, shapeFault};
+ghost use Rattle.sparse_grid.specs.Validate.{valueFault, negative, entriesFault, valuesFault, negativesFault};
+ghost use Rattle.sparse_grid.specs.Validate.{blockIn, earlier, pairFault, shapeFault};
 ghost use Rattle.sparse_grid.specs.Answers.{at};
-ghost use Rattle.sparse_grid.specs.Inner.{blockOfRoot, rootBlock, blocksOf, faultOf, raised, ranged, rank, rootOf, rootsFault, tablesFault, contentsFault, Has, Topped};
+ghost use Rattle.sparse_grid.specs.Inner.{blockOfRoot, rootBlock, blocksOf, faultOf, raised, ranged, rank, rootOf};
+ghost use Rattle.sparse_grid.specs.Inner.{rootsFault, tablesFault, contentsFault, Has, Topped};
 use crate::Entry;
 use crate::Root;
 use crate::entry_at;
@@ -125,7 +127,8 @@ fn repeated(
     here: u64,
     top: u64,
 ) -> bool
-    requires { ⌜ Has (now blocks) (now links) (now values) i × (root ≡ rootOf (now blocks) (now links) (now values) i) × (here ≡ rank (blockOfRoot root)) × Topped (now blocks) i top ⌝ }
+    requires { ⌜ Has (now blocks) (now links) (now values) i × (root ≡ rootOf (now blocks) (now links) (now values) i)
+        × (here ≡ rank (blockOfRoot root)) × Topped (now blocks) i top ⌝ }
     ensures { λ r. ⌜ r ≡ earlier (blocksOf (now (blocks .entry))) i (rootBlock (now (blocks .entry)) i) ⌝ }
 {
     if top <= here {
@@ -236,7 +239,10 @@ pub(crate) fn pair_fault(
     lower_links: &[u32],
     lower_values: &[f32],
 ) -> u32
-    ensures { λ r. ⌜ r ≡ pairFault (gridOf +0 (now (blocks .entry)) (now («root_links» .entry)) (now («root_values» .entry)) (now («upper_links» .entry)) (now («upper_values» .entry)) (now («lower_links» .entry)) (now («lower_values» .entry)) []) ⌝ }
+    ensures { λ r.
+        let g = gridOf +0 (now (blocks .entry)) (now («root_links» .entry)) (now («root_values» .entry))
+        (now («upper_links» .entry)) (now («upper_values» .entry)) (now («lower_links» .entry)) (now («lower_values» .entry)) [] in
+        ⌜ r ≡ pairFault g ⌝ }
 {
     if root_links.len() != root_values.len() {
         return TABLES;
@@ -260,7 +266,10 @@ fn shape_fault(
     lower_links: &[u32],
     leaf_values: &[f32],
 ) -> u32
-    ensures { λ r. ⌜ r ≡ shapeFault (gridOf +0 [] (now («root_links» .entry)) [] (now («upper_links» .entry)) [] (now («lower_links» .entry)) [] (now («leaf_values» .entry))) ⌝ }
+    ensures { λ r.
+        let g = gridOf +0 [] (now («root_links» .entry)) [] (now («upper_links» .entry)) [] (now («lower_links» .entry)) []
+        (now («leaf_values» .entry)) in
+        ⌜ r ≡ shapeFault g ⌝ }
 {
     if upper_links.len() % 32768 != 0 {
         return TABLES;
@@ -297,7 +306,11 @@ pub(crate) fn tables_fault(
     lower_values: &[f32],
     leaf_values: &[f32],
 ) -> u32
-    ensures { λ r. ⌜ r ≡ tablesFault (gridOf +0 (now (blocks .entry)) (now («root_links» .entry)) (now («root_values» .entry)) (now («upper_links» .entry)) (now («upper_values» .entry)) (now («lower_links» .entry)) (now («lower_values» .entry)) (now («leaf_values» .entry))) ⌝ }
+    ensures { λ r.
+        let g = gridOf +0 (now (blocks .entry)) (now («root_links» .entry)) (now («root_values» .entry))
+        (now («upper_links» .entry)) (now («upper_values» .entry)) (now («lower_links» .entry)) (now («lower_values» .entry))
+        (now («leaf_values» .entry)) in
+        ⌜ r ≡ tablesFault g ⌝ }
 {
     let pairs = pair_fault(
         blocks,
@@ -324,7 +337,10 @@ pub(crate) fn contents_fault(
     leaf_values: &[f32],
 ) -> u32
     requires { ⌜ (length (now «upper_links») ≡ length (now «upper_values»)) × (length (now «lower_links») ≡ length (now «lower_values»)) ⌝ }
-    ensures { λ r. ⌜ r ≡ contentsFault (gridOf background [] [] [] (now («upper_links» .entry)) (now («upper_values» .entry)) (now («lower_links» .entry)) (now («lower_values» .entry)) (now («leaf_values» .entry))) ⌝ }
+    ensures { λ r.
+        let g = gridOf background [] [] [] (now («upper_links» .entry)) (now («upper_values» .entry))
+        (now («lower_links» .entry)) (now («lower_values» .entry)) (now («leaf_values» .entry)) in
+        ⌜ r ≡ contentsFault g ⌝ }
 {
     let upper = entries_fault(upper_links, upper_values, lower_links.len() / 4096);
     if upper != 0 {

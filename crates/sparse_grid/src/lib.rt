@@ -4,6 +4,8 @@ ghost use mathlib.Core.Path.{_≡_};
 ghost use mathlib.Core.List.{[]};
 ghost use Prim.Native.Nat.{_<_};
 ghost use lib.ListN.{length};
+ghost use Rattle.refusals.specs.Results.{said};
+ghost use Rattle.float.specs.Zero.{+0};
 ghost use Rattle.sparse_grid.specs.Tables.{gridOf, entryAt};
 ghost use Rattle.sparse_grid.specs.Validate.{validate as validateS, densityFault, validateDensity};
 ghost use Rattle.sparse_grid.specs.Lookup.{lookup as lookupS};
@@ -84,7 +86,11 @@ pub fn validate(
     lower_values: &[f32],
     leaf_values: &[f32],
 ) -> u32
-    ensures { λ r. ⌜ r ≡ validateS (gridOf background (now (blocks .entry)) (now («root_links» .entry)) (now («root_values» .entry)) (now («upper_links» .entry)) (now («upper_values» .entry)) (now («lower_links» .entry)) (now («lower_values» .entry)) (now («leaf_values» .entry))) ⌝ }
+    ensures { λ r.
+        let g = gridOf background (now (blocks .entry)) (now («root_links» .entry)) (now («root_values» .entry))
+        (now («upper_links» .entry)) (now («upper_values» .entry)) (now («lower_links» .entry)) (now («lower_values» .entry))
+        (now («leaf_values» .entry)) in
+        ⌜ r ≡ validateS g ⌝ }
 {
     let tables = tables_fault(
         blocks,
@@ -121,7 +127,10 @@ pub fn density_fault(
     lower_values: &[f32],
     leaf_values: &[f32],
 ) -> u32
-    ensures { λ r. ⌜ r ≡ densityFault (gridOf background [] [] (now («root_values» .entry)) [] (now («upper_values» .entry)) [] (now («lower_values» .entry)) (now («leaf_values» .entry))) ⌝ }
+    ensures { λ r.
+        let g = gridOf background [] [] (now («root_values» .entry)) [] (now («upper_values» .entry)) []
+        (now («lower_values» .entry)) (now («leaf_values» .entry)) in
+        ⌜ r ≡ densityFault g ⌝ }
 {
     let outside = negative_fault(background);
     if outside != 0 {
@@ -154,7 +163,11 @@ pub fn validate_density(
     lower_values: &[f32],
     leaf_values: &[f32],
 ) -> u32
-    ensures { λ r. ⌜ r ≡ validateDensity (gridOf background (now (blocks .entry)) (now («root_links» .entry)) (now («root_values» .entry)) (now («upper_links» .entry)) (now («upper_values» .entry)) (now («lower_links» .entry)) (now («lower_values» .entry)) (now («leaf_values» .entry))) ⌝ }
+    ensures { λ r.
+        let g = gridOf background (now (blocks .entry)) (now («root_links» .entry)) (now («root_values» .entry))
+        (now («upper_links» .entry)) (now («upper_values» .entry)) (now («lower_links» .entry)) (now («lower_values» .entry))
+        (now («leaf_values» .entry)) in
+        ⌜ r ≡ validateDensity g ⌝ }
 {
     let fault = validate(
         background,
@@ -194,7 +207,11 @@ pub fn get_value(
     y: i32,
     z: i32,
 ) -> Answer
-    ensures { λ r. ⌜ answer r ≡ valueOnly (lookupS (gridOf background (now (blocks .entry)) (now («root_links» .entry)) (now («root_values» .entry)) (now («upper_links» .entry)) (now («upper_values» .entry)) (now («lower_links» .entry)) (now («lower_values» .entry)) (now («leaf_values» .entry))) (at x y z)) ⌝ }
+    ensures { λ r.
+        let g = gridOf background (now (blocks .entry)) (now («root_links» .entry)) (now («root_values» .entry))
+        (now («upper_links» .entry)) (now («upper_values» .entry)) (now («lower_links» .entry)) (now («lower_values» .entry))
+        (now («leaf_values» .entry)) in
+        ⌜ answer r ≡ said +0 (valueOnly (lookupS g (at x y z))) ⌝ }
 {
     let pairs = pair_fault(
         blocks,

@@ -68,7 +68,9 @@ pub(crate) fn root_entry(
     z: i32,
 ) -> Entry
     requires { ⌜ (length (now blocks) ≡ 3 * length (now links)) × (length (now links) ≡ length (now values)) ⌝ }
-    ensures { λ r. ⌜ r ≡ entryFrom background (now (blocks .entry)) (now (links .entry)) (now (values .entry)) (length (now (links .entry))) 0 (blockOf (at x y z)) ⌝ }
+    ensures { λ r.
+        let n = length (now (links .entry)) in
+        ⌜ r ≡ entryFrom background (now (blocks .entry)) (now (links .entry)) (now (values .entry)) n 0 (blockOf (at x y z)) ⌝ }
 {
     let a = block_of(x);
     let b = block_of(y);
@@ -87,7 +89,9 @@ pub(crate) fn root_entry(
 // Each of these stores what it reads in `value` and answers 0, or answers the number of its refusal. An enum would be packed
 // into one word and taken apart again at every step.
 fn leaf_at(leaf_values: &[f32], k: u32, place: Place, value: &mut f32) -> u32
-    ensures { λ r. ⌜ told r (now (value .exit)) ≡ valueOnly (leafAt (nodesOf [] [] [] [] (now («leaf_values» .entry))) k (placed place)) ⌝ }
+    ensures { λ r.
+        let g = nodesOf [] [] [] [] (now («leaf_values» .entry)) in
+        ⌜ told r (now (value .exit)) ≡ valueOnly (leafAt g k (placed place)) ⌝ }
 {
     let start = 512 * k as usize;
     if leaf_values.len() < start + 512 {
@@ -107,7 +111,9 @@ fn lower_at(
     value: &mut f32,
 ) -> u32
     requires { ⌜ length (now links) ≡ length (now values) ⌝ }
-    ensures { λ r. ⌜ told r (now (value .exit)) ≡ valueOnly (lowerAt (nodesOf [] [] (now (links .entry)) (now (values .entry)) (now («leaf_values» .entry))) k (placed place)) ⌝ }
+    ensures { λ r.
+        let g = nodesOf [] [] (now (links .entry)) (now (values .entry)) (now («leaf_values» .entry)) in
+        ⌜ told r (now (value .exit)) ≡ valueOnly (lowerAt g k (placed place)) ⌝ }
 {
     let start = 4096 * k as usize;
     if links.len() < start + 4096 {
@@ -134,7 +140,10 @@ fn upper_at(
     value: &mut f32,
 ) -> u32
     requires { ⌜ (length (now links) ≡ length (now values)) × (length (now «lower_links») ≡ length (now «lower_values»)) ⌝ }
-    ensures { λ r. ⌜ told r (now (value .exit)) ≡ valueOnly (upperAt (nodesOf (now (links .entry)) (now (values .entry)) (now («lower_links» .entry)) (now («lower_values» .entry)) (now («leaf_values» .entry))) k (placed place)) ⌝ }
+    ensures { λ r.
+        let g = nodesOf (now (links .entry)) (now (values .entry)) (now («lower_links» .entry)) (now («lower_values» .entry))
+        (now («leaf_values» .entry)) in
+        ⌜ told r (now (value .exit)) ≡ valueOnly (upperAt g k (placed place)) ⌝ }
 {
     let start = 32768 * k as usize;
     if links.len() < start + 32768 {
@@ -164,7 +173,10 @@ pub(crate) fn below(
     value: &mut f32,
 ) -> u32
     requires { ⌜ (length (now «upper_links») ≡ length (now «upper_values»)) × (length (now «lower_links») ≡ length (now «lower_values»)) ⌝ }
-    ensures { λ r. ⌜ told r (now (value .exit)) ≡ valueOnly (rootEntry (nodesOf (now («upper_links» .entry)) (now («upper_values» .entry)) (now («lower_links» .entry)) (now («lower_values» .entry)) (now («leaf_values» .entry))) (placed place) entry) ⌝ }
+    ensures { λ r.
+        let g = nodesOf (now («upper_links» .entry)) (now («upper_values» .entry)) (now («lower_links» .entry))
+        (now («lower_values» .entry)) (now («leaf_values» .entry)) in
+        ⌜ told r (now (value .exit)) ≡ valueOnly (rootEntry g (placed place) entry) ⌝ }
 {
     match entry {
         Entry::Child(k) => upper_at(

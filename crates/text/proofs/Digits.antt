@@ -9,8 +9,8 @@ use lib.IntN.{ℤ, pos, negsuc}
 use native.Mathlib.Numerals.{add-one}
 use borrow.Author.Tests.{lt-ltb, le-ltb}
 use Rattle.text.specs.Numerals.{digit, tens, decimal, signedText, sixteens}
-use Rattle.text.specs.Page.{Page, puts}
-use Rattle.text.specs.PageLaws.{puts-then}
+use Rattle.text.specs.Page.{Page}
+use Rattle.text.specs.PageLaws.{Wrote, _then_, same-text}
 
 -- as many digits as n needs, however many are allowed
 tens-enough : (k j n : ℕ) → n ≤ k → n ≤ j → tens k n ≡ tens j n
@@ -41,13 +41,10 @@ sixteens-more (suc k) n h =
     ap (λ (j : ℕ). sixteens j (n / 16) ++ (digit (n % 16) ∷ [])) e
 
 -- a number of either sign
-pub signed-below : (p q r : Page) (z : ℤ) (k : ℕ) → z ≡ negsuc k → q ≡ puts p (45 ∷ []) → r ≡ puts q (decimal (k + 1)) → r ≡ puts p (signedText z)
+pub signed-below : {p q r : Page} {z : ℤ} {k : ℕ} → z ≡ negsuc k → Wrote p (45 ∷ []) q → Wrote q (decimal (k + 1)) r → Wrote p (signedText z) r
 unfolding signedText
-signed-below p q r z k e f g =
-    puts-then p q r (45 ∷ []) (decimal (k + 1)) f g
-    ∙ ap (λ (n : ℕ). puts p (45 ∷ decimal n)) (add-one k)
-    ∙ ap (λ (x : ℤ). puts p (signedText x)) (sym e)
+signed-below {k = k} e f g = same-text (f then g) (ap (λ (n : ℕ). 45 ∷ decimal n) (add-one k) ∙ ap signedText (sym e))
 
-pub signed-above : (p r : Page) (z : ℤ) (k : ℕ) → z ≡ pos k → r ≡ puts p (decimal k) → r ≡ puts p (signedText z)
+pub signed-above : {p r : Page} {z : ℤ} {k : ℕ} → z ≡ pos k → Wrote p (decimal k) r → Wrote p (signedText z) r
 unfolding signedText
-signed-above p r z k e f = f ∙ ap (λ (x : ℤ). puts p (signedText x)) (sym e)
+signed-above e f = same-text f (ap signedText (sym e))

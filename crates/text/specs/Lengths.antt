@@ -2,7 +2,7 @@
 use mathlib.Core.Path.{_≡_, refl, sym, subst}
 use mathlib.Core.Bool.{Bool, true, false, cond}
 use mathlib.Core.List.{[], _∷_, _++_}
-use Prim.Native.Nat.{ℕ, zero, suc, _+_, _*_, _/_, _%_, _^_, _≤_, _<_}
+use Prim.Native.Nat.{ℕ, zero, suc, _*_, _/_, _%_, _^_, _≤_, _<_}
 use native.Mathlib.Nat.{pow-suc}
 use native.Mathlib.Omega.{arith}
 use lib.IntN.{ℤ, pos, negsuc}
@@ -18,7 +18,8 @@ tenth n k h = omega arith
 tens-length : (j k n : ℕ) → n < 10 ^ suc j → length (tens k n) ≤ suc j
 unfolding tens
 tens-length j zero n h = omega arith
-tens-length zero (suc k) n h = subst (λ (t : Bool). length (cond t (digit n ∷ []) (tens k (n / 10) ++ (digit (n % 10) ∷ []))) ≤ 1) (sym (lt-ltb n 10 h)) (omega arith)
+tens-length zero (suc k) n h =
+    subst (λ (t : Bool). length (cond t (digit n ∷ []) (tens k (n / 10) ++ (digit (n % 10) ∷ []))) ≤ 1) (sym (lt-ltb n 10 h)) (omega arith)
 tens-length (suc j) (suc k) n h =
     by-test (tens-length j k (n / 10) (tenth n (10 ^ suc j) (subst (λ (m : ℕ). n < m) (pow-suc 10 (suc j)) h))) (ltb n 10)
   where

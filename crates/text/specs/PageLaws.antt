@@ -16,9 +16,21 @@ unfolding puts
 puts-append p [] ys = refl
 puts-append p (x ∷ xs) ys = puts-append (put p x) xs ys
 
+-- the page q is p with the text bs written
+pub record Wrote (p : Page) (bs : List ℕ) (q : Page) : Type 0 where
+  pub is : q ≡ puts p bs
+
+pub wrote : {p q : Page} {bs : List ℕ} → q ≡ puts p bs → Wrote p bs q
+wrote e = record { is = e }
+
 -- two texts, one after the other
-pub puts-then : (p q r : Page) (xs ys : List ℕ) → q ≡ puts p xs → r ≡ puts q ys → r ≡ puts p (xs ++ ys)
-puts-then p q r xs ys e f = f ∙ ap (λ (x : Page). puts x ys) e ∙ sym (puts-append p xs ys)
+infixr 40 _then_
+pub _then_ : {p q r : Page} {xs ys : List ℕ} → Wrote p xs q → Wrote q ys r → Wrote p (xs ++ ys) r
+_then_ {p} {xs = xs} {ys = ys} e f = record { is = f .is ∙ ap (λ (x : Page). puts x ys) (e .is) ∙ sym (puts-append p xs ys) }
+
+-- another text that is the same
+pub same-text : {p q : Page} {xs ys : List ℕ} → Wrote p xs q → xs ≡ ys → Wrote p ys q
+same-text {p} e h = record { is = e .is ∙ ap (puts p) h }
 
 put-length : (p : Page) (b : ℕ) → length (put p b .cells) ≡ length (p .cells)
 put-length p b = by-test (ltb (p .at) (length (p .cells)))
@@ -33,8 +45,8 @@ unfolding puts
 puts-length p [] = refl
 puts-length p (b ∷ bs) = puts-length (put p b) bs ∙ put-length p b
 
-pub puts-same : (l m : List ℕ) (a b : ℕ) (bs : List ℕ) → page l a ≡ puts (page m b) bs → length l ≡ length m
-puts-same l m a b bs e = ap (λ (p : Page). length (p .cells)) e ∙ puts-length (page m b) bs
+pub wrote-length : {p q : Page} {bs : List ℕ} → Wrote p bs q → length (q .cells) ≡ length (p .cells)
+wrote-length {p} {bs = bs} e = ap (λ (x : Page). length (x .cells)) (e .is) ∙ puts-length p bs
 
 -- a byte that has room, and one that has none
 pub put-room : (l : List ℕ) (at b : ℕ) → at < length l → put (page l at) b ≡ page (set l at b) (at + 1)
@@ -44,7 +56,8 @@ pub put-full : (l : List ℕ) (at b : ℕ) → length l ≤ at → put (page l a
 put-full l at b h = ap (λ (t : Bool). cond t (page (set l at b) (at + 1)) (page l at)) (le-ltb at (length l) h)
 
 -- behind the text t that a page begins with
-puts-behind : (t l bs : List ℕ) → puts (page (t ++ l) (length t)) bs ≡ page (t ++ (take (length l) bs ++ drop (length bs) l)) (length t + min (length bs) (length l))
+puts-behind : (t l bs : List ℕ)
+    → puts (page (t ++ l) (length t)) bs ≡ page (t ++ (take (length l) bs ++ drop (length bs) l)) (length t + min (length bs) (length l))
 unfolding puts
 puts-behind t l [] =
     let e : length t ≡ length t + min 0 (length l) = omega arith in

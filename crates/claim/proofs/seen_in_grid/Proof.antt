@@ -5,6 +5,7 @@ use mir.Syntax.{w32}
 use lib.IntN.{pos}
 use lib.ListN.{getD}
 use Rattle.refusals.specs.Results.{valueOr}
+use Rattle.refusals.specs.ResultLaws.{said-same}
 use Rattle.float.specs.Zero.{+0}
 use Rattle.sparse_grid.specs.Tables.{Grid, gridOf}
 use Rattle.sparse_grid.specs.Lookup.{lookup}
@@ -46,8 +47,8 @@ returns c =
     let hx = toZ-ofZ {w = w32} {z = getD (q .high) 0 (pos 0)} (record { sfits = h .box-maximum-arg4 .given }) in
     let hy = toZ-ofZ {w = w32} {z = getD (q .high) 1 (pos 0)} (record { sfits = m .before .before .box-maximum-arg5 .given }) in
     let hz = toZ-ofZ {w = w32} {z = getD (q .high) 2 (pos 0)} (record { sfits = m .before .box-maximum-arg6 .given }) in
-    let value = g .get-value .ensures ∙ (λ i. valueOnly (lookup (grid (at-start g)) (at (x i) (y i) (z i)))) in
-    let maximum = m .box-maximum .ensures ∙ (λ i. publicMaximum (grid (at-start g)) (between (lx i) (ly i) (lz i) (hx i) (hy i) (hz i))) in
+    let value = said-same +0 _ _ (g .get-value .ensures) ∙ (λ i. valueOnly (lookup (grid (at-start g)) (at (x i) (y i) (z i)))) in
+    let maximum = said-same +0 _ _ (m .box-maximum .ensures) ∙ (λ i. publicMaximum (grid (at-start g)) (between (lx i) (ly i) (lz i) (hx i) (hy i) (hz i))) in
     λ i. record {
       value = (c .before .value-or-zero .ensures ∙ ap (valueOr +0) value) i;
       maximum = (c .value-or-zero2 .ensures ∙ ap (valueOr +0) maximum) i;

@@ -14,28 +14,25 @@ abbrev μ-loop : tie.MeasureT-loop
 μ-loop numbers₀ i₀ numbers i = length numbers₀ - i
 
 loop-holds : tie.Need-loop-holds Inv-loop μ-loop
-loop-holds c = fill-none _ _
-
-mul-numbers : tie.Need-mul-numbers Inv-loop μ-loop
-mul-numbers c = omega arith
-
-slice-set-of-numbers : tie.Need-slice-set-of-numbers Inv-loop μ-loop
-slice-set-of-numbers c = omega arith
-
-add-i : tie.Need-add-i Inv-loop μ-loop
-add-i c = omega arith
-
-loop-less : tie.Need-loop-less Inv-loop μ-loop
-loop-less c = omega arith
+loop-holds c = fill-none
 
 loop-again : tie.Need-loop-again Inv-loop μ-loop
-loop-again c = fill-more _ _ _ _ (c .before .loop .inv) (omega arith)
+loop-again c = fill-more (c .before .loop .inv) (omega arith)
 
 same-length : tie.Need-same-length Inv-loop μ-loop
 same-length c = c .before .loop .inv .same
 
 returns : tie.Need-returns Inv-loop μ-loop
-returns c = fill-all _ _ _ _ (c .before .loop .inv) (omega arith)
+returns c = fill-all (c .before .loop .inv) (omega arith)
 
 pub zero-i32-spec : {M : Type 1} → statement M
-zero-i32-spec = tie.close (tie.spec Inv-loop μ-loop loop-holds mul-numbers slice-set-of-numbers add-i loop-less loop-again same-length returns)
+zero-i32-spec =
+    tie.close
+    (tie.spec
+    Inv-loop
+    μ-loop
+    loop-holds
+    (λ c. omega arith) (λ c. omega arith) (λ c. omega arith) (λ c. omega arith)
+    loop-again
+    same-length
+    returns)

@@ -1,7 +1,9 @@
 -- `majorant::box_maximum` meets its contract: the fault of `validate`, or the maximum of a grid that passed it. Assumes nothing.
-use mathlib.Core.Path.{sym, _∙_}
+use mathlib.Core.Path.{sym, ap, _∙_}
 use borrow.Author.Needs.{needs}
-use Rattle.sparse_grid.specs.Tables.{gridOf}
+use Rattle.refusals.specs.Results.{said}
+use Rattle.float.specs.Zero.{+0}
+use Rattle.sparse_grid.specs.Tables.{Grid, gridOf}
 use Rattle.sparse_grid.specs.Lookup.{readIn}
 use Rattle.majorant.specs.Boxes.{boxMaximum, between}
 use Rattle.majorant.specs.Build.{publicMaximum}
@@ -10,22 +12,34 @@ use Rattle.majorant.proofs.Refused.{passed, stopped}
 use Rattle.majorant.proofs.box_maximum.Statement.{statement}
 use Rattle.majorant.proofs.box_maximum.Tie as tie
 
-validate-requires : tie.Need-validate-requires
-validate-requires c κs = search needs
+-- the way to the start, and the grid of the call
+abbrev at-start : tie.After-validate → tie.Start
+at-start c = c .before .before .before .before .before .before .before .before
+
+abbrev grid : tie.Start → Grid
+grid c =
+    let a = c .args in
+    gridOf (a .background) (a .blocks .now) (a .root-links .now) (a .root-values .now)
+    (a .upper-links .now) (a .upper-values .now) (a .lower-links .now) (a .lower-values .now) (a .leaf-values .now)
 
 returns : tie.Need-returns
 unfolding publicMaximum
-returns c = stopped _ (c .before .validate .ensures) (c .if1 .taken)
+returns c = ap (said +0) (stopped _ (c .before .validate .ensures) (c .if1 .taken))
 
 range-max-requires : tie.Need-range-max-requires
 range-max-requires c κs = sym (c .before .validate .ensures) ∙ c .if1 .left
 
+-- the corners are handed on as their bits, which stand for the same numbers
 returns-2 : tie.Need-returns-2
 unfolding publicMaximum
 returns-2 c =
-    let b = c .before .before .before .before .before .before .before .before .before .before .args in
-    let f = c .before .before .before .before .before .before .before .before .before .before .fits in
-    passed (c .before .before .validate .ensures) (c .before .if1 .left) (c .range-max .ensures ∙ (λ j. boxMaximum (readIn (gridOf (b .background) (b .blocks .now) (b .root-links .now) (b .root-values .now) (b .upper-links .now) (b .upper-values .now) (b .lower-links .now) (b .lower-values .now) (b .leaf-values .now))) (between (seen (f .lx) j) (seen (f .ly) j) (seen (f .lz) j) (seen (f .hx) j) (seen (f .hy) j) (seen (f .hz) j))))
+    let p = at-start (c .before .before) in
+    let f = p .fits in
+    ap (said +0)
+    (passed (c .before .before .validate .ensures) (c .before .if1 .left)
+    (c .range-max .ensures
+    ∙ (λ j. boxMaximum (readIn (grid p))
+    (between (seen (f .lx) j) (seen (f .ly) j) (seen (f .lz) j) (seen (f .hx) j) (seen (f .hy) j) (seen (f .hz) j)))))
 
 pub box-maximum-spec : {M : Type 1} → statement M
-box-maximum-spec = tie.close (tie.spec validate-requires returns range-max-requires returns-2)
+box-maximum-spec = tie.close (tie.spec (λ c κs. search needs) returns range-max-requires returns-2)

@@ -1,62 +1,54 @@
-use Rattle.medium.specs.Medium.{indexFault}
-use Rattle.medium.proofs.Laws.{each-is, index-seen}
-use Rattle.medium.specs.Record.{asMedium}
-use lib.ListN.{getD}
-use lib.IntN.{pos}
+-- `medium::index_fault` meets its contract: the first fault of the three axes. Assumes nothing.
+use mathlib.Core.Path.{_≡_}
 use borrow.Author.Needs.{needs}
+use Rattle.medium.specs.Medium.{Medium, xAxis, yAxis, zAxis, indexFault}
+use Rattle.medium.specs.Record.{asMedium}
+use Rattle.medium.proofs.Laws.{each-is, index-seen}
 use Rattle.medium.proofs.index_fault.Statement.{statement}
 use Rattle.medium.proofs.index_fault.Tie as tie
 
-element-copy-out-index-on : tie.Need-element-copy-out-index-on
-element-copy-out-index-on c = search needs
+-- ---- places on the way to a place: the test of x, and of y
+abbrev at-x : tie.After-index-on2 → tie.After-index-on
+at-x c = c .before .before .before
 
-element-copy-out-index-on-2 : tie.Need-element-copy-out-index-on-2
-element-copy-out-index-on-2 c = search needs
+abbrev at-y : tie.After-index-on3 → tie.After-index-on2
+at-y c = c .before .before .before
 
-index-on-requires : tie.Need-index-on-requires
-index-on-requires c κs = search needs
+abbrev medium : tie.After-index-on → Medium
+medium c = asMedium (c .before .before .before .args .t1)
 
-element-copy-out-index-on-3 : tie.Need-element-copy-out-index-on-3
-element-copy-out-index-on-3 c = search needs
+-- ---- the answer for each axis
+x-is : (c : tie.After-index-on) → c .index-on .result ≡ indexFault (medium c) xAxis
+unfolding indexFault
+x-is c =
+    let m = medium c in
+    index-seen (m .indexLow .x) (m .indexHigh .x) (c .before .before .index-on-arg .given) (c .before .index-on-arg2 .given) (c .index-on .ensures)
 
-element-copy-out-index-on-4 : tie.Need-element-copy-out-index-on-4
-element-copy-out-index-on-4 c = search needs
+y-is : (c : tie.After-index-on2) → c .index-on2 .result ≡ indexFault (medium (at-x c)) yAxis
+unfolding indexFault
+y-is c =
+    let m = medium (at-x c) in
+    index-seen (m .indexLow .y) (m .indexHigh .y) (c .before .before .index-on-arg3 .given) (c .before .index-on-arg4 .given) (c .index-on2 .ensures)
 
-index-on-requires-2 : tie.Need-index-on-requires-2
-index-on-requires-2 c κs = search needs
-
-element-copy-out-index-on-5 : tie.Need-element-copy-out-index-on-5
-element-copy-out-index-on-5 c = search needs
-
-element-copy-out-index-on-6 : tie.Need-element-copy-out-index-on-6
-element-copy-out-index-on-6 c = search needs
-
-index-on-requires-3 : tie.Need-index-on-requires-3
-index-on-requires-3 c κs = search needs
-
-first-fault-requires : tie.Need-first-fault-requires
-first-fault-requires c κs = search needs
-
-first-fault-requires-2 : tie.Need-first-fault-requires-2
-first-fault-requires-2 c κs = search needs
+z-is : (c : tie.After-index-on3) → c .index-on3 .result ≡ indexFault (medium (at-x (at-y c))) zAxis
+unfolding indexFault
+z-is c =
+    let m = medium (at-x (at-y c)) in
+    index-seen (m .indexLow .z) (m .indexHigh .z) (c .before .before .index-on-arg5 .given) (c .before .index-on-arg6 .given) (c .index-on3 .ensures)
 
 returns : tie.Need-returns
-unfolding indexFault
-returns c = each-is (indexFault (asMedium (c .before .before .before .before .before .before .before .before .before .before .before .args .t1))) _ _ _ _ _ (index-seen (getD (c .before .before .before .before .before .before .before .before .before .before .before .args .t1 .«index_low») 0 (pos 0)) (getD (c .before .before .before .before .before .before .before .before .before .before .before .args .t1 .«index_high») 0 (pos 0)) _ (c .before .before .before .before .before .before .before .before .before .before .index-on-arg .given) (c .before .before .before .before .before .before .before .before .before .index-on-arg2 .given) (c .before .before .before .before .before .before .before .before .index-on .ensures)) (index-seen (getD (c .before .before .before .before .before .before .before .before .before .before .before .args .t1 .«index_low») 1 (pos 0)) (getD (c .before .before .before .before .before .before .before .before .before .before .before .args .t1 .«index_high») 1 (pos 0)) _ (c .before .before .before .before .before .before .before .index-on-arg3 .given) (c .before .before .before .before .before .before .index-on-arg4 .given) (c .before .before .before .before .before .index-on2 .ensures)) (index-seen (getD (c .before .before .before .before .before .before .before .before .before .before .before .args .t1 .«index_low») 2 (pos 0)) (getD (c .before .before .before .before .before .before .before .before .before .before .before .args .t1 .«index_high») 2 (pos 0)) _ (c .before .before .before .before .index-on-arg5 .given) (c .before .before .before .index-on-arg6 .given) (c .before .before .index-on3 .ensures)) (c .before .first-fault .ensures) (c .first-fault2 .ensures)
+returns c =
+    let z = c .before .before in
+    let y = at-y z in
+    let x = at-x y in
+    each-is (indexFault (medium x)) (x-is x) (y-is y) (z-is z) (c .before .first-fault .ensures) (c .first-fault2 .ensures)
 
 pub index-fault-spec : {M : Type 1} → statement M
 index-fault-spec =
     tie.close
     (tie.spec
-    element-copy-out-index-on
-    element-copy-out-index-on-2
-    index-on-requires
-    element-copy-out-index-on-3
-    element-copy-out-index-on-4
-    index-on-requires-2
-    element-copy-out-index-on-5
-    element-copy-out-index-on-6
-    index-on-requires-3
-    first-fault-requires
-    first-fault-requires-2
+    (λ c. search needs) (λ c. search needs) (λ c κs. search needs)
+    (λ c. search needs) (λ c. search needs) (λ c κs. search needs)
+    (λ c. search needs) (λ c. search needs) (λ c κs. search needs)
+    (λ c κs. search needs) (λ c κs. search needs)
     returns)

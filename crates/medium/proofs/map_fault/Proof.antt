@@ -1,162 +1,103 @@
-use Rattle.refusals.specs.TestLaws.{and-same}
-use Rattle.medium.proofs.Laws.{passes, fails}
-use mathlib.Core.Path.{_∙_}
-use Rattle.medium.specs.Medium.{mapFault}
+-- `medium::map_fault` meets its contract: the rows of the map one after the other, and then the translation. Assumes nothing.
+use Prim.Native.Nat.{ℕ}
+use mathlib.Core.Path.{_≡_, _∙_}
+use mathlib.Core.Bool.{Bool, _&&_}
+use lib.ListN.{getD}
+use lib.Ieee.{Float}
+use lib.Ieee.Scale.{finite}
 use borrow.Author.Needs.{needs}
+use Rattle.refusals.specs.TestLaws.{and-same}
+use Rattle.float.specs.Zero.{+0}
+use Rattle.medium.specs.Medium.{Medium, diagonal, zeroes, mapFault}
+use Rattle.medium.specs.Record.{asMedium}
+use Rattle.medium.proofs.Laws.{passes, fails, and-three}
 use Rattle.medium.proofs.map_fault.Statement.{statement}
 use Rattle.medium.proofs.map_fault.Tie as tie
 
-element-copy-out-on-diagonal : tie.Need-element-copy-out-on-diagonal
-element-copy-out-on-diagonal c = search needs
+-- ---- places on the way to a place: the tests of each row, and of the translation
+abbrev at-start : tie.After-both2 → tie.Start
+at-start c = c .before .before .before .before .before .before .before .before
 
-on-diagonal-requires : tie.Need-on-diagonal-requires
-on-diagonal-requires c κs = search needs
+abbrev at-x : tie.After-both5 → tie.After-both2
+at-x c = c .before .before .before .before .before .before .before .before .before
 
-element-copy-out-off-diagonal : tie.Need-element-copy-out-off-diagonal
-element-copy-out-off-diagonal c = search needs
+abbrev at-y : tie.After-both8 → tie.After-both5
+at-y c = c .before .before .before .before .before .before .before .before .before
 
-off-diagonal-requires : tie.Need-off-diagonal-requires
-off-diagonal-requires c κs = search needs
+abbrev at-z : tie.After-both11 → tie.After-both8
+at-z c = c .before .before .before .before .before .before .before .before .before
 
-both-requires : tie.Need-both-requires
-both-requires c κs = search needs
+-- ---- the medium, and the tests of the map up to each row's end
+abbrev medium : tie.After-both2 → Medium
+medium c = asMedium (at-start c .args .t1)
 
-element-copy-out-off-diagonal-2 : tie.Need-element-copy-out-off-diagonal-2
-element-copy-out-off-diagonal-2 c = search needs
+abbrev place : tie.After-both2 → ℕ → Float
+place c i = getD (medium c .map) i +0
 
-off-diagonal-requires-2 : tie.Need-off-diagonal-requires-2
-off-diagonal-requires-2 c κs = search needs
+abbrev rowX : (ℕ → Float) → Bool
+rowX at = diagonal (at 0) && zeroes (at 1) && zeroes (at 2)
 
-both-requires-2 : tie.Need-both-requires-2
-both-requires-2 c κs = search needs
+abbrev rowY : (ℕ → Float) → Bool
+rowY at = rowX at && zeroes (at 3) && diagonal (at 4) && zeroes (at 5)
 
-element-copy-out-off-diagonal-3 : tie.Need-element-copy-out-off-diagonal-3
-element-copy-out-off-diagonal-3 c = search needs
+abbrev rowZ : (ℕ → Float) → Bool
+rowZ at = rowY at && zeroes (at 6) && zeroes (at 7) && diagonal (at 8)
 
-off-diagonal-requires-3 : tie.Need-off-diagonal-requires-3
-off-diagonal-requires-3 c κs = search needs
+-- ---- what the code has after each row, and in the end
+x-is : (c : tie.After-both2) → c .both2 .result ≡ rowX (place c)
+x-is c =
+    let p = c .before .before .before in
+    c .both2 .ensures
+    ∙ and-same (p .both .ensures ∙ and-same (p .before .before .before .on-diagonal .ensures) (p .before .off-diagonal .ensures))
+    (c .before .off-diagonal2 .ensures)
 
-both-requires-3 : tie.Need-both-requires-3
-both-requires-3 c κs = search needs
+y-is : (c : tie.After-both5) → c .both5 .result ≡ rowY (place (at-x c))
+y-is c =
+    let q = c .before .before .before in
+    let p = q .before .before .before in
+    and-three (x-is (at-x c)) (p .both3 .ensures) (p .before .off-diagonal3 .ensures) (q .both4 .ensures) (q .before .on-diagonal2 .ensures)
+    (c .both5 .ensures) (c .before .off-diagonal4 .ensures)
 
-element-copy-out-on-diagonal-2 : tie.Need-element-copy-out-on-diagonal-2
-element-copy-out-on-diagonal-2 c = search needs
+z-is : (c : tie.After-both8) → c .both8 .result ≡ rowZ (place (at-x (at-y c)))
+z-is c =
+    let q = c .before .before .before in
+    let p = q .before .before .before in
+    and-three (y-is (at-y c)) (p .both6 .ensures) (p .before .off-diagonal5 .ensures) (q .both7 .ensures) (q .before .off-diagonal6 .ensures)
+    (c .both8 .ensures) (c .before .on-diagonal3 .ensures)
 
-on-diagonal-requires-2 : tie.Need-on-diagonal-requires-2
-on-diagonal-requires-2 c κs = search needs
-
-both-requires-4 : tie.Need-both-requires-4
-both-requires-4 c κs = search needs
-
-element-copy-out-off-diagonal-4 : tie.Need-element-copy-out-off-diagonal-4
-element-copy-out-off-diagonal-4 c = search needs
-
-off-diagonal-requires-4 : tie.Need-off-diagonal-requires-4
-off-diagonal-requires-4 c κs = search needs
-
-both-requires-5 : tie.Need-both-requires-5
-both-requires-5 c κs = search needs
-
-element-copy-out-off-diagonal-5 : tie.Need-element-copy-out-off-diagonal-5
-element-copy-out-off-diagonal-5 c = search needs
-
-off-diagonal-requires-5 : tie.Need-off-diagonal-requires-5
-off-diagonal-requires-5 c κs = search needs
-
-both-requires-6 : tie.Need-both-requires-6
-both-requires-6 c κs = search needs
-
-element-copy-out-off-diagonal-6 : tie.Need-element-copy-out-off-diagonal-6
-element-copy-out-off-diagonal-6 c = search needs
-
-off-diagonal-requires-6 : tie.Need-off-diagonal-requires-6
-off-diagonal-requires-6 c κs = search needs
-
-both-requires-7 : tie.Need-both-requires-7
-both-requires-7 c κs = search needs
-
-element-copy-out-on-diagonal-3 : tie.Need-element-copy-out-on-diagonal-3
-element-copy-out-on-diagonal-3 c = search needs
-
-on-diagonal-requires-3 : tie.Need-on-diagonal-requires-3
-on-diagonal-requires-3 c κs = search needs
-
-both-requires-8 : tie.Need-both-requires-8
-both-requires-8 c κs = search needs
-
-element-copy-out-is-finite : tie.Need-element-copy-out-is-finite
-element-copy-out-is-finite c = search needs
-
-is-finite-requires : tie.Need-is-finite-requires
-is-finite-requires c κs = search needs
-
-both-requires-9 : tie.Need-both-requires-9
-both-requires-9 c κs = search needs
-
-element-copy-out-is-finite-2 : tie.Need-element-copy-out-is-finite-2
-element-copy-out-is-finite-2 c = search needs
-
-is-finite-requires-2 : tie.Need-is-finite-requires-2
-is-finite-requires-2 c κs = search needs
-
-both-requires-10 : tie.Need-both-requires-10
-both-requires-10 c κs = search needs
-
-element-copy-out-is-finite-3 : tie.Need-element-copy-out-is-finite-3
-element-copy-out-is-finite-3 c = search needs
-
-is-finite-requires-3 : tie.Need-is-finite-requires-3
-is-finite-requires-3 c κs = search needs
-
-both-requires-11 : tie.Need-both-requires-11
-both-requires-11 c κs = search needs
+all-is : (c : tie.After-both11)
+    → let p = at-x (at-y (at-z c)) in
+    let t = medium p .translation in
+    c .both11 .result ≡ (rowZ (place p) && finite (t .x) && finite (t .y) && finite (t .z))
+all-is c =
+    let q = c .before .before .before in
+    let p = q .before .before .before in
+    and-three (z-is (at-z c)) (p .both9 .ensures) (p .before .is-finite .ensures) (q .both10 .ensures) (q .before .is-finite2 .ensures)
+    (c .both11 .ensures) (c .before .is-finite3 .ensures)
 
 returns : tie.Need-returns
 unfolding mapFault
-returns c = passes _ _ 13 (c .before .both11 .ensures ∙ and-same (c .before .before .before .before .both10 .ensures ∙ and-same (c .before .before .before .before .before .before .before .both9 .ensures ∙ and-same (c .before .before .before .before .before .before .before .before .before .before .both8 .ensures ∙ and-same (c .before .before .before .before .before .before .before .before .before .before .before .before .before .both7 .ensures ∙ and-same (c .before .before .before .before .before .before .before .before .before .before .before .before .before .before .before .before .both6 .ensures ∙ and-same (c .before .before .before .before .before .before .before .before .before .before .before .before .before .before .before .before .before .before .before .both5 .ensures ∙ and-same (c .before .before .before .before .before .before .before .before .before .before .before .before .before .before .before .before .before .before .before .before .before .before .both4 .ensures ∙ and-same (c .before .before .before .before .before .before .before .before .before .before .before .before .before .before .before .before .before .before .before .before .before .before .before .before .before .both3 .ensures ∙ and-same (c .before .before .before .before .before .before .before .before .before .before .before .before .before .before .before .before .before .before .before .before .before .before .before .before .before .before .before .before .both2 .ensures ∙ and-same (c .before .before .before .before .before .before .before .before .before .before .before .before .before .before .before .before .before .before .before .before .before .before .before .before .before .before .before .before .before .before .before .both .ensures ∙ and-same (c .before .before .before .before .before .before .before .before .before .before .before .before .before .before .before .before .before .before .before .before .before .before .before .before .before .before .before .before .before .before .before .before .before .before .on-diagonal .ensures) (c .before .before .before .before .before .before .before .before .before .before .before .before .before .before .before .before .before .before .before .before .before .before .before .before .before .before .before .before .before .before .before .before .off-diagonal .ensures)) (c .before .before .before .before .before .before .before .before .before .before .before .before .before .before .before .before .before .before .before .before .before .before .before .before .before .before .before .before .before .off-diagonal2 .ensures)) (c .before .before .before .before .before .before .before .before .before .before .before .before .before .before .before .before .before .before .before .before .before .before .before .before .before .before .off-diagonal3 .ensures)) (c .before .before .before .before .before .before .before .before .before .before .before .before .before .before .before .before .before .before .before .before .before .before .before .on-diagonal2 .ensures)) (c .before .before .before .before .before .before .before .before .before .before .before .before .before .before .before .before .before .before .before .before .off-diagonal4 .ensures)) (c .before .before .before .before .before .before .before .before .before .before .before .before .before .before .before .before .before .off-diagonal5 .ensures)) (c .before .before .before .before .before .before .before .before .before .before .before .before .before .before .off-diagonal6 .ensures)) (c .before .before .before .before .before .before .before .before .before .before .before .on-diagonal3 .ensures)) (c .before .before .before .before .before .before .before .before .is-finite .ensures)) (c .before .before .before .before .before .is-finite2 .ensures)) (c .before .before .is-finite3 .ensures)) (c .if1 .taken)
+returns c = passes 13 (all-is (c .before)) (c .if1 .taken)
 
 returns-2 : tie.Need-returns-2
 unfolding mapFault
-returns-2 c = fails _ _ 13 (c .before .both11 .ensures ∙ and-same (c .before .before .before .before .both10 .ensures ∙ and-same (c .before .before .before .before .before .before .before .both9 .ensures ∙ and-same (c .before .before .before .before .before .before .before .before .before .before .both8 .ensures ∙ and-same (c .before .before .before .before .before .before .before .before .before .before .before .before .before .both7 .ensures ∙ and-same (c .before .before .before .before .before .before .before .before .before .before .before .before .before .before .before .before .both6 .ensures ∙ and-same (c .before .before .before .before .before .before .before .before .before .before .before .before .before .before .before .before .before .before .before .both5 .ensures ∙ and-same (c .before .before .before .before .before .before .before .before .before .before .before .before .before .before .before .before .before .before .before .before .before .before .both4 .ensures ∙ and-same (c .before .before .before .before .before .before .before .before .before .before .before .before .before .before .before .before .before .before .before .before .before .before .before .before .before .both3 .ensures ∙ and-same (c .before .before .before .before .before .before .before .before .before .before .before .before .before .before .before .before .before .before .before .before .before .before .before .before .before .before .before .before .both2 .ensures ∙ and-same (c .before .before .before .before .before .before .before .before .before .before .before .before .before .before .before .before .before .before .before .before .before .before .before .before .before .before .before .before .before .before .before .both .ensures ∙ and-same (c .before .before .before .before .before .before .before .before .before .before .before .before .before .before .before .before .before .before .before .before .before .before .before .before .before .before .before .before .before .before .before .before .before .before .on-diagonal .ensures) (c .before .before .before .before .before .before .before .before .before .before .before .before .before .before .before .before .before .before .before .before .before .before .before .before .before .before .before .before .before .before .before .before .off-diagonal .ensures)) (c .before .before .before .before .before .before .before .before .before .before .before .before .before .before .before .before .before .before .before .before .before .before .before .before .before .before .before .before .before .off-diagonal2 .ensures)) (c .before .before .before .before .before .before .before .before .before .before .before .before .before .before .before .before .before .before .before .before .before .before .before .before .before .before .off-diagonal3 .ensures)) (c .before .before .before .before .before .before .before .before .before .before .before .before .before .before .before .before .before .before .before .before .before .before .before .on-diagonal2 .ensures)) (c .before .before .before .before .before .before .before .before .before .before .before .before .before .before .before .before .before .before .before .before .off-diagonal4 .ensures)) (c .before .before .before .before .before .before .before .before .before .before .before .before .before .before .before .before .before .off-diagonal5 .ensures)) (c .before .before .before .before .before .before .before .before .before .before .before .before .before .before .off-diagonal6 .ensures)) (c .before .before .before .before .before .before .before .before .before .before .before .on-diagonal3 .ensures)) (c .before .before .before .before .before .before .before .before .is-finite .ensures)) (c .before .before .before .before .before .is-finite2 .ensures)) (c .before .before .is-finite3 .ensures)) (c .if1 .left)
+returns-2 c = fails 13 (all-is (c .before)) (c .if1 .left)
 
 pub map-fault-spec : {M : Type 1} → statement M
 map-fault-spec =
     tie.close
     (tie.spec
-    element-copy-out-on-diagonal
-    on-diagonal-requires
-    element-copy-out-off-diagonal
-    off-diagonal-requires
-    both-requires
-    element-copy-out-off-diagonal-2
-    off-diagonal-requires-2
-    both-requires-2
-    element-copy-out-off-diagonal-3
-    off-diagonal-requires-3
-    both-requires-3
-    element-copy-out-on-diagonal-2
-    on-diagonal-requires-2
-    both-requires-4
-    element-copy-out-off-diagonal-4
-    off-diagonal-requires-4
-    both-requires-5
-    element-copy-out-off-diagonal-5
-    off-diagonal-requires-5
-    both-requires-6
-    element-copy-out-off-diagonal-6
-    off-diagonal-requires-6
-    both-requires-7
-    element-copy-out-on-diagonal-3
-    on-diagonal-requires-3
-    both-requires-8
-    element-copy-out-is-finite
-    is-finite-requires
-    both-requires-9
-    element-copy-out-is-finite-2
-    is-finite-requires-2
-    both-requires-10
-    element-copy-out-is-finite-3
-    is-finite-requires-3
-    both-requires-11
+    (λ c. search needs) (λ c κs. search needs)
+    (λ c. search needs) (λ c κs. search needs) (λ c κs. search needs)
+    (λ c. search needs) (λ c κs. search needs) (λ c κs. search needs)
+    (λ c. search needs) (λ c κs. search needs) (λ c κs. search needs)
+    (λ c. search needs) (λ c κs. search needs) (λ c κs. search needs)
+    (λ c. search needs) (λ c κs. search needs) (λ c κs. search needs)
+    (λ c. search needs) (λ c κs. search needs) (λ c κs. search needs)
+    (λ c. search needs) (λ c κs. search needs) (λ c κs. search needs)
+    (λ c. search needs) (λ c κs. search needs) (λ c κs. search needs)
+    (λ c. search needs) (λ c κs. search needs) (λ c κs. search needs)
+    (λ c. search needs) (λ c κs. search needs) (λ c κs. search needs)
+    (λ c. search needs) (λ c κs. search needs) (λ c κs. search needs)
     returns
     returns-2)

@@ -1,3 +1,4 @@
+-- `medium::off_diagonal` meets its contract: the literal 0.0 is +0. Assumes nothing.
 use mathlib.Core.Path.{ap}
 use Rattle.float.specs.Literal.{zero-literal}
 use lib.Ieee.{Float, eq, binary32}

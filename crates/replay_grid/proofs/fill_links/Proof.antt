@@ -16,44 +16,17 @@ abbrev μ-loop : tie.MeasureT-loop
 loop-holds : tie.Need-loop-holds Inv-loop μ-loop
 loop-holds c = (omega arith, refl)
 
-slice-aggregate-read-full : tie.Need-slice-aggregate-read-full Inv-loop μ-loop
-slice-aggregate-read-full c = omega arith
-
-read-full-requires : tie.Need-read-full-requires Inv-loop μ-loop
-read-full-requires c κs = search needs
-
-slice-aggregate-u32-at : tie.Need-slice-aggregate-u32-at Inv-loop μ-loop
-slice-aggregate-u32-at c = omega arith
-
-u32-at-requires : tie.Need-u32-at-requires Inv-loop μ-loop
-u32-at-requires c κs = search needs
-
-cast-put-link : tie.Need-cast-put-link Inv-loop μ-loop
-cast-put-link c = omega arith
-
-slice-aggregate-u32-at-2 : tie.Need-slice-aggregate-u32-at-2 Inv-loop μ-loop
-slice-aggregate-u32-at-2 c = omega arith
-
-u32-at-requires-2 : tie.Need-u32-at-requires-2 Inv-loop μ-loop
-u32-at-requires-2 c κs = search needs
-
-put-link-requires : tie.Need-put-link-requires Inv-loop μ-loop
-put-link-requires c κs = search needs
-
-add-i : tie.Need-add-i Inv-loop μ-loop
-add-i c = omega arith
-
-loop-less : tie.Need-loop-less Inv-loop μ-loop
-loop-less c = omega arith
+abbrev at-turn : tie.After-put-link Inv-loop μ-loop → tie.In-loop Inv-loop μ-loop
+at-turn c = c .before .before .before .before .before .before .before .before .before
 
 loop-again : tie.Need-loop-again Inv-loop μ-loop
-loop-again c = (omega (arith, c .before .before .before .before .before .before .before .before .before .before .before .loop-test .taken), c .before .before .put-link .kept .0 ∙ c .before .before .before .before .before .before .before .before .before .before .before .before .loop .inv .1)
+loop-again c =
+    let p = c .before .before in
+    let t = at-turn p in
+    (omega (arith, t .loop-test .taken), p .put-link .kept .0 ∙ t .before .loop .inv .1)
 
 same-length : tie.Need-same-length Inv-loop μ-loop
 same-length c = c .before .loop .inv .1
-
-returns : tie.Need-returns Inv-loop μ-loop
-returns c = tt
 
 pub fill-links-spec : {M : Type 1} → statement M
 fill-links-spec =
@@ -62,16 +35,9 @@ fill-links-spec =
     Inv-loop
     μ-loop
     loop-holds
-    slice-aggregate-read-full
-    read-full-requires
-    slice-aggregate-u32-at
-    u32-at-requires
-    cast-put-link
-    slice-aggregate-u32-at-2
-    u32-at-requires-2
-    put-link-requires
-    add-i
-    loop-less
+    (λ c. omega arith) (λ c κs. search needs) (λ c. omega arith) (λ c κs. search needs)
+    (λ c. omega arith) (λ c. omega arith) (λ c κs. search needs) (λ c κs. search needs)
+    (λ c. omega arith) (λ c. omega arith)
     loop-again
     same-length
-    returns)
+    (λ c. tt))

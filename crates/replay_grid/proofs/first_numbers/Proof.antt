@@ -8,11 +8,5 @@ use Rattle.replay_grid.proofs.first_numbers.Tie as tie
 slice-aggregate-result : tie.Need-slice-aggregate-result
 slice-aggregate-result c = simp length-take (omega arith)
 
-returns : tie.Need-returns
-returns c = search needs
-
-returns-2 : tie.Need-returns-2
-returns-2 c = search needs
-
 pub first-numbers-spec : {M : Type 1} → statement M
-first-numbers-spec = tie.close (tie.spec slice-aggregate-result returns returns-2)
+first-numbers-spec = tie.close (tie.spec slice-aggregate-result (λ c. search needs) (λ c. search needs))

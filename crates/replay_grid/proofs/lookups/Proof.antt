@@ -16,17 +16,13 @@ abbrev μ-loop : tie.MeasureT-loop
 loop-holds : tie.Need-loop-holds Inv-loop μ-loop
 loop-holds c = (omega arith, omega arith)
 
-lookup-requires : tie.Need-lookup-requires Inv-loop μ-loop
-lookup-requires c κs = search needs
+abbrev at-start : tie.At-loop Inv-loop μ-loop → tie.Start Inv-loop μ-loop
+at-start c = c .before .before .before .before .before .before .before .before
 
 add-differ : tie.Need-add-differ Inv-loop μ-loop
-add-differ c = omega (arith, c .before .loop-test .taken, c .before .before .loop .inv .1, c .lookup .ensures, c .before .before .before .before .before .before .before .before .before .before .fits .n)
-
-add-i : tie.Need-add-i Inv-loop μ-loop
-add-i c = omega arith
-
-loop-less : tie.Need-loop-less Inv-loop μ-loop
-loop-less c = omega arith
+add-differ c =
+    let t = c .before in
+    omega (arith, t .loop-test .taken, t .before .loop .inv .1, c .lookup .ensures, at-start (t .before) .fits .n)
 
 loop-again : tie.Need-loop-again Inv-loop μ-loop
 loop-again c = (omega (arith, c .before .loop-test .taken), omega (arith, c .before .before .loop .inv .1, c .lookup .ensures))
@@ -41,9 +37,8 @@ lookups-spec =
     Inv-loop
     μ-loop
     loop-holds
-    lookup-requires
+    (λ c κs. search needs)
     add-differ
-    add-i
-    loop-less
+    (λ c. omega arith) (λ c. omega arith)
     loop-again
     returns)

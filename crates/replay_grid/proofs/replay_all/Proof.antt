@@ -11,32 +11,35 @@ Inv-loop cases most made₀ differ₀ i₀ made differ i = (i ≤ most) × (made
 abbrev μ-loop : tie.MeasureT-loop
 μ-loop cases most made₀ differ₀ i₀ made differ i = most - i
 
-least-requires : tie.Need-least-requires Inv-loop μ-loop
-least-requires c κs = search needs
-
 loop-holds : tie.Need-loop-holds Inv-loop μ-loop
 loop-holds c = (omega arith, omega arith, omega arith)
 
-replay-requires : tie.Need-replay-requires Inv-loop μ-loop
-replay-requires c κs = search needs
+abbrev at-turn : tie.After-struct-known Inv-loop μ-loop → tie.In-loop Inv-loop μ-loop
+at-turn c = c .before .before
 
 add-made : tie.Need-add-made Inv-loop μ-loop
-add-made c = omega (arith, c .before .before .before .loop .inv .1, c .before .replay .ensures .0, c .before .before .before .before .least .ensures .1, c .before .before .loop-test .taken)
+add-made c =
+    let t = at-turn c in
+    let p = t .before in
+    omega (arith, p .loop .inv .1, c .before .replay .ensures .0, p .before .least .ensures .1, t .loop-test .taken)
 
 add-differ : tie.Need-add-differ Inv-loop μ-loop
-add-differ c = omega (arith, c .before .before .before .before .loop .inv .2, c .before .before .replay .ensures .1, c .before .before .before .before .before .least .ensures .1, c .before .before .before .loop-test .taken)
+add-differ c =
+    let t = at-turn (c .before) in
+    let p = t .before in
+    omega (arith, p .loop .inv .2, c .before .before .replay .ensures .1, p .before .least .ensures .1, t .loop-test .taken)
 
 add-i : tie.Need-add-i Inv-loop μ-loop
-add-i c = omega (arith, c .before .before .before .before .before .least .ensures .1, c .before .before .before .loop-test .taken)
-
-loop-less : tie.Need-loop-less Inv-loop μ-loop
-loop-less c = omega arith
+add-i c =
+    let t = at-turn (c .before) in
+    omega (arith, t .before .before .least .ensures .1, t .loop-test .taken)
 
 loop-again : tie.Need-loop-again Inv-loop μ-loop
-loop-again c = (omega (arith, c .before .before .before .loop-test .taken), omega (arith, c .before .before .before .before .loop .inv .1, c .before .before .replay .ensures .0), omega (arith, c .before .before .before .before .loop .inv .2, c .before .before .replay .ensures .1))
-
-returns : tie.Need-returns Inv-loop μ-loop
-returns c = tt
+loop-again c =
+    let t = at-turn (c .before) in
+    let p = t .before in
+    let r = c .before .before .replay .ensures in
+    (omega (arith, t .loop-test .taken), omega (arith, p .loop .inv .1, r .0), omega (arith, p .loop .inv .2, r .1))
 
 pub replay-all-spec : {M : Type 1} → statement M
 replay-all-spec =
@@ -44,12 +47,12 @@ replay-all-spec =
     (tie.spec
     Inv-loop
     μ-loop
-    least-requires
+    (λ c κs. search needs)
     loop-holds
-    replay-requires
+    (λ c κs. search needs)
     add-made
     add-differ
     add-i
-    loop-less
+    (λ c. omega arith)
     loop-again
-    returns)
+    (λ c. tt))

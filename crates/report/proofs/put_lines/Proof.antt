@@ -1,40 +1,40 @@
 -- `report::put_lines` meets its contract: the lines, one after another. Assumes nothing.
-use Rattle.text.specs.PageLaws.{puts-then}
-use Rattle.report.specs.Inner.{linesIn}
 use borrow.Author.Needs.{needs}
+use Rattle.text.specs.PageLaws.{wrote, _then_}
+use Rattle.report.specs.Inner.{linesIn}
 use Rattle.report.proofs.put_lines.Statement.{statement}
 use Rattle.report.proofs.put_lines.Tie as tie
 
-put-grid-requires : tie.Need-put-grid-requires
-put-grid-requires c κs = search needs
+-- places on the way to a place: each line is written
+abbrev at-grid : tie.After-put-nodes → tie.After-put-grid
+at-grid c = c .before .before .before .before
 
-put-nodes-requires : tie.Need-put-nodes-requires
-put-nodes-requires c κs = search needs
+abbrev at-nodes : tie.After-put-box → tie.After-put-nodes
+at-nodes c = c .before .before .before .before
 
-put-box-requires : tie.Need-put-box-requires
-put-box-requires c κs = search needs
+abbrev at-box : tie.After-put-back → tie.After-put-box
+at-box c = c .before .before .before .before
 
-put-back-requires : tie.Need-put-back-requires
-put-back-requires c κs = search needs
-
-put-roots-requires : tie.Need-put-roots-requires
-put-roots-requires c κs = search needs
-
-same-length : tie.Need-same-length
-same-length c = search needs
+abbrev at-back : tie.After-put-roots → tie.After-put-back
+at-back c = c .before .before .before .before
 
 returns : tie.Need-returns
 unfolding linesIn
-returns c = puts-then _ _ _ _ _ (c .before .before .before .before .before .before .before .before .before .before .before .before .before .before .before .before .before .before .put-grid .ensures) (puts-then _ _ _ _ _ (c .before .before .before .before .before .before .before .before .before .before .before .before .before .before .put-nodes .ensures) (puts-then _ _ _ _ _ (c .before .before .before .before .before .before .before .before .before .before .put-box .ensures) (puts-then _ _ _ _ _ (c .before .before .before .before .before .before .put-back .ensures) (c .before .before .put-roots .ensures))))
+returns c =
+    let roots = c .before .before in
+    let back = at-back roots in
+    let box = at-box back in
+    let nodes = at-nodes box in
+    (wrote (at-grid nodes .put-grid .ensures)
+    then wrote (nodes .put-nodes .ensures)
+    then wrote (box .put-box .ensures)
+    then wrote (back .put-back .ensures)
+    then wrote (roots .put-roots .ensures)) .is
 
 pub put-lines-spec : {M : Type 1} → statement M
 put-lines-spec =
     tie.close
     (tie.spec
-    put-grid-requires
-    put-nodes-requires
-    put-box-requires
-    put-back-requires
-    put-roots-requires
-    same-length
+    (λ c κs. search needs) (λ c κs. search needs) (λ c κs. search needs) (λ c κs. search needs)
+    (λ c κs. search needs) (λ c. search needs)
     returns)

@@ -1,40 +1,52 @@
 -- `report::put_text` meets its contract: the refusal, or the lines. Assumes nothing.
+use borrow.Author.Needs.{needs}
 use native.Mathlib.Omega.{arith}
 use Rattle.decode.specs.Answers.{answer}
+use Rattle.text.specs.PageLaws.{wrote}
+use Rattle.report.specs.Room.{Counted}
 use Rattle.report.proofs.Whole.{text-refused, text-lines}
-use borrow.Author.Needs.{needs}
 use Rattle.report.proofs.put_text.Statement.{statement}
 use Rattle.report.proofs.put_text.Tie as tie
 
-cast-put-refused : tie.Need-cast-put-refused
-cast-put-refused c = omega arith
+-- ---- the way to the start, and the ways to the test
+abbrev at-start : tie.After-struct-known → tie.Start
+at-start c = c .before .before .before
 
-put-refused-requires : tie.Need-put-refused-requires
-put-refused-requires c κs = search needs
+abbrev at-refused : tie.After-put-refused → tie.Then1
+at-refused c = c .before .before .before
 
-same-length : tie.Need-same-length
-same-length c = search needs
+abbrev at-lines : tie.After-put-lines → tie.Else1
+at-lines c = c .before .before
+
+-- the counts fit, as every number of a record does
+counted : (c : tie.After-struct-known) → Counted (answer (at-start c .args .d))
+counted c =
+    let g = c .struct-known .given in
+    record { number = omega (arith, g .0 .fits); upper = g .1 .1 .0 .fits; lower = g .1 .1 .1 .0 .fits; leaf = g .1 .1 .1 .1 .0 .fits }
 
 returns : tie.Need-returns
-returns c = (text-refused _ _ _ (answer (c .before .before .before .before .before .before .before .before .before .args .d)) _ _ (c .before .before .before .before .before .if1 .taken) (c .before .before .put-refused .ensures), record { number = omega (arith, c .before .before .before .before .before .before .struct-known .given .0 .fits); upper = c .before .before .before .before .before .before .struct-known .given .1 .1 .0 .fits; lower = c .before .before .before .before .before .before .struct-known .given .1 .1 .1 .0 .fits; leaf = c .before .before .before .before .before .before .struct-known .given .1 .1 .1 .1 .0 .fits })
-
-put-lines-requires : tie.Need-put-lines-requires
-put-lines-requires c κs = search needs
-
-same-length-2 : tie.Need-same-length-2
-same-length-2 c = search needs
+returns c =
+    let p = c .before .before in
+    let t = at-refused p in
+    let a = at-start (t .before) .args in (
+      text-refused (a .n) (answer (a .d)) (a .blocks .now) (a .values .now) (t .if1 .taken) (wrote (p .put-refused .ensures)) .is,
+      counted (t .before),
+    )
 
 returns-2 : tie.Need-returns-2
-returns-2 c = (text-lines _ _ _ (answer (c .before .before .before .before .before .before .before .before .args .d)) _ _ (c .before .before .before .before .if1 .left) (c .before .before .put-lines .ensures), record { number = omega (arith, c .before .before .before .before .before .struct-known .given .0 .fits); upper = c .before .before .before .before .before .struct-known .given .1 .1 .0 .fits; lower = c .before .before .before .before .before .struct-known .given .1 .1 .1 .0 .fits; leaf = c .before .before .before .before .before .struct-known .given .1 .1 .1 .1 .0 .fits })
+returns-2 c =
+    let p = c .before .before in
+    let t = at-lines p in
+    let a = at-start (t .before) .args in (
+      text-lines (a .n) (answer (a .d)) (a .blocks .now) (a .values .now) (t .if1 .left) (wrote (p .put-lines .ensures)) .is,
+      counted (t .before),
+    )
 
 pub put-text-spec : {M : Type 1} → statement M
 put-text-spec =
     tie.close
     (tie.spec
-    cast-put-refused
-    put-refused-requires
-    same-length
+    (λ c. omega arith) (λ c κs. search needs) (λ c. search needs)
     returns
-    put-lines-requires
-    same-length-2
+    (λ c κs. search needs) (λ c. search needs)
     returns-2)

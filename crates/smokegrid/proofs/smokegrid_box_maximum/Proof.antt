@@ -2,6 +2,7 @@
 use mathlib.Core.Path.{ap, _∙_}
 use mir.Facts.{toZ-ofZ}
 use Rattle.refusals.specs.Results.{numberOf, valueOr}
+use Rattle.refusals.specs.ResultLaws.{said-same}
 use Rattle.float.specs.Zero.{+0}
 use Rattle.sparse_grid.specs.Tables.{Grid, gridOf}
 use Rattle.majorant.specs.Build.{publicMaximum}
@@ -25,7 +26,7 @@ returns c =
     let m = c .before .before in
     let f = at-start m .fits in
     let e =
-    m .box-maximum .ensures
+    said-same +0 _ _ (m .box-maximum .ensures)
     ∙ (λ t. publicMaximum (grid (at-start m)) (between (toZ-ofZ (f .lx) t) (toZ-ofZ (f .ly) t) (toZ-ofZ (f .lz) t)
     (toZ-ofZ (f .hx) t) (toZ-ofZ (f .hy) t) (toZ-ofZ (f .hz) t))) in
     record { number-is = c .give .ensures .0 ∙ ap numberOf e; value-is = c .give .ensures .1 ∙ ap (valueOr +0) e }

@@ -3,6 +3,7 @@ use mathlib.Core.Path.{ap, _∙_}
 use borrow.Author.Needs.{needs}
 use mir.Facts.{toZ-ofZ}
 use Rattle.refusals.specs.Results.{numberOf, valueOr}
+use Rattle.refusals.specs.ResultLaws.{said-same}
 use Rattle.float.specs.Zero.{+0}
 use Rattle.sparse_grid.specs.Tables.{Grid, gridOf}
 use Rattle.sparse_grid.specs.Lookup.{lookup}
@@ -24,7 +25,8 @@ returns : tie.Need-returns
 returns c =
     let g = c .before .before in
     let f = at-start g .fits in
-    let e = g .get-value .ensures ∙ (λ t. valueOnly (lookup (grid (at-start g)) (at (toZ-ofZ (f .x) t) (toZ-ofZ (f .y) t) (toZ-ofZ (f .z) t)))) in
+    let e = said-same +0 _ _ (g .get-value .ensures)
+    ∙ (λ t. valueOnly (lookup (grid (at-start g)) (at (toZ-ofZ (f .x) t) (toZ-ofZ (f .y) t) (toZ-ofZ (f .z) t)))) in
     record { number-is = c .give .ensures .0 ∙ ap numberOf e; value-is = c .give .ensures .1 ∙ ap (valueOr +0) e }
 
 pub smokegrid-get-value-spec : {M : Type 1} → statement M

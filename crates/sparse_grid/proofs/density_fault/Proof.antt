@@ -1,80 +1,84 @@
 -- `sparse_grid::density_fault` meets its contract: test by test, the first fault is the answer. Assumes nothing.
-use mathlib.Core.Path.{_∙_}
+use Prim.Native.Nat.{ℕ}
+use mathlib.Core.Path.{_≡_, _∙_}
 use mathlib.Core.List.{[]}
 use borrow.Author.Needs.{needs}
-use Rattle.sparse_grid.specs.Tables.{gridOf}
-use Rattle.sparse_grid.specs.Validate.{negative, negativesFault}
+use Rattle.sparse_grid.specs.Tables.{Grid, gridOf}
+use Rattle.sparse_grid.specs.Validate.{negativesFault, densityFault}
 use Rattle.sparse_grid.proofs.Steps.{faulty, clean}
 use Rattle.sparse_grid.proofs.Whole.{fromRootValues, fromUpperValues, fromLowerValues, all-negative}
 use Rattle.sparse_grid.proofs.density_fault.Statement.{statement}
 use Rattle.sparse_grid.proofs.density_fault.Tie as tie
 
-negative-fault-requires : tie.Need-negative-fault-requires
-negative-fault-requires c κs = search needs
+-- ---- the way to the start after each test that passed, and the grid of the call
+abbrev at-start : tie.After-negative-fault → tie.Start
+at-start c = c .before .before .before .before .before
 
+abbrev start-1 : tie.Else1 → tie.Start
+start-1 c = at-start (c .before)
+
+abbrev start-2 : tie.Else2 → tie.Start
+start-2 c = start-1 (c .before .before)
+
+abbrev start-3 : tie.Else3 → tie.Start
+start-3 c = start-2 (c .before .before)
+
+abbrev start-4 : tie.Else4 → tie.Start
+start-4 c = start-3 (c .before .before)
+
+abbrev grid : tie.Start → Grid
+grid c =
+    let a = c .args in
+    gridOf (a .background) [] [] (a .root-values .now) [] (a .upper-values .now) [] (a .lower-values .now) (a .leaf-values .now)
+
+-- ---- after a test that passed, what the rest gives is the answer
+rest-1 : (c : tie.Else1) {k : ℕ} → k ≡ fromRootValues (grid (start-1 c)) → k ≡ densityFault (grid (start-1 c))
+rest-1 c e = clean (c .before .negative-fault .ensures) (c .if1 .left) e ∙ all-negative (grid (start-1 c))
+
+rest-2 : (c : tie.Else2) {k : ℕ} → k ≡ fromUpperValues (grid (start-2 c)) → k ≡ densityFault (grid (start-2 c))
+rest-2 c e = rest-1 (c .before .before) (clean (c .before .negatives-fault .ensures) (c .if2 .left) e)
+
+rest-3 : (c : tie.Else3) {k : ℕ} → k ≡ fromLowerValues (grid (start-3 c)) → k ≡ densityFault (grid (start-3 c))
+rest-3 c e = rest-2 (c .before .before) (clean (c .before .negatives-fault2 .ensures) (c .if3 .left) e)
+
+rest-4 : (c : tie.Else4) {k : ℕ} → k ≡ negativesFault (grid (start-4 c) .leafValues) → k ≡ densityFault (grid (start-4 c))
+rest-4 c e = rest-3 (c .before .before) (clean (c .before .negatives-fault3 .ensures) (c .if4 .left) e)
+
+-- ---- the ways out
 returns : tie.Need-returns
 returns c =
-    let a = c .before .before .before .before .before .before .args in
-    let g = gridOf (a .background) [] [] (a .root-values .now) [] (a .upper-values .now) [] (a .lower-values .now) (a .leaf-values .now) in
-    faulty (negative (g .background)) (fromRootValues g) (c .before .negative-fault .result) (c .before .negative-fault .ensures) (c .if1 .taken) ∙ all-negative g
-
-negatives-fault-requires : tie.Need-negatives-fault-requires
-negatives-fault-requires c κs = search needs
+    let g = grid (at-start (c .before)) in
+    faulty (fromRootValues g) (c .before .negative-fault .ensures) (c .if1 .taken) ∙ all-negative g
 
 returns-2 : tie.Need-returns-2
 returns-2 c =
-    let a = c .before .before .before .before .before .before .before .before .args in
-    let g = gridOf (a .background) [] [] (a .root-values .now) [] (a .upper-values .now) [] (a .lower-values .now) (a .leaf-values .now) in
-    clean (negative (g .background)) (fromRootValues g) (c .before .before .before .negative-fault .result) (c .before .negatives-fault .result) (c .before .before .before .negative-fault .ensures) (c .before .before .if1 .left)
-    (faulty (negativesFault (g .rootValues)) (fromUpperValues g) (c .before .negatives-fault .result) (c .before .negatives-fault .ensures) (c .if2 .taken)) ∙ all-negative g
-
-negatives-fault-requires-2 : tie.Need-negatives-fault-requires-2
-negatives-fault-requires-2 c κs = search needs
+    let p = c .before .before in
+    rest-1 p (faulty (fromUpperValues (grid (start-1 p))) (c .before .negatives-fault .ensures) (c .if2 .taken))
 
 returns-3 : tie.Need-returns-3
 returns-3 c =
-    let a = c .before .before .before .before .before .before .before .before .before .before .args in
-    let g = gridOf (a .background) [] [] (a .root-values .now) [] (a .upper-values .now) [] (a .lower-values .now) (a .leaf-values .now) in
-    clean (negative (g .background)) (fromRootValues g) (c .before .before .before .before .before .negative-fault .result) (c .before .negatives-fault2 .result) (c .before .before .before .before .before .negative-fault .ensures) (c .before .before .before .before .if1 .left)
-    (clean (negativesFault (g .rootValues)) (fromUpperValues g) (c .before .before .before .negatives-fault .result) (c .before .negatives-fault2 .result) (c .before .before .before .negatives-fault .ensures) (c .before .before .if2 .left)
-    (faulty (negativesFault (g .upperValues)) (fromLowerValues g) (c .before .negatives-fault2 .result) (c .before .negatives-fault2 .ensures) (c .if3 .taken))) ∙ all-negative g
-
-negatives-fault-requires-3 : tie.Need-negatives-fault-requires-3
-negatives-fault-requires-3 c κs = search needs
+    let p = c .before .before in
+    rest-2 p (faulty (fromLowerValues (grid (start-2 p))) (c .before .negatives-fault2 .ensures) (c .if3 .taken))
 
 returns-4 : tie.Need-returns-4
 returns-4 c =
-    let a = c .before .before .before .before .before .before .before .before .before .before .before .before .args in
-    let g = gridOf (a .background) [] [] (a .root-values .now) [] (a .upper-values .now) [] (a .lower-values .now) (a .leaf-values .now) in
-    clean (negative (g .background)) (fromRootValues g) (c .before .before .before .before .before .before .before .negative-fault .result) (c .before .negatives-fault3 .result) (c .before .before .before .before .before .before .before .negative-fault .ensures) (c .before .before .before .before .before .before .if1 .left)
-    (clean (negativesFault (g .rootValues)) (fromUpperValues g) (c .before .before .before .before .before .negatives-fault .result) (c .before .negatives-fault3 .result) (c .before .before .before .before .before .negatives-fault .ensures) (c .before .before .before .before .if2 .left)
-    (clean (negativesFault (g .upperValues)) (fromLowerValues g) (c .before .before .before .negatives-fault2 .result) (c .before .negatives-fault3 .result) (c .before .before .before .negatives-fault2 .ensures) (c .before .before .if3 .left)
-    (faulty (negativesFault (g .lowerValues)) (negativesFault (g .leafValues)) (c .before .negatives-fault3 .result) (c .before .negatives-fault3 .ensures) (c .if4 .taken)))) ∙ all-negative g
-
-negatives-fault-requires-4 : tie.Need-negatives-fault-requires-4
-negatives-fault-requires-4 c κs = search needs
+    let p = c .before .before in
+    rest-3 p (faulty (negativesFault (grid (start-3 p) .leafValues)) (c .before .negatives-fault3 .ensures) (c .if4 .taken))
 
 returns-5 : tie.Need-returns-5
-returns-5 c =
-    let a = c .before .before .before .before .before .before .before .before .before .before .before .before .before .args in
-    let g = gridOf (a .background) [] [] (a .root-values .now) [] (a .upper-values .now) [] (a .lower-values .now) (a .leaf-values .now) in
-    clean (negative (g .background)) (fromRootValues g) (c .before .before .before .before .before .before .before .before .negative-fault .result) (c .negatives-fault4 .result) (c .before .before .before .before .before .before .before .before .negative-fault .ensures) (c .before .before .before .before .before .before .before .if1 .left)
-    (clean (negativesFault (g .rootValues)) (fromUpperValues g) (c .before .before .before .before .before .before .negatives-fault .result) (c .negatives-fault4 .result) (c .before .before .before .before .before .before .negatives-fault .ensures) (c .before .before .before .before .before .if2 .left)
-    (clean (negativesFault (g .upperValues)) (fromLowerValues g) (c .before .before .before .before .negatives-fault2 .result) (c .negatives-fault4 .result) (c .before .before .before .before .negatives-fault2 .ensures) (c .before .before .before .if3 .left)
-    (clean (negativesFault (g .lowerValues)) (negativesFault (g .leafValues)) (c .before .before .negatives-fault3 .result) (c .negatives-fault4 .result) (c .before .before .negatives-fault3 .ensures) (c .before .if4 .left)
-    (c .negatives-fault4 .ensures)))) ∙ all-negative g
+returns-5 c = rest-4 (c .before) (c .negatives-fault4 .ensures)
 
 pub density-fault-spec : {M : Type 1} → statement M
 density-fault-spec =
     tie.close
     (tie.spec
-    negative-fault-requires
+    (λ c κs. search needs)
     returns
-    negatives-fault-requires
+    (λ c κs. search needs)
     returns-2
-    negatives-fault-requires-2
+    (λ c κs. search needs)
     returns-3
-    negatives-fault-requires-3
+    (λ c κs. search needs)
     returns-4
-    negatives-fault-requires-4
+    (λ c κs. search needs)
     returns-5)

@@ -13,25 +13,11 @@ use Rattle.sparse_grid.proofs.Lists.{child}
 use Rattle.sparse_grid.proofs.entry_at.Statement.{statement}
 use Rattle.sparse_grid.proofs.entry_at.Tie as tie
 
-mul-link : tie.Need-mul-link
-mul-link c = search needs
-
-shared-slice-read-link : tie.Need-shared-slice-read-link
-shared-slice-read-link c = search needs
-
-mul-t10 : tie.Need-mul-t10
-mul-t10 c = search needs
-
-shared-slice-read-t12 : tie.Need-shared-slice-read-t12
-shared-slice-read-t12 c = search needs
-
-sub-t13 : tie.Need-sub-t13
-sub-t13 c = search needs
-
 returns : tie.Need-returns
 returns c =
     let b = c .before .before .before .args in
-    ap Tile (getD-any (b .values .now) (b .i) nan +0 (c .before .before .before .pre .1)) ∙ ap (λ (l : ℕ). entryOf l (getD (b .values .now) (b .i) +0)) (sym (c .before .if1 .taken))
+    ap Tile (getD-any (b .values .now) (b .i) nan +0 (c .before .before .before .pre .1))
+    ∙ ap (λ (l : ℕ). entryOf l (getD (b .values .now) (b .i) +0)) (sym (c .before .if1 .taken))
 
 returns-2 : tie.Need-returns-2
 returns-2 c = let b = c .before .before .args in child (getD (b .links .now) (b .i) 0) (getD (b .values .now) (b .i) +0) (omega arith)
@@ -40,10 +26,7 @@ pub entry-at-spec : {M : Type 1} → statement M
 entry-at-spec =
     tie.close
     (tie.spec
-    mul-link
-    shared-slice-read-link
-    mul-t10
-    shared-slice-read-t12
-    sub-t13
+    (λ c. search needs) (λ c. search needs) (λ c. search needs) (λ c. search needs)
+    (λ c. search needs)
     returns
     returns-2)

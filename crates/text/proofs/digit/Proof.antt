@@ -7,18 +7,6 @@ use borrow.Author.Needs.{needs}
 use Rattle.text.proofs.digit.Statement.{statement}
 use Rattle.text.proofs.digit.Tie as tie
 
-cast-result : tie.Need-cast-result
-cast-result c = search needs
-
-add-result : tie.Need-add-result
-add-result c = search needs
-
-cast-result-2 : tie.Need-cast-result-2
-cast-result-2 c = search needs
-
-add-result-2 : tie.Need-add-result-2
-add-result-2 c = search needs
-
 returns : tie.Need-returns
 returns c = ap (λ (t : Bool). cond t (48 + c .before .args .d) (87 + c .before .args .d)) (sym (lt-ltb (c .before .args .d) 10 (c .if1 .taken)))
 
@@ -27,4 +15,4 @@ returns-2 c = ap (λ (t : Bool). cond t (48 + c .before .args .d) (87 + c .befor
 
 pub digit-spec : {M : Type 1} → statement M
 digit-spec =
-    tie.close (tie.spec cast-result add-result cast-result-2 add-result-2 returns returns-2)
+    tie.close (tie.spec (λ c. search needs) (λ c. search needs) (λ c. search needs) (λ c. search needs) returns returns-2)

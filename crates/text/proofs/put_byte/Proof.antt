@@ -6,15 +6,6 @@ use borrow.Author.Needs.{needs}
 use Rattle.text.proofs.put_byte.Statement.{statement}
 use Rattle.text.proofs.put_byte.Tie as tie
 
-slice-write-out : tie.Need-slice-write-out
-slice-write-out c = search needs
-
-add-result : tie.Need-add-result
-add-result c = search needs
-
-same-length : tie.Need-same-length
-same-length c = search needs
-
 returns : tie.Need-returns
 unfolding puts
 returns c = sym (put-room (c .before .args .out .now) (c .before .args .at) (c .before .args .byte) (c .if1 .taken))
@@ -24,4 +15,4 @@ unfolding puts
 returns-2 c = sym (put-full (c .before .args .out .now) (c .before .args .at) (c .before .args .byte) (c .if1 .left))
 
 pub put-byte-spec : {M : Type 1} → statement M
-put-byte-spec = tie.close (tie.spec slice-write-out add-result same-length returns returns-2)
+put-byte-spec = tie.close (tie.spec (λ c. search needs) (λ c. search needs) (λ c. search needs) returns returns-2)

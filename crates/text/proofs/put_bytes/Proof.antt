@@ -1,11 +1,10 @@
 -- `text::put_bytes` meets its contract: after i turns the first i bytes are written. Assumes nothing.
-use Prim.Native.Nat.{ℕ, _≤_, _-_}
-use mathlib.Core.Path.{_≡_, refl, ap, _∙_}
-use mathlib.Core.List.{List}
+use Prim.Native.Nat.{_≤_, _-_}
+use mathlib.Core.Path.{_≡_, refl}
 use lib.ListN.{length, take}
 use lib.Seq.{take-all}
 use Rattle.text.specs.Page.{page, puts}
-use Rattle.text.specs.PageLaws.{puts-same}
+use Rattle.text.specs.PageLaws.{wrote, wrote-length, same-text}
 use Rattle.text.proofs.Steps.{put-more}
 use native.Mathlib.Omega.{arith}
 use borrow.Author.Needs.{needs}
@@ -22,26 +21,28 @@ loop-holds : tie.Need-loop-holds Inv-loop μ-loop
 unfolding puts
 loop-holds c = (omega arith, refl)
 
-shared-slice-read-put-byte : tie.Need-shared-slice-read-put-byte Inv-loop μ-loop
-shared-slice-read-put-byte c = omega arith
+-- ---- places on the way to a place
+abbrev at-turn : tie.After-put-byte Inv-loop μ-loop → tie.In-loop Inv-loop μ-loop
+at-turn c = c .before .before .before
 
-put-byte-requires : tie.Need-put-byte-requires Inv-loop μ-loop
-put-byte-requires c κs = search needs
-
-add-i : tie.Need-add-i Inv-loop μ-loop
-add-i c = omega arith
-
-loop-less : tie.Need-loop-less Inv-loop μ-loop
-loop-less c = omega arith
+abbrev at-start : tie.At-loop Inv-loop μ-loop → tie.Start Inv-loop μ-loop
+at-start c = c .before .before .before
 
 loop-again : tie.Need-loop-again Inv-loop μ-loop
-loop-again c = (omega arith, put-more (page (c .before .before .before .before .before .before .before .before .before .args .out .now) (c .before .before .before .before .before .before .before .before .before .args .at)) _ _ (c .before .before .before .before .before .before .before .before .before .args .bytes .now) (c .before .before .before .before .before .before .loop .i) (omega arith) (c .before .before .before .before .before .before .loop .inv .1) (c .before .before .put-byte .ensures))
+loop-again c =
+    let b = c .before .before in
+    let p = at-turn b .before in (
+      omega arith,
+      put-more (at-start p .args .bytes .now) (p .loop .i) (omega arith) (wrote (p .loop .inv .1)) (wrote (b .put-byte .ensures)) .is,
+    )
 
 same-length : tie.Need-same-length Inv-loop μ-loop
-same-length c = puts-same _ _ _ _ _ (c .before .loop .inv .1)
+same-length c = wrote-length (wrote (c .before .loop .inv .1))
 
 returns : tie.Need-returns Inv-loop μ-loop
-returns c = c .before .loop .inv .1 ∙ ap (λ (l : List ℕ). puts (page (c .before .before .before .before .args .out .now) (c .before .before .before .before .args .at)) l) (take-all (c .before .loop .i) (c .before .before .before .before .args .bytes .now) (omega arith))
+returns c =
+    let p = c .before in
+    same-text (wrote (p .loop .inv .1)) (take-all (p .loop .i) (at-start p .args .bytes .now) (omega arith)) .is
 
 pub put-bytes-spec : {M : Type 1} → statement M
 put-bytes-spec =
@@ -50,10 +51,7 @@ put-bytes-spec =
     Inv-loop
     μ-loop
     loop-holds
-    shared-slice-read-put-byte
-    put-byte-requires
-    add-i
-    loop-less
+    (λ c. omega arith) (λ c κs. search needs) (λ c. omega arith) (λ c. omega arith)
     loop-again
     same-length
     returns)

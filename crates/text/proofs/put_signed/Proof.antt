@@ -2,61 +2,44 @@
 use Rattle.text.proofs.Signs.{not-below}
 use mathlib.Core.Path.{sym, _∙_}
 use mir.Facts.{toZ-ofZ}
-use Rattle.text.specs.Page.{page}
+use Rattle.text.specs.PageLaws.{wrote}
 use Rattle.text.proofs.Digits.{signed-below, signed-above}
 use borrow.Author.Needs.{needs}
 use Rattle.text.proofs.put_signed.Statement.{statement}
 use Rattle.text.proofs.put_signed.Tie as tie
 
-put-byte-requires : tie.Need-put-byte-requires
-put-byte-requires c κs = search needs
+-- ---- places on the way to a place
+abbrev at-minus : tie.After-below → tie.After-put-byte
+at-minus c = c .before .before .before .before
 
-below-requires : tie.Need-below-requires
-below-requires c κs = search needs
+abbrev at-start : tie.After-put-byte → tie.Start
+at-start c = c .before .before .before .before
 
-cast-put-decimal : tie.Need-cast-put-decimal
-cast-put-decimal c = search needs
-
-add-put-decimal : tie.Need-add-put-decimal
-add-put-decimal c = search needs
-
-put-decimal-requires : tie.Need-put-decimal-requires
-put-decimal-requires c κs = search needs
-
-same-length : tie.Need-same-length
-same-length c = search needs
+abbrev at-start-2 : tie.After-above → tie.Start
+at-start-2 c = c .before .before .before .before
 
 returns : tie.Need-returns
-returns c = signed-below (page (c .before .before .before .before .before .before .before .before .before .before .before .args .out .now) (c .before .before .before .before .before .before .before .before .before .before .before .args .at)) _ _ (c .before .before .before .before .before .before .before .before .before .before .before .args .n) (c .before .before .before .below .result) (sym (toZ-ofZ (c .before .before .before .before .before .before .before .before .before .before .before .fits .n)) ∙ c .before .before .before .below .ensures) (c .before .before .before .before .before .before .before .put-byte .ensures) (c .before .before .put-decimal .ensures)
+returns c =
+    let b = c .before .before .before in
+    let p = at-minus b in
+    signed-below (sym (toZ-ofZ (at-start p .fits .n)) ∙ b .below .ensures) (wrote (p .put-byte .ensures))
+    (wrote (c .before .before .put-decimal .ensures)) .is
 
 above-requires : tie.Need-above-requires
 above-requires c κs = not-below _ (c .before .if1 .left)
 
-cast-put-decimal-2 : tie.Need-cast-put-decimal-2
-cast-put-decimal-2 c = search needs
-
-put-decimal-requires-2 : tie.Need-put-decimal-requires-2
-put-decimal-requires-2 c κs = search needs
-
-same-length-2 : tie.Need-same-length-2
-same-length-2 c = search needs
-
 returns-2 : tie.Need-returns-2
-returns-2 c = signed-above (page (c .before .before .before .before .before .before .before .args .out .now) (c .before .before .before .before .before .before .before .args .at)) _ (c .before .before .before .before .before .before .before .args .n) (c .before .before .before .above .result) (sym (toZ-ofZ (c .before .before .before .before .before .before .before .fits .n)) ∙ c .before .before .before .above .ensures) (c .before .before .put-decimal2 .ensures)
+returns-2 c =
+    let a = c .before .before .before in
+    signed-above (sym (toZ-ofZ (at-start-2 a .fits .n)) ∙ a .above .ensures) (wrote (c .before .before .put-decimal2 .ensures)) .is
 
 pub put-signed-spec : {M : Type 1} → statement M
 put-signed-spec =
     tie.close
     (tie.spec
-    put-byte-requires
-    below-requires
-    cast-put-decimal
-    add-put-decimal
-    put-decimal-requires
-    same-length
+    (λ c κs. search needs) (λ c κs. search needs) (λ c. search needs) (λ c. search needs)
+    (λ c κs. search needs) (λ c. search needs)
     returns
     above-requires
-    cast-put-decimal-2
-    put-decimal-requires-2
-    same-length-2
+    (λ c. search needs) (λ c κs. search needs) (λ c. search needs)
     returns-2)

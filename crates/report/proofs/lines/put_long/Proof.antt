@@ -1,28 +1,21 @@
 -- `report::lines::put_long` meets its contract: the parts of its line, one after another. Assumes nothing.
-use native.Mathlib.Omega.{arith}
-use Rattle.text.specs.PageLaws.{puts-then}
-use Rattle.report.specs.Report.{longWord, longLine}
 use borrow.Author.Needs.{needs}
+use native.Mathlib.Omega.{arith}
+use Rattle.text.specs.PageLaws.{wrote, _then_}
+use Rattle.report.specs.Report.{longWord, longLine}
 use Rattle.report.proofs.lines.put_long.Statement.{statement}
 use Rattle.report.proofs.lines.put_long.Tie as tie
 
-slice-aggregate-put-bytes : tie.Need-slice-aggregate-put-bytes
-slice-aggregate-put-bytes c = omega arith
-
-put-bytes-requires : tie.Need-put-bytes-requires
-put-bytes-requires c κs = search needs
-
-put-byte-requires : tie.Need-put-byte-requires
-put-byte-requires c κs = search needs
-
-same-length : tie.Need-same-length
-same-length c = search needs
+abbrev at-word : tie.After-put-byte → tie.After-put-bytes
+at-word c = c .before .before .before .before
 
 returns : tie.Need-returns
 unfolding longWord longLine
-returns c = puts-then _ _ _ _ _ (c .before .before .before .before .before .before .put-bytes .ensures) (c .before .before .put-byte .ensures)
+returns c =
+    let p = c .before .before in
+    (wrote (at-word p .put-bytes .ensures) then wrote (p .put-byte .ensures)) .is
 
 pub put-long-spec : {M : Type 1} → statement M
 put-long-spec =
     tie.close
-    (tie.spec slice-aggregate-put-bytes put-bytes-requires put-byte-requires same-length returns)
+    (tie.spec (λ c. omega arith) (λ c κs. search needs) (λ c κs. search needs) (λ c. search needs) returns)

@@ -1,49 +1,46 @@
 -- `report::lines::put_nodes` meets its contract: the parts of its line, one after another. Assumes nothing.
-use native.Mathlib.Omega.{arith}
-use Rattle.text.specs.PageLaws.{puts-then}
-use Rattle.report.specs.Report.{nodesWord, nodesLine}
 use borrow.Author.Needs.{needs}
+use native.Mathlib.Omega.{arith}
+use Rattle.text.specs.PageLaws.{wrote, _then_}
+use Rattle.report.specs.Report.{nodesWord, nodesLine}
 use Rattle.report.proofs.lines.put_nodes.Statement.{statement}
 use Rattle.report.proofs.lines.put_nodes.Tie as tie
 
-slice-aggregate-put-bytes : tie.Need-slice-aggregate-put-bytes
-slice-aggregate-put-bytes c = omega arith
+-- places on the way to a place: the word is written, the roots, the upper nodes, the lower ones, the leaves
+abbrev at-word : tie.After-put-number → tie.After-put-bytes
+at-word c = c .before .before .before .before
 
-put-bytes-requires : tie.Need-put-bytes-requires
-put-bytes-requires c κs = search needs
+abbrev at-roots : tie.After-put-number2 → tie.After-put-number
+at-roots c = c .before .before .before .before
 
-put-number-requires : tie.Need-put-number-requires
-put-number-requires c κs = search needs
+abbrev at-upper : tie.After-put-number3 → tie.After-put-number2
+at-upper c = c .before .before .before .before
 
-put-number-requires-2 : tie.Need-put-number-requires-2
-put-number-requires-2 c κs = search needs
+abbrev at-lower : tie.After-put-number4 → tie.After-put-number3
+at-lower c = c .before .before .before .before
 
-put-number-requires-3 : tie.Need-put-number-requires-3
-put-number-requires-3 c κs = search needs
-
-put-number-requires-4 : tie.Need-put-number-requires-4
-put-number-requires-4 c κs = search needs
-
-put-byte-requires : tie.Need-put-byte-requires
-put-byte-requires c κs = search needs
-
-same-length : tie.Need-same-length
-same-length c = search needs
+abbrev at-leaf : tie.After-put-byte → tie.After-put-number4
+at-leaf c = c .before .before .before .before
 
 returns : tie.Need-returns
 unfolding nodesWord nodesLine
-returns c = puts-then _ _ _ _ _ (c .before .before .before .before .before .before .before .before .before .before .before .before .before .before .before .before .before .before .before .before .before .before .put-bytes .ensures) (puts-then _ _ _ _ _ (c .before .before .before .before .before .before .before .before .before .before .before .before .before .before .before .before .before .before .put-number .ensures) (puts-then _ _ _ _ _ (c .before .before .before .before .before .before .before .before .before .before .before .before .before .before .put-number2 .ensures) (puts-then _ _ _ _ _ (c .before .before .before .before .before .before .before .before .before .before .put-number3 .ensures) (puts-then _ _ _ _ _ (c .before .before .before .before .before .before .put-number4 .ensures) (c .before .before .put-byte .ensures)))))
+returns c =
+    let p = c .before .before in
+    let leaf = at-leaf p in
+    let lower = at-lower leaf in
+    let upper = at-upper lower in
+    let roots = at-roots upper in
+    (wrote (at-word roots .put-bytes .ensures)
+    then wrote (roots .put-number .ensures)
+    then wrote (upper .put-number2 .ensures)
+    then wrote (lower .put-number3 .ensures)
+    then wrote (leaf .put-number4 .ensures)
+    then wrote (p .put-byte .ensures)) .is
 
 pub put-nodes-spec : {M : Type 1} → statement M
 put-nodes-spec =
     tie.close
     (tie.spec
-    slice-aggregate-put-bytes
-    put-bytes-requires
-    put-number-requires
-    put-number-requires-2
-    put-number-requires-3
-    put-number-requires-4
-    put-byte-requires
-    same-length
+    (λ c. omega arith) (λ c κs. search needs) (λ c κs. search needs) (λ c κs. search needs)
+    (λ c κs. search needs) (λ c κs. search needs) (λ c κs. search needs) (λ c. search needs)
     returns)

@@ -1,30 +1,32 @@
 -- `report::lines::put_triple` meets its contract: one coordinate after another. Assumes nothing.
-use Rattle.report.proofs.Fields.{put-triple}
 use borrow.Author.Needs.{needs}
+use Rattle.text.specs.PageLaws.{wrote}
+use Rattle.report.specs.Inner.{coordOf}
+use Rattle.report.proofs.Fields.{Fit, put-triple}
 use Rattle.report.proofs.lines.put_triple.Statement.{statement}
 use Rattle.report.proofs.lines.put_triple.Tie as tie
 
-put-coordinate-requires : tie.Need-put-coordinate-requires
-put-coordinate-requires c κs = search needs
+-- ---- places on the way to a place: x is written, and y
+abbrev at-x : tie.After-put-coordinate2 → tie.After-put-coordinate
+at-x c = c .before .before .before .before
 
-put-coordinate-requires-2 : tie.Need-put-coordinate-requires-2
-put-coordinate-requires-2 c κs = search needs
+abbrev at-y : tie.After-put-coordinate3 → tie.After-put-coordinate2
+at-y c = c .before .before .before .before
 
-put-coordinate-requires-3 : tie.Need-put-coordinate-requires-3
-put-coordinate-requires-3 c κs = search needs
-
-same-length : tie.Need-same-length
-same-length c = search needs
+fit : (c : tie.Start) → let a = c .args in Fit (coordOf (a .x) (a .y) (a .z))
+fit c = let f = c .fits in record { x = f .x; y = f .y; z = f .z }
 
 returns : tie.Need-returns
-returns c = put-triple _ _ _ _ (c .before .before .before .before .before .before .before .before .before .before .before .before .before .args .x) (c .before .before .before .before .before .before .before .before .before .before .before .before .before .args .y) (c .before .before .before .before .before .before .before .before .before .before .before .before .before .args .z) (c .before .before .before .before .before .before .before .before .before .before .before .before .before .fits .x) (c .before .before .before .before .before .before .before .before .before .before .before .before .before .fits .y) (c .before .before .before .before .before .before .before .before .before .before .before .before .before .fits .z) (c .before .before .before .before .before .before .before .before .before .before .put-coordinate .ensures) (c .before .before .before .before .before .before .put-coordinate2 .ensures) (c .before .before .put-coordinate3 .ensures)
+returns c =
+    let z = c .before .before in
+    let y = at-y z in
+    let x = at-x y in
+    put-triple (fit (x .before .before .before)) (wrote (x .put-coordinate .ensures)) (wrote (y .put-coordinate2 .ensures))
+    (wrote (z .put-coordinate3 .ensures)) .is
 
 pub put-triple-spec : {M : Type 1} → statement M
 put-triple-spec =
     tie.close
     (tie.spec
-    put-coordinate-requires
-    put-coordinate-requires-2
-    put-coordinate-requires-3
-    same-length
+    (λ c κs. search needs) (λ c κs. search needs) (λ c κs. search needs) (λ c. search needs)
     returns)

@@ -1,5 +1,5 @@
 -- `sparse_grid::faults::entries_fault` meets its contract: the invariant: no entry before i has a fault. Assumes nothing.
-use Prim.Native.Nat.{_-_, _≤_}
+use Prim.Native.Nat.{ℕ, _-_, _≤_}
 use mathlib.Core.Path.{_≡_, sym, ap, _∙_}
 use native.Mathlib.Omega.{arith}
 use lib.ListN.{length, getD}
@@ -15,53 +15,52 @@ use Rattle.sparse_grid.proofs.faults.entries_fault.Statement.{statement
 use Rattle.sparse_grid.proofs.faults.entries_fault.Tie as tie
 
 abbrev Inv-loop : tie.InvT-loop
-Inv-loop links values count i₀ i = (i ≤ length links) × (firstFault i (λ k. entryFault count (getD links k 0) (getD values k +0)) ≡ 0)
+Inv-loop links values count i₀ i =
+    (i ≤ length links) × (firstFault i (λ k. entryFault count (getD links k 0) (getD values k +0)) ≡ 0)
 
 abbrev μ-loop : tie.MeasureT-loop
 μ-loop links values count i₀ i = length links - i
 
+-- places on the way to a place, and the fault of each entry
+abbrev at-start : tie.At-loop Inv-loop μ-loop → tie.Start Inv-loop μ-loop
+at-start c = c .before .before .before
+
+abbrev at-turn : tie.After-entry-fault Inv-loop μ-loop → tie.In-loop Inv-loop μ-loop
+at-turn c = c .before .before .before .before
+
+abbrev fault : tie.At-loop Inv-loop μ-loop → ℕ → ℕ
+fault c k = let a = at-start c .args in entryFault (a .count) (getD (a .links .now) k 0) (getD (a .values .now) k +0)
+
+-- the fault of the entry that was read
+here : (c : tie.After-entry-fault Inv-loop μ-loop)
+    → let p = at-turn c .before in fault p (p .loop .i) ≡ c .entry-fault .result
+here c =
+    let p = at-turn c .before in
+    let a = at-start p .args in
+    sym (c .entry-fault .ensures
+    ∙ ap (faultOf (a .count) (c .before .entry-at .result)) (c .before .before .is-zero .ensures)
+    ∙ slot-entry (a .links .now) (a .values .now) (a .count) (p .loop .i) (c .before .entry-at .ensures)
+    (omega (arith, at-turn c .loop-test .taken, at-start p .pre)))
+
 loop-holds : tie.Need-loop-holds Inv-loop μ-loop
 loop-holds c = (omega arith, firstFault-none _)
 
-mul-is-zero : tie.Need-mul-is-zero Inv-loop μ-loop
-mul-is-zero c = omega arith
-
-shared-slice-read-is-zero : tie.Need-shared-slice-read-is-zero Inv-loop μ-loop
-shared-slice-read-is-zero c = omega arith
-
-is-zero-requires : tie.Need-is-zero-requires Inv-loop μ-loop
-is-zero-requires c κs = search needs
-
-entry-at-requires : tie.Need-entry-at-requires Inv-loop μ-loop
-entry-at-requires c κs = search needs
-
-entry-fault-requires : tie.Need-entry-fault-requires Inv-loop μ-loop
-entry-fault-requires c κs = search needs
+loop-again : tie.Need-loop-again Inv-loop μ-loop
+loop-again c =
+    let p = at-turn (c .before) .before in (
+      omega (arith, at-turn (c .before) .loop-test .taken),
+      firstFault-next (p .loop .i) (fault p) (p .loop .inv .1) (here (c .before) ∙ c .if1 .left),
+    )
 
 returns : tie.Need-returns Inv-loop μ-loop
 returns c =
-    let a = c .before .before .before .before .before .before .before .before .before .args in
-    stops (length (a .links .now)) (c .before .before .before .before .before .before .loop .i) (λ k. entryFault (a .count) (getD (a .links .now) k 0) (getD (a .values .now) k +0)) (c .before .entry-fault .result) (c .before .before .before .before .before .loop-test .taken) (c .before .before .before .before .before .before .loop .inv .1)
-    (sym (c .before .entry-fault .ensures ∙ ap (faultOf (a .count) (c .before .before .entry-at .result)) (c .before .before .before .is-zero .ensures) ∙ slot-entry (a .links .now) (a .values .now) (a .count) (c .before .before .before .before .before .before .loop .i) (c .before .before .entry-at .result) (c .before .before .entry-at .ensures) (omega (arith, c .before .before .before .before .before .loop-test .taken, c .before .before .before .before .before .before .before .before .before .pre)))) (c .if1 .taken)
-
-add-i : tie.Need-add-i Inv-loop μ-loop
-add-i c = omega arith
-
-loop-less : tie.Need-loop-less Inv-loop μ-loop
-loop-less c = omega arith
-
-loop-again : tie.Need-loop-again Inv-loop μ-loop
-loop-again c =
-    let a = c .before .before .before .before .before .before .before .before .before .args in (
-      omega (arith, c .before .before .before .before .before .loop-test .taken),
-      firstFault-next (c .before .before .before .before .before .before .loop .i) (λ k. entryFault (a .count) (getD (a .links .now) k 0) (getD (a .values .now) k +0)) (c .before .before .before .before .before .before .loop .inv .1)
-          (sym (c .before .entry-fault .ensures ∙ ap (faultOf (a .count) (c .before .before .entry-at .result)) (c .before .before .before .is-zero .ensures) ∙ slot-entry (a .links .now) (a .values .now) (a .count) (c .before .before .before .before .before .before .loop .i) (c .before .before .entry-at .result) (c .before .before .entry-at .ensures) (omega (arith, c .before .before .before .before .before .loop-test .taken, c .before .before .before .before .before .before .before .before .before .pre))) ∙ c .if1 .left),
-    )
+    let p = at-turn (c .before) .before in
+    stops _ (p .loop .i) (fault p) (at-turn (c .before) .loop-test .taken) (p .loop .inv .1) (here (c .before)) (c .if1 .taken)
 
 returns-2 : tie.Need-returns-2 Inv-loop μ-loop
 returns-2 c =
-    let a = c .before .before .before .before .args in
-    sym (firstFault-end (length (a .links .now)) (c .before .loop .i) _ (c .before .loop .inv .0) (c .loop-test .left) (c .before .loop .inv .1))
+    let p = c .before in
+    sym (firstFault-end (length (at-start p .args .links .now)) (p .loop .i) (fault p) (p .loop .inv .0) (c .loop-test .left) (p .loop .inv .1))
 
 pub entries-fault-spec : {M : Type 1} → statement M
 entries-fault-spec =
@@ -70,13 +69,9 @@ entries-fault-spec =
     Inv-loop
     μ-loop
     loop-holds
-    mul-is-zero
-    shared-slice-read-is-zero
-    is-zero-requires
-    entry-at-requires
-    entry-fault-requires
+    (λ c. omega arith) (λ c. omega arith) (λ c κs. search needs) (λ c κs. search needs)
+    (λ c κs. search needs)
     returns
-    add-i
-    loop-less
+    (λ c. omega arith) (λ c. omega arith)
     loop-again
     returns-2)

@@ -6,9 +6,6 @@ use Rattle.refusals.specs.Faults.{unless}
 use Rattle.sparse_grid.proofs.faults.negative_fault.Statement.{statement}
 use Rattle.sparse_grid.proofs.faults.negative_fault.Tie as tie
 
-is-density-requires : tie.Need-is-density-requires
-is-density-requires c κs = search needs
-
 returns : tie.Need-returns
 returns c = ap (λ (t : Bool). unless t 15) (sym (c .if1 .taken) ∙ c .before .is-density .ensures)
 
@@ -16,4 +13,4 @@ returns-2 : tie.Need-returns-2
 returns-2 c = ap (λ (t : Bool). unless t 15) (sym (c .if1 .left) ∙ c .before .is-density .ensures)
 
 pub negative-fault-spec : {M : Type 1} → statement M
-negative-fault-spec = tie.close (tie.spec is-density-requires returns returns-2)
+negative-fault-spec = tie.close (tie.spec (λ c κs. search needs) returns returns-2)

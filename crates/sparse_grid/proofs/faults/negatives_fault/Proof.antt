@@ -1,11 +1,10 @@
 -- `sparse_grid::faults::negatives_fault` meets its contract: the invariant: `sound` says whether the values before i pass. Assumes nothing.
 use Prim.Native.Nat.{_-_}
-use mathlib.Core.Path.{_≡_, sym, ap, _∙_}
-use mathlib.Core.Bool.{Bool}
+use mathlib.Core.Path.{sym, ap, _∙_}
+use mathlib.Core.Bool.{Bool, not}
 use mathlib.Core.Logic.{⊎-elim}
 use native.Mathlib.Omega.{arith}
 use lib.ListN.{length}
-use mathlib.Core.Bool.{not}
 use lib.Ieee.{lt}
 use Rattle.float.specs.Zero.{+0}
 use borrow.Author.Needs.{needs}
@@ -21,45 +20,22 @@ abbrev μ-loop : tie.MeasureT-loop
 μ-loop values sound₀ i₀ sound i = length values - i
 
 loop-holds : tie.Need-loop-holds Inv-loop μ-loop
-loop-holds c = begun (c .before .args .values .now) (λ v. not (lt v +0)) 14
-
-mul-is-density : tie.Need-mul-is-density Inv-loop μ-loop
-mul-is-density c = omega arith
-
-shared-slice-read-is-density : tie.Need-shared-slice-read-is-density Inv-loop μ-loop
-shared-slice-read-is-density c = omega arith
-
-is-density-requires : tie.Need-is-density-requires Inv-loop μ-loop
-is-density-requires c κs = search needs
-
-add-i : tie.Need-add-i Inv-loop μ-loop
-add-i c = omega arith
-
-loop-less : tie.Need-loop-less Inv-loop μ-loop
-loop-less c = omega arith
+loop-holds c = begun
 
 loop-again : tie.Need-loop-again Inv-loop μ-loop
 loop-again c =
-    let v = c .before .before .before .before .before .before .args .values .now in
-    let at = c .before .before .before .before .loop in
-    let here = c .before .is-density in
-    let within = c .before .before .before .loop-test .taken in
+    let p = c .before .before .before in
+    let here = c .before .is-density .ensures in
     ⊎-elim
-    (λ w. failed v (λ v. not (lt v +0)) 14 (at .i) (at .sound) (here .result) (here .ensures) within (at .inv) (w .0 .taken) (c .if1 .sound) (w .1))
-    (λ w. passed v (λ v. not (lt v +0)) 14 (at .i) (at .sound) (here .result) (here .ensures) within (at .inv) (w .0 .left) (c .if1 .sound) (w .1))
+    (λ w. failed (p .before .loop .inv) (p .loop-test .taken) here (w .0 .taken) (w .1))
+    (λ w. passed (p .before .loop .inv) (p .loop-test .taken) here (w .0 .left) (w .1))
     (c .if1 .came)
 
 returns : tie.Need-returns Inv-loop μ-loop
-returns c =
-    let v = c .before .before .before .before .args .values .now in
-    let at = c .before .before .loop in
-    ap (λ (s : Bool). unless s 15) (sym (c .if2 .taken)) ∙ ended v (λ v. not (lt v +0)) 14 (at .i) (at .sound) (at .inv) (c .before .loop-test .left)
+returns c = ap (λ (s : Bool). unless s 15) (sym (c .if2 .taken)) ∙ ended (c .before .before .loop .inv) (c .before .loop-test .left)
 
 returns-2 : tie.Need-returns-2 Inv-loop μ-loop
-returns-2 c =
-    let v = c .before .before .before .before .args .values .now in
-    let at = c .before .before .loop in
-    ap (λ (s : Bool). unless s 15) (sym (c .if2 .left)) ∙ ended v (λ v. not (lt v +0)) 14 (at .i) (at .sound) (at .inv) (c .before .loop-test .left)
+returns-2 c = ap (λ (s : Bool). unless s 15) (sym (c .if2 .left)) ∙ ended (c .before .before .loop .inv) (c .before .loop-test .left)
 
 pub negatives-fault-spec : {M : Type 1} → statement M
 negatives-fault-spec =
@@ -68,11 +44,8 @@ negatives-fault-spec =
     Inv-loop
     μ-loop
     loop-holds
-    mul-is-density
-    shared-slice-read-is-density
-    is-density-requires
-    add-i
-    loop-less
+    (λ c. omega arith) (λ c. omega arith) (λ c κs. search needs) (λ c. omega arith)
+    (λ c. omega arith)
     loop-again
     returns
     returns-2)

@@ -9,9 +9,6 @@ returns : tie.Need-returns
 unfolding pairFault
 returns c = simp (ne-eqb _ _ (c .if1 .taken))
 
-mul-if2 : tie.Need-mul-if2
-mul-if2 c = omega arith
-
 returns-2 : tie.Need-returns-2
 unfolding pairFault
 returns-2 c = simp (eq-eqb _ _ (c .before .if1 .left), ne-eqb _ _ (c .if2 .taken))
@@ -22,11 +19,23 @@ returns-3 c = simp (eq-eqb _ _ (c .before .before .if1 .left), eq-eqb _ _ (c .be
 
 returns-4 : tie.Need-returns-4
 unfolding pairFault
-returns-4 c = simp (eq-eqb _ _ (c .before .before .before .if1 .left), eq-eqb _ _ (c .before .before .if2 .left), eq-eqb _ _ (c .before .if3 .left), ne-eqb _ _ (c .if4 .taken))
+returns-4 c =
+    simp (
+      eq-eqb _ _ (c .before .before .before .if1 .left),
+      eq-eqb _ _ (c .before .before .if2 .left),
+      eq-eqb _ _ (c .before .if3 .left),
+      ne-eqb _ _ (c .if4 .taken),
+    )
 
 returns-5 : tie.Need-returns-5
 unfolding pairFault
-returns-5 c = simp (eq-eqb _ _ (c .before .before .before .if1 .left), eq-eqb _ _ (c .before .before .if2 .left), eq-eqb _ _ (c .before .if3 .left), eq-eqb _ _ (c .if4 .left))
+returns-5 c =
+    simp (
+      eq-eqb _ _ (c .before .before .before .if1 .left),
+      eq-eqb _ _ (c .before .before .if2 .left),
+      eq-eqb _ _ (c .before .if3 .left),
+      eq-eqb _ _ (c .if4 .left),
+    )
 
 pub pair-fault-spec : {M : Type 1} → statement M
-pair-fault-spec = tie.close (tie.spec returns mul-if2 returns-2 returns-3 returns-4 returns-5)
+pair-fault-spec = tie.close (tie.spec returns (λ c. omega arith) returns-2 returns-3 returns-4 returns-5)

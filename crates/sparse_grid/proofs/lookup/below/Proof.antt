@@ -1,6 +1,8 @@
 -- `sparse_grid::lookup::below` meets its contract: the entry decides. Assumes nothing.
 use mathlib.Core.Path.{sym, ap, _∙_}
+use lib.Ieee.{Float}
 use borrow.Author.Needs.{needs}
+use Rattle.refusals.specs.Results.{Result}
 use Rattle.sparse_grid.specs.declared.Entry.{Entry}
 use Rattle.sparse_grid.specs.Lookup.{rootEntry}
 use Rattle.sparse_grid.specs.Answers.{valueOnly}
@@ -8,25 +10,29 @@ use Rattle.sparse_grid.specs.Inner.{nodesOf, placed}
 use Rattle.sparse_grid.proofs.lookup.below.Statement.{statement}
 use Rattle.sparse_grid.proofs.lookup.below.Tie as tie
 
-enum-known-entry : tie.Need-enum-known-entry
-enum-known-entry c = search needs
+-- the ways from the two cases to the start
+abbrev at-child : tie.After-entry → tie.Start
+at-child c = c .before .before .before .before .before .before .before
 
-upper-at-requires : tie.Need-upper-at-requires
-upper-at-requires c κs = search needs
+abbrev at-tile : tie.After-entry2 → tie.Start
+at-tile c = c .before .before .before .before .before .before .before
 
-enum-known-entry-2 : tie.Need-enum-known-entry-2
-enum-known-entry-2 c = search needs
+-- what an entry gives
+abbrev gives : tie.Start → Entry → Result Float
+gives c e =
+    let a = c .args in
+    valueOnly (rootEntry (nodesOf (a .upper-links .now) (a .upper-values .now) (a .lower-links .now) (a .lower-values .now) (a .leaf-values .now))
+    (placed (a .place)) e)
 
 returns : tie.Need-returns
 returns c =
-    let a = c .before .before .before .before .before .before .before .before .before .before .args in
-    c .upper-at .ensures ∙ ap (λ (e : Entry). valueOnly (rootEntry (nodesOf (a .upper-links .now) (a .upper-values .now) (a .lower-links .now) (a .lower-values .now) (a .leaf-values .now)) (placed (a .place)) e)) (sym (c .before .before .before .entry .given .1))
+    let p = c .before .before .before in
+    c .upper-at .ensures ∙ ap (gives (at-child p)) (sym (p .entry .given .1))
 
 returns-2 : tie.Need-returns-2
-returns-2 c =
-    let a = c .before .before .before .before .before .before .before .before .args in
-    ap (λ (e : Entry). valueOnly (rootEntry (nodesOf (a .upper-links .now) (a .upper-values .now) (a .lower-links .now) (a .lower-values .now) (a .leaf-values .now)) (placed (a .place)) e)) (sym (c .before .entry2 .given .1))
+returns-2 c = ap (gives (at-tile (c .before))) (sym (c .before .entry2 .given .1))
 
 pub below-spec : {M : Type 1} → statement M
 below-spec =
-    tie.close (tie.spec enum-known-entry upper-at-requires enum-known-entry-2 returns returns-2)
+    tie.close
+    (tie.spec (λ c. search needs) (λ c κs. search needs) (λ c. search needs) returns returns-2)

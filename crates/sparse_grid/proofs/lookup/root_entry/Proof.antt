@@ -3,55 +3,121 @@ use native.Mathlib.Omega.{arith}
 use borrow.Author.Needs.{needs}
 use Prim.Native.Nat.{ℕ, _-_, _≤_}
 use mathlib.Core.Path.{_≡_, sym, ap, _∙_}
+use mathlib.Core.List.{List, []}
+use lib.IntN.{ℤ}
 use lib.ListN.{length}
+use lib.Ieee.{Float}
 use mir.Syntax.{w32}
 use mir.Val.{toZ, ofZ}
+use Rattle.layout.specs.Coordinates.{Coord, blockOf, sameBlock}
 use Rattle.sparse_grid.specs.declared.Root.{Root}
+use Rattle.sparse_grid.specs.Tables.{Grid, gridOf, entryAt}
 use Rattle.sparse_grid.specs.Answers.{at}
-use Rattle.sparse_grid.specs.Inner.{entryFrom}
+use Rattle.sparse_grid.specs.Inner.{rootBlock}
 use Rattle.sparse_grid.specs.Signs.{shifted-on}
-use Rattle.sparse_grid.proofs.Nodes.{hit, miss, none}
+use Rattle.sparse_grid.proofs.Nodes.{entryIn, hit, miss, none}
 use Rattle.sparse_grid.proofs.lookup.root_entry.Statement.{statement}
 use Rattle.sparse_grid.proofs.lookup.root_entry.Tie as tie
 
+-- the grid of these roots: nothing below them counts
+abbrev rootsOf : Float → List ℤ → List ℕ → List Float → Grid
+rootsOf background blocks links values = gridOf background blocks links values [] [] [] [] []
+
 abbrev Inv-loop : tie.InvT-loop
-Inv-loop background blocks links values x y z a b c i₀ i = (i ≤ length links) × (entryFrom background blocks links values (length links - i) i (at (toZ w32 a) (toZ w32 b) (toZ w32 c)) ≡ entryFrom background blocks links values (length links) 0 (at (toZ w32 a) (toZ w32 b) (toZ w32 c)))
+Inv-loop background blocks links values x y z a b c i₀ i =
+    let g = rootsOf background blocks links values in
+    let block = at (toZ w32 a) (toZ w32 b) (toZ w32 c) in
+    (i ≤ length links) × (entryIn g (length links - i) i block ≡ entryIn g (length links) 0 block)
 
 abbrev μ-loop : tie.MeasureT-loop
 μ-loop background blocks links values x y z a b c i₀ i = length links - i
 
-block-of-requires : tie.Need-block-of-requires Inv-loop μ-loop
-block-of-requires c κs = search needs
+-- ---- places on the way to a place
+abbrev at-start : tie.After-block-of3 Inv-loop μ-loop → tie.Start Inv-loop μ-loop
+at-start c = c .before .before .before .before .before
 
-block-of-requires-2 : tie.Need-block-of-requires-2 Inv-loop μ-loop
-block-of-requires-2 c κs = search needs
+abbrev at-turn : tie.After-stands-at Inv-loop μ-loop → tie.In-loop Inv-loop μ-loop
+at-turn c = c .before
 
-block-of-requires-3 : tie.Need-block-of-requires-3 Inv-loop μ-loop
-block-of-requires-3 c κs = search needs
+-- ---- the roots, how many there are, and the block as the code has it
+abbrev grid : tie.After-block-of3 Inv-loop μ-loop → Grid
+grid c = let a = at-start c .args in rootsOf (a .background) (a .blocks .now) (a .links .now) (a .values .now)
 
+abbrev count : tie.After-block-of3 Inv-loop μ-loop → ℕ
+count c = length (at-start c .args .links .now)
+
+abbrev block : tie.After-block-of3 Inv-loop μ-loop → Coord
+block c =
+    at (toZ w32 (ofZ w32 (c .before .before .block-of .result))) (toZ w32 (ofZ w32 (c .before .block-of2 .result)))
+    (toZ w32 (ofZ w32 (c .block-of3 .result)))
+
+abbrev coordinate : tie.After-block-of3 Inv-loop μ-loop → Coord
+coordinate c = let a = at-start c .args in at (a .x) (a .y) (a .z)
+
+-- ---- what is known there: it is the coordinate's block, and the root's block was compared with it
+block-is : (c : tie.After-block-of3 Inv-loop μ-loop) → block c ≡ blockOf (coordinate c)
+block-is c =
+    let f = at-start c .fits in
+    λ t. at (shifted-on (f .x) (c .before .before .block-of .ensures) t) (shifted-on (f .y) (c .before .block-of2 .ensures) t)
+    (shifted-on (f .z) (c .block-of3 .ensures) t)
+
+compared : (c : tie.After-stands-at Inv-loop μ-loop)
+    → let p = at-turn c .before in sameBlock (rootBlock (grid (p .before) .blocks) (p .loop .i)) (block (p .before)) ≡ c .stands-at .result
+compared c = sym (c .stands-at .ensures)
+
+entry-is : (c : tie.After-root-at Inv-loop μ-loop)
+    → let p = at-turn (c .before .before) .before in
+    c .root-at .result .entry ≡ entryAt (grid (p .before) .rootLinks) (grid (p .before) .rootValues) (p .loop .i)
+entry-is c = ap (λ (r : Root). r .entry) (c .root-at .ensures)
+
+-- an entry that is found in the loop is the one that the contract names
+found : (c : tie.At-loop Inv-loop μ-loop)
+    → entryIn (grid (c .before)) (count (c .before) - c .loop .i) (c .loop .i) (block (c .before))
+    ≡ entryIn (grid (c .before)) (count (c .before)) 0 (blockOf (coordinate (c .before)))
+found c = c .loop .inv .1 ∙ ap (entryIn (grid (c .before)) (count (c .before)) 0) (block-is (c .before))
+
+-- ---- the loop and the calls
 loop-holds : tie.Need-loop-holds Inv-loop μ-loop
-loop-holds c = let e : (length (c .before .before .before .before .before .args .links .now)) - 0 ≡ (length (c .before .before .before .before .before .args .links .now)) = omega arith in (omega arith, ap (λ (k : ℕ). entryFrom (c .before .before .before .before .before .args .background) (c .before .before .before .before .before .args .blocks .now) (c .before .before .before .before .before .args .links .now) (c .before .before .before .before .before .args .values .now) k 0 (at (toZ w32 (ofZ w32 (c .before .before .block-of .result))) (toZ w32 (ofZ w32 (c .before .block-of2 .result))) (toZ w32 (ofZ w32 (c .block-of3 .result))))) e)
+loop-holds c =
+    let e : count c - 0 ≡ count c = omega arith in
+    (omega arith, ap (λ (k : ℕ). entryIn (grid c) k 0 (block c)) e)
 
 stands-at-requires : tie.Need-stands-at-requires Inv-loop μ-loop
-stands-at-requires c κs = omega (arith, c .loop-test .taken, c .before .before .before .before .before .before .before .pre .0)
+stands-at-requires c κs = omega (arith, c .loop-test .taken, at-start (c .before .before) .pre .0)
 
 root-at-requires : tie.Need-root-at-requires Inv-loop μ-loop
-root-at-requires c κs = record { block = omega (arith, c .before .before .loop-test .taken, c .before .before .before .before .before .before .before .before .before .pre .0); link = c .before .before .loop-test .taken; value = omega (arith, c .before .before .loop-test .taken, c .before .before .before .before .before .before .before .before .before .pre .1) }
-
-returns : tie.Need-returns Inv-loop μ-loop
-returns c = ap (λ (r : Root). r .entry) (c .root-at .ensures) ∙ sym (hit (c .before .before .before .before .before .before .before .before .before .before .args .background) (c .before .before .before .before .before .before .before .before .before .before .args .blocks .now) (c .before .before .before .before .before .before .before .before .before .before .args .links .now) (c .before .before .before .before .before .before .before .before .before .before .args .values .now) (at (toZ w32 (ofZ w32 (c .before .before .before .before .before .before .before .block-of .result))) (toZ w32 (ofZ w32 (c .before .before .before .before .before .before .block-of2 .result))) (toZ w32 (ofZ w32 (c .before .before .before .before .before .block-of3 .result)))) (length (c .before .before .before .before .before .before .before .before .before .before .args .links .now)) (c .before .before .before .before .loop .i) (c .before .before .before .loop-test .taken) (sym (c .before .before .stands-at .ensures) ∙ c .before .if1 .taken)) ∙ c .before .before .before .before .loop .inv .1 ∙ ap (entryFrom (c .before .before .before .before .before .before .before .before .before .before .args .background) (c .before .before .before .before .before .before .before .before .before .before .args .blocks .now) (c .before .before .before .before .before .before .before .before .before .before .args .links .now) (c .before .before .before .before .before .before .before .before .before .before .args .values .now) (length (c .before .before .before .before .before .before .before .before .before .before .args .links .now)) 0) (λ t. at (shifted-on (c .before .before .before .before .before .before .before .before .before .before .fits .x) (c .before .before .before .before .before .before .before .block-of .ensures) t) (shifted-on (c .before .before .before .before .before .before .before .before .before .before .fits .y) (c .before .before .before .before .before .before .block-of2 .ensures) t) (shifted-on (c .before .before .before .before .before .before .before .before .before .before .fits .z) (c .before .before .before .before .before .block-of3 .ensures) t))
-
-add-i : tie.Need-add-i Inv-loop μ-loop
-add-i c = omega arith
-
-loop-less : tie.Need-loop-less Inv-loop μ-loop
-loop-less c = omega arith
+root-at-requires c κs =
+    let p = at-turn (c .before) in
+    let pre = at-start (p .before .before) .pre in
+    record {
+      block = omega (arith, p .loop-test .taken, pre .0);
+      link = p .loop-test .taken;
+      value = omega (arith, p .loop-test .taken, pre .1);
+    }
 
 loop-again : tie.Need-loop-again Inv-loop μ-loop
-loop-again c = (omega (arith, c .before .before .loop-test .taken), sym (miss (c .before .before .before .before .before .before .before .before .before .args .background) (c .before .before .before .before .before .before .before .before .before .args .blocks .now) (c .before .before .before .before .before .before .before .before .before .args .links .now) (c .before .before .before .before .before .before .before .before .before .args .values .now) (at (toZ w32 (ofZ w32 (c .before .before .before .before .before .before .block-of .result))) (toZ w32 (ofZ w32 (c .before .before .before .before .before .block-of2 .result))) (toZ w32 (ofZ w32 (c .before .before .before .before .block-of3 .result)))) (length (c .before .before .before .before .before .before .before .before .before .args .links .now)) (c .before .before .before .loop .i) (c .before .before .loop-test .taken) (sym (c .before .stands-at .ensures) ∙ c .if1 .left)) ∙ c .before .before .before .loop .inv .1)
+loop-again c =
+    let p = at-turn (c .before) in
+    let q = p .before .before in (
+      omega (arith, p .loop-test .taken),
+      sym (miss (grid q) (block q) (count q) (p .before .loop .i) (p .loop-test .taken) (compared (c .before) ∙ c .if1 .left))
+          ∙ p .before .loop .inv .1,
+    )
+
+-- ---- the ways out: the root whose block it is, and the background
+returns : tie.Need-returns Inv-loop μ-loop
+returns c =
+    let p = at-turn (c .before .before) in
+    let q = p .before .before in
+    entry-is c
+    ∙ sym (hit (grid q) (block q) (count q) (p .before .loop .i) (p .loop-test .taken)
+    (compared (c .before .before) ∙ c .before .if1 .taken))
+    ∙ found (p .before)
 
 returns-2 : tie.Need-returns-2 Inv-loop μ-loop
-returns-2 c = sym (none (c .before .before .before .before .before .before .before .args .background) (c .before .before .before .before .before .before .before .args .blocks .now) (c .before .before .before .before .before .before .before .args .links .now) (c .before .before .before .before .before .before .before .args .values .now) (at (toZ w32 (ofZ w32 (c .before .before .before .before .block-of .result))) (toZ w32 (ofZ w32 (c .before .before .before .block-of2 .result))) (toZ w32 (ofZ w32 (c .before .before .block-of3 .result)))) (length (c .before .before .before .before .before .before .before .args .links .now)) (c .before .loop .i) (c .loop-test .left)) ∙ c .before .loop .inv .1 ∙ ap (entryFrom (c .before .before .before .before .before .before .before .args .background) (c .before .before .before .before .before .before .before .args .blocks .now) (c .before .before .before .before .before .before .before .args .links .now) (c .before .before .before .before .before .before .before .args .values .now) (length (c .before .before .before .before .before .before .before .args .links .now)) 0) (λ t. at (shifted-on (c .before .before .before .before .before .before .before .fits .x) (c .before .before .before .before .block-of .ensures) t) (shifted-on (c .before .before .before .before .before .before .before .fits .y) (c .before .before .before .block-of2 .ensures) t) (shifted-on (c .before .before .before .before .before .before .before .fits .z) (c .before .before .block-of3 .ensures) t))
+returns-2 c =
+    let q = c .before .before in
+    sym (none (grid q) (block q) (count q) (c .before .loop .i) (c .loop-test .left)) ∙ found (c .before)
 
 pub root-entry-spec : {M : Type 1} → statement M
 root-entry-spec =
@@ -59,14 +125,11 @@ root-entry-spec =
     (tie.spec
     Inv-loop
     μ-loop
-    block-of-requires
-    block-of-requires-2
-    block-of-requires-3
+    (λ c κs. search needs) (λ c κs. search needs) (λ c κs. search needs)
     loop-holds
     stands-at-requires
     root-at-requires
     returns
-    add-i
-    loop-less
+    (λ c. omega arith) (λ c. omega arith)
     loop-again
     returns-2)

@@ -1,90 +1,87 @@
 -- `sparse_grid::lookup::upper_at` meets its contract: the slot by remainders is the slot of the coordinate, and its entry decides. Assumes nothing.
 use Prim.Native.Nat.{_+_, _*_}
-use mathlib.Core.Path.{sym, ap, _∙_}
+use mathlib.Core.Path.{_≡_, sym, ap, _∙_}
 use native.Mathlib.Omega.{arith}
+use lib.Ieee.{Float}
 use lib.ListN.{length}
 use borrow.Author.Needs.{needs}
+use Rattle.refusals.specs.Results.{Result}
 use Rattle.sparse_grid.specs.declared.Entry.{Entry}
-use Rattle.sparse_grid.specs.Tables.{entryAt}
-use Rattle.sparse_grid.specs.Lookup.{upperEntry}
+use Rattle.sparse_grid.specs.Tables.{Grid, entryAt}
+use Rattle.sparse_grid.specs.Lookup.{upperEntry, upperAt}
 use Rattle.sparse_grid.specs.Answers.{valueOnly}
 use Rattle.sparse_grid.specs.Inner.{nodesOf, placed}
 use Rattle.sparse_grid.proofs.Nodes.{missing, present, upper-slot, lower-only}
 use Rattle.sparse_grid.proofs.lookup.upper_at.Statement.{statement}
 use Rattle.sparse_grid.proofs.lookup.upper_at.Tie as tie
 
-mul-start : tie.Need-mul-start
-mul-start c = omega arith
+-- ---- places on the way to a place: the node is whole, the entry of its slot, the case of a child
+abbrev at-start : tie.Else1 → tie.Start
+at-start c = c .before .before .before .before .before .before
 
-add-if1 : tie.Need-add-if1
-add-if1 c = omega arith
+abbrev at-missing : tie.Then1 → tie.Start
+at-missing c = c .before .before .before .before .before .before
 
-returns : tie.Need-returns
-returns c = missing (32768 * (c .before .before .before .before .before .before .args .k + 1)) (length (c .before .before .before .before .before .before .args .links .now)) _ (omega (arith, c .if1 .taken))
+abbrev at-whole : tie.After-struct-known3 → tie.Else1
+at-whole c = c .before .before .before
 
-mul-slot : tie.Need-mul-slot
-mul-slot c = omega arith
+abbrev start : tie.After-entry-at → tie.Start
+start c = at-start (at-whole (c .before))
 
-mul-slot-2 : tie.Need-mul-slot-2
-mul-slot-2 c = omega arith
+abbrev at-child : tie.After-lower-at → tie.After-j
+at-child c = c .before .before .before
 
-add-slot : tie.Need-add-slot
-add-slot c = omega arith
+-- ---- the nodes, and what an entry of one gives
+abbrev nodes : tie.Start → Grid
+nodes c =
+    let a = c .args in
+    nodesOf (a .links .now) (a .values .now) (a .lower-links .now) (a .lower-values .now) (a .leaf-values .now)
 
-add-slot-2 : tie.Need-add-slot-2
-add-slot-2 c = omega arith
+abbrev gives : tie.Start → Entry → Result Float
+gives c e = valueOnly (upperEntry (nodes c) (placed (c .args .place)) e)
 
-cast-slot : tie.Need-cast-slot
-cast-slot c = omega arith
-
-add-entry-at : tie.Need-add-entry-at
-add-entry-at c = omega arith
+-- what the entry of the slot gives is the answer
+read : (c : tie.After-entry-at)
+    → gives (start c) (c .entry-at .result) ≡ valueOnly (upperAt (nodes (start c)) (start c .args .k) (placed (start c .args .place)))
+read c =
+    let a = start c .args in
+    let p = a .place in
+    ap (gives (start c)) (c .entry-at .ensures ∙ ap (entryAt (a .links .now) (a .values .now)) (upper-slot (a .k) (p .x) (p .y) (p .z)))
+    ∙ present (32768 * (a .k + 1)) (length (a .links .now)) _ (omega (arith, at-whole (c .before) .if1 .left))
 
 entry-at-requires : tie.Need-entry-at-requires
-entry-at-requires c κs = (omega (arith, c .before .before .before .if1 .left), omega (arith, c .before .before .before .if1 .left, c .before .before .before .before .before .before .before .before .before .pre))
+entry-at-requires c κs =
+    let p = at-whole c in
+    (omega (arith, p .if1 .left), omega (arith, p .if1 .left, at-start p .pre))
 
-enum-known-j : tie.Need-enum-known-j
-enum-known-j c = search needs
-
-lower-at-requires : tie.Need-lower-at-requires
-lower-at-requires c κs = search needs
-
-enum-known-v : tie.Need-enum-known-v
-enum-known-v c = search needs
+-- ---- the ways out: no whole node, a child, a tile
+returns : tie.Need-returns
+returns c =
+    let a = at-missing c .args in
+    missing (32768 * (a .k + 1)) (length (a .links .now)) _ (omega (arith, c .if1 .taken))
 
 returns-2 : tie.Need-returns-2
 returns-2 c =
-    let a = c .before .before .before .before .before .before .before .before .before .before .before .before .before .before .before .args in
-    let p = a .place in
-    let g = nodesOf (a .links .now) (a .values .now) (a .lower-links .now) (a .lower-values .now) (a .leaf-values .now) in
-    let here = sym (c .before .before .before .j .given .1) ∙ c .before .before .before .before .before .entry-at .ensures ∙ ap (entryAt (a .links .now) (a .values .now)) (upper-slot (a .k) (p .x) (p .y) (p .z)) in
-    c .lower-at .ensures ∙ ap valueOnly (lower-only g (c .before .before .before .j .given .0 .0) (placed p)) ∙ ap (λ (e : Entry). valueOnly (upperEntry g (placed p) e)) here
-    ∙ present (32768 * (a .k + 1)) (length (a .links .now)) _ (omega (arith, c .before .before .before .before .before .before .before .before .before .if1 .left))
+    let p = at-child c in
+    c .lower-at .ensures
+    ∙ ap valueOnly (lower-only (nodes (start (p .before .before))) (p .j .given .0 .0) (placed (start (p .before .before) .args .place)))
+    ∙ ap (gives (start (p .before .before))) (sym (p .j .given .1))
+    ∙ read (p .before .before)
 
 returns-3 : tie.Need-returns-3
 returns-3 c =
-    let a = c .before .before .before .before .before .before .before .before .before .before .before .before .before .args in
-    let p = a .place in
-    let g = nodesOf (a .links .now) (a .values .now) (a .lower-links .now) (a .lower-values .now) (a .leaf-values .now) in
-    let here = sym (c .before .v .given .1) ∙ c .before .before .before .entry-at .ensures ∙ ap (entryAt (a .links .now) (a .values .now)) (upper-slot (a .k) (p .x) (p .y) (p .z)) in
-    ap (λ (e : Entry). valueOnly (upperEntry g (placed p) e)) here ∙ present (32768 * (a .k + 1)) (length (a .links .now)) _ (omega (arith, c .before .before .before .before .before .before .before .if1 .left))
+    let p = c .before in
+    ap (gives (start (p .before .before))) (sym (p .v .given .1)) ∙ read (p .before .before)
 
 pub upper-at-spec : {M : Type 1} → statement M
 upper-at-spec =
     tie.close
     (tie.spec
-    mul-start
-    add-if1
+    (λ c. omega arith) (λ c. omega arith)
     returns
-    mul-slot
-    mul-slot-2
-    add-slot
-    add-slot-2
-    cast-slot
-    add-entry-at
+    (λ c. omega arith) (λ c. omega arith) (λ c. omega arith) (λ c. omega arith) (λ c. omega arith)
+    (λ c. omega arith)
     entry-at-requires
-    enum-known-j
-    lower-at-requires
-    enum-known-v
+    (λ c. search needs) (λ c κs. search needs) (λ c. search needs)
     returns-2
     returns-3)
