@@ -2,5 +2,5 @@
 pub mod Faults
 pub mod Ways
 pub mod Parts
-pub mod Answers
 pub mod Zeros
+pub mod Answers

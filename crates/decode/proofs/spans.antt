@@ -2,4 +2,3 @@
 pub mod Laws
 pub mod PutLaws
 pub mod ClaimLaws
-pub mod NodeLaws

@@ -54,8 +54,13 @@ fn grid_fault(
     lv: &[f32],
     leaves: &[f32],
 ) -> u32
-    requires { ⌜ (length (now bytes) < 4294967296) × Used (length (now bytes)) x (length (now blocks)) (length (now rl)) (length (now rv)) (length (now ul)) (length (now uv)) (length (now ll)) (length (now lv)) (length (now leaves)) ⌝ }
-    ensures { λ r. ⌜ r ≡ gridFault density (usedIn (now (bytes .entry)) x (now (blocks .entry)) (now (rl .entry)) (now (rv .entry)) (now (ul .entry)) (now (uv .entry)) (now (ll .entry)) (now (lv .entry)) (now (leaves .entry))) ⌝ }
+    requires { ⌜ (length (now bytes) < 4294967296)
+        × Used (length (now bytes)) x (length (now blocks)) (length (now rl)) (length (now rv)) (length (now ul)) (length (now uv))
+        (length (now ll)) (length (now lv)) (length (now leaves)) ⌝ }
+    ensures { λ r.
+        let used = usedIn (now (bytes .entry)) x (now (blocks .entry)) (now (rl .entry)) (now (rv .entry)) (now (ul .entry)) (now (uv .entry))
+        (now (ll .entry)) (now (lv .entry)) (now (leaves .entry)) in
+        ⌜ r ≡ gridFault density used ⌝ }
 {
     let roots = x.roots;
     let nodes = x.nodes;
@@ -109,7 +114,12 @@ pub(crate) fn read_grid(
     work: &mut [u64],
 ) -> TreeRead
     requires { ⌜ Zeroed (tabs (now work) (now ul) (now uv) (now ll) (now lv) (now leaves)) (rootTabs (now blocks) (now rl) (now rv)) ⌝ }
-    ensures { λ r. ⌜ GridOut density (now (bytes .entry)) (tables (now (blocks .entry)) (now (rl .entry)) (now (rv .entry)) (now (ul .entry)) (now (uv .entry)) (now (ll .entry)) (now (lv .entry)) (now (leaves .entry)) (now (work .entry))) (tables (now (blocks .exit)) (now (rl .exit)) (now (rv .exit)) (now (ul .exit)) (now (uv .exit)) (now (ll .exit)) (now (lv .exit)) (now (leaves .exit)) (now (work .exit))) r ⌝ }
+    ensures { λ r.
+        let before = tables (now (blocks .entry)) (now (rl .entry)) (now (rv .entry)) (now (ul .entry)) (now (uv .entry)) (now (ll .entry))
+        (now (lv .entry)) (now (leaves .entry)) (now (work .entry)) in
+        let after = tables (now (blocks .exit)) (now (rl .exit)) (now (rv .exit)) (now (ul .exit)) (now (uv .exit)) (now (ll .exit)) (now (lv .exit))
+        (now (leaves .exit)) (now (work .exit)) in
+        ⌜ GridOut density (now (bytes .entry)) before after r ⌝ }
 {
     let lent = lent_fault(
         blocks.len(),

@@ -85,7 +85,12 @@ pub fn clear(
     leaf_values: &mut [f32],
     work: &mut [u64],
 )
-    ensures { λ _. ⌜ tables (now (blocks .exit)) (now («root_links» .exit)) (now («root_values» .exit)) (now («upper_links» .exit)) (now («upper_values» .exit)) (now («lower_links» .exit)) (now («lower_values» .exit)) (now («leaf_values» .exit)) (now (work .exit)) ≡ zeros (lengths (tables (now (blocks .entry)) (now («root_links» .entry)) (now («root_values» .entry)) (now («upper_links» .entry)) (now («upper_values» .entry)) (now («lower_links» .entry)) (now («lower_values» .entry)) (now («leaf_values» .entry)) (now (work .entry)))) ⌝ }
+    ensures { λ _.
+        let before = tables (now (blocks .entry)) (now («root_links» .entry)) (now («root_values» .entry)) (now («upper_links» .entry))
+        (now («upper_values» .entry)) (now («lower_links» .entry)) (now («lower_values» .entry)) (now («leaf_values» .entry)) (now (work .entry)) in
+        let after = tables (now (blocks .exit)) (now («root_links» .exit)) (now («root_values» .exit)) (now («upper_links» .exit))
+        (now («upper_values» .exit)) (now («lower_links» .exit)) (now («lower_values» .exit)) (now («leaf_values» .exit)) (now (work .exit)) in
+        ⌜ after ≡ zeros (lengths before) ⌝ }
 {
     lent::zero_i32(blocks);
     lent::zero_u32(root_links);
@@ -111,7 +116,12 @@ fn leave(
     leaf_values: &mut [f32],
     work: &mut [u64],
 )
-    ensures { λ _. ⌜ tables (now (blocks .exit)) (now («root_links» .exit)) (now («root_values» .exit)) (now («upper_links» .exit)) (now («upper_values» .exit)) (now («lower_links» .exit)) (now («lower_values» .exit)) (now («leaf_values» .exit)) (now (work .exit)) ≡ leftIn (tables (now (blocks .entry)) (now («root_links» .entry)) (now («root_values» .entry)) (now («upper_links» .entry)) (now («upper_values» .entry)) (now («lower_links» .entry)) (now («lower_values» .entry)) (now («leaf_values» .entry)) (now (work .entry))) read ⌝ }
+    ensures { λ _.
+        let before = tables (now (blocks .entry)) (now («root_links» .entry)) (now («root_values» .entry)) (now («upper_links» .entry))
+        (now («upper_values» .entry)) (now («lower_links» .entry)) (now («lower_values» .entry)) (now («leaf_values» .entry)) (now (work .entry)) in
+        let after = tables (now (blocks .exit)) (now («root_links» .exit)) (now («root_values» .exit)) (now («upper_links» .exit))
+        (now («upper_values» .exit)) (now («lower_links» .exit)) (now («lower_values» .exit)) (now («leaf_values» .exit)) (now (work .exit)) in
+        ⌜ after ≡ leftIn before read ⌝ }
 {
     match read {
         TreeRead::Read(x) => lent::zero_u64(work),
@@ -143,8 +153,16 @@ fn decode(
     leaf_values: &mut [f32],
     work: &mut [u64],
 ) -> Decoded
-    ensures { λ r. ⌜ answer r ≡ answerOf (decodeInto (decodeOf density) (now (bytes .entry)) (lengths (tables (now (blocks .entry)) (now («root_links» .entry)) (now («root_values» .entry)) (now («upper_links» .entry)) (now («upper_values» .entry)) (now («lower_links» .entry)) (now («lower_values» .entry)) (now («leaf_values» .entry)) (now (work .entry))))) ⌝ }
-    ensures { λ _. ⌜ tables (now (blocks .exit)) (now («root_links» .exit)) (now («root_values» .exit)) (now («upper_links» .exit)) (now («upper_values» .exit)) (now («lower_links» .exit)) (now («lower_values» .exit)) (now («leaf_values» .exit)) (now (work .exit)) ≡ leftOf (lengths (tables (now (blocks .entry)) (now («root_links» .entry)) (now («root_values» .entry)) (now («upper_links» .entry)) (now («upper_values» .entry)) (now («lower_links» .entry)) (now («lower_values» .entry)) (now («leaf_values» .entry)) (now (work .entry)))) (decodeInto (decodeOf density) (now (bytes .entry)) (lengths (tables (now (blocks .entry)) (now («root_links» .entry)) (now («root_values» .entry)) (now («upper_links» .entry)) (now («upper_values» .entry)) (now («lower_links» .entry)) (now («lower_values» .entry)) (now («leaf_values» .entry)) (now (work .entry))))) ⌝ }
+    ensures { λ r.
+        let before = tables (now (blocks .entry)) (now («root_links» .entry)) (now («root_values» .entry)) (now («upper_links» .entry))
+        (now («upper_values» .entry)) (now («lower_links» .entry)) (now («lower_values» .entry)) (now («leaf_values» .entry)) (now (work .entry)) in
+        ⌜ answer r ≡ answerOf (decodeInto (decodeOf density) (now (bytes .entry)) (lengths before)) ⌝ }
+    ensures { λ _.
+        let before = tables (now (blocks .entry)) (now («root_links» .entry)) (now («root_values» .entry)) (now («upper_links» .entry))
+        (now («upper_values» .entry)) (now («lower_links» .entry)) (now («lower_values» .entry)) (now («leaf_values» .entry)) (now (work .entry)) in
+        let after = tables (now (blocks .exit)) (now («root_links» .exit)) (now («root_values» .exit)) (now («upper_links» .exit))
+        (now («upper_values» .exit)) (now («lower_links» .exit)) (now («lower_values» .exit)) (now («leaf_values» .exit)) (now (work .exit)) in
+        ⌜ after ≡ leftOf (lengths before) (decodeInto (decodeOf density) (now (bytes .entry)) (lengths before)) ⌝ }
 {
     clear(
         blocks,
@@ -198,8 +216,16 @@ pub fn decode_scalar_grid(
     leaf_values: &mut [f32],
     work: &mut [u64],
 ) -> Decoded
-    ensures { λ r. ⌜ answer r ≡ answerOf (decodeInto decodeScalar (now (bytes .entry)) (lengths (tables (now (blocks .entry)) (now («root_links» .entry)) (now («root_values» .entry)) (now («upper_links» .entry)) (now («upper_values» .entry)) (now («lower_links» .entry)) (now («lower_values» .entry)) (now («leaf_values» .entry)) (now (work .entry))))) ⌝ }
-    ensures { λ _. ⌜ tables (now (blocks .exit)) (now («root_links» .exit)) (now («root_values» .exit)) (now («upper_links» .exit)) (now («upper_values» .exit)) (now («lower_links» .exit)) (now («lower_values» .exit)) (now («leaf_values» .exit)) (now (work .exit)) ≡ leftOf (lengths (tables (now (blocks .entry)) (now («root_links» .entry)) (now («root_values» .entry)) (now («upper_links» .entry)) (now («upper_values» .entry)) (now («lower_links» .entry)) (now («lower_values» .entry)) (now («leaf_values» .entry)) (now (work .entry)))) (decodeInto decodeScalar (now (bytes .entry)) (lengths (tables (now (blocks .entry)) (now («root_links» .entry)) (now («root_values» .entry)) (now («upper_links» .entry)) (now («upper_values» .entry)) (now («lower_links» .entry)) (now («lower_values» .entry)) (now («leaf_values» .entry)) (now (work .entry))))) ⌝ }
+    ensures { λ r.
+        let before = tables (now (blocks .entry)) (now («root_links» .entry)) (now («root_values» .entry)) (now («upper_links» .entry))
+        (now («upper_values» .entry)) (now («lower_links» .entry)) (now («lower_values» .entry)) (now («leaf_values» .entry)) (now (work .entry)) in
+        ⌜ answer r ≡ answerOf (decodeInto decodeScalar (now (bytes .entry)) (lengths before)) ⌝ }
+    ensures { λ _.
+        let before = tables (now (blocks .entry)) (now («root_links» .entry)) (now («root_values» .entry)) (now («upper_links» .entry))
+        (now («upper_values» .entry)) (now («lower_links» .entry)) (now («lower_values» .entry)) (now («leaf_values» .entry)) (now (work .entry)) in
+        let after = tables (now (blocks .exit)) (now («root_links» .exit)) (now («root_values» .exit)) (now («upper_links» .exit))
+        (now («upper_values» .exit)) (now («lower_links» .exit)) (now («lower_values» .exit)) (now («leaf_values» .exit)) (now (work .exit)) in
+        ⌜ after ≡ leftOf (lengths before) (decodeInto decodeScalar (now (bytes .entry)) (lengths before)) ⌝ }
 {
     decode(
         false,
@@ -230,8 +256,16 @@ pub fn decode_density_grid(
     leaf_values: &mut [f32],
     work: &mut [u64],
 ) -> Decoded
-    ensures { λ r. ⌜ answer r ≡ answerOf (decodeInto decodeDensity (now (bytes .entry)) (lengths (tables (now (blocks .entry)) (now («root_links» .entry)) (now («root_values» .entry)) (now («upper_links» .entry)) (now («upper_values» .entry)) (now («lower_links» .entry)) (now («lower_values» .entry)) (now («leaf_values» .entry)) (now (work .entry))))) ⌝ }
-    ensures { λ _. ⌜ tables (now (blocks .exit)) (now («root_links» .exit)) (now («root_values» .exit)) (now («upper_links» .exit)) (now («upper_values» .exit)) (now («lower_links» .exit)) (now («lower_values» .exit)) (now («leaf_values» .exit)) (now (work .exit)) ≡ leftOf (lengths (tables (now (blocks .entry)) (now («root_links» .entry)) (now («root_values» .entry)) (now («upper_links» .entry)) (now («upper_values» .entry)) (now («lower_links» .entry)) (now («lower_values» .entry)) (now («leaf_values» .entry)) (now (work .entry)))) (decodeInto decodeDensity (now (bytes .entry)) (lengths (tables (now (blocks .entry)) (now («root_links» .entry)) (now («root_values» .entry)) (now («upper_links» .entry)) (now («upper_values» .entry)) (now («lower_links» .entry)) (now («lower_values» .entry)) (now («leaf_values» .entry)) (now (work .entry))))) ⌝ }
+    ensures { λ r.
+        let before = tables (now (blocks .entry)) (now («root_links» .entry)) (now («root_values» .entry)) (now («upper_links» .entry))
+        (now («upper_values» .entry)) (now («lower_links» .entry)) (now («lower_values» .entry)) (now («leaf_values» .entry)) (now (work .entry)) in
+        ⌜ answer r ≡ answerOf (decodeInto decodeDensity (now (bytes .entry)) (lengths before)) ⌝ }
+    ensures { λ _.
+        let before = tables (now (blocks .entry)) (now («root_links» .entry)) (now («root_values» .entry)) (now («upper_links» .entry))
+        (now («upper_values» .entry)) (now («lower_links» .entry)) (now («lower_values» .entry)) (now («leaf_values» .entry)) (now (work .entry)) in
+        let after = tables (now (blocks .exit)) (now («root_links» .exit)) (now («root_values» .exit)) (now («upper_links» .exit))
+        (now («upper_values» .exit)) (now («lower_links» .exit)) (now («lower_values» .exit)) (now («leaf_values» .exit)) (now (work .exit)) in
+        ⌜ after ≡ leftOf (lengths before) (decodeInto decodeDensity (now (bytes .entry)) (lengths before)) ⌝ }
 {
     decode(
         true,

@@ -194,8 +194,12 @@ pub(crate) fn node(
     lv: &mut [f32],
     leaves: &mut [f32],
 ) -> Placed
-    requires { ⌜ (length (now bytes) < 4294967296) × (level < 3) × Fit (length (now bytes)) (tabs (now work) (now ul) (now uv) (now ll) (now lv) (now leaves)) st ⌝ }
-    ensures { λ r. ⌜ NodeOut level (now (bytes .entry)) source (tabs (now (work .entry)) (now (ul .entry)) (now (uv .entry)) (now (ll .entry)) (now (lv .entry)) (now (leaves .entry))) st (tabs (now (work .exit)) (now (ul .exit)) (now (uv .exit)) (now (ll .exit)) (now (lv .exit)) (now (leaves .exit))) r ⌝ }
+    requires { ⌜ (length (now bytes) < 4294967296) × (level < 3)
+        × Fit (length (now bytes)) (tabs (now work) (now ul) (now uv) (now ll) (now lv) (now leaves)) st ⌝ }
+    ensures { λ r.
+        let before = tabs (now (work .entry)) (now (ul .entry)) (now (uv .entry)) (now (ll .entry)) (now (lv .entry)) (now (leaves .entry)) in
+        let after = tabs (now (work .exit)) (now (ul .exit)) (now (uv .exit)) (now (ll .exit)) (now (lv .exit)) (now (leaves .exit)) in
+        ⌜ NodeOut level (now (bytes .entry)) source before st after r ⌝ }
 {
     let k = count_of(level, st);
     let spans = st.spans;
@@ -261,8 +265,13 @@ fn slot(
     lv: &mut [f32],
     leaves: &mut [f32],
 ) -> Step
-    requires { ⌜ (length (now bytes) < 4294967296) × (source < 4294967296) × (0 < level) × (level < 3) × (i < entriesOf level) × (base + entriesOf level ≤ roomIn level (length (now ul)) (length (now ll))) × Fit (length (now bytes)) (tabs (now work) (now ul) (now uv) (now ll) (now lv) (now leaves)) st ⌝ }
-    ensures { λ r. ⌜ SlotOut level (now (bytes .entry)) source base i (tabs (now (work .entry)) (now (ul .entry)) (now (uv .entry)) (now (ll .entry)) (now (lv .entry)) (now (leaves .entry))) st (tabs (now (work .exit)) (now (ul .exit)) (now (uv .exit)) (now (ll .exit)) (now (lv .exit)) (now (leaves .exit))) r ⌝ }
+    requires { ⌜ (length (now bytes) < 4294967296) × (source < 4294967296) × (0 < level) × (level < 3) × (i < entriesOf level)
+        × (base + entriesOf level ≤ roomIn level (length (now ul)) (length (now ll)))
+        × Fit (length (now bytes)) (tabs (now work) (now ul) (now uv) (now ll) (now lv) (now leaves)) st ⌝ }
+    ensures { λ r.
+        let before = tabs (now (work .entry)) (now (ul .entry)) (now (uv .entry)) (now (ll .entry)) (now (lv .entry)) (now (leaves .entry)) in
+        let after = tabs (now (work .exit)) (now (ul .exit)) (now (uv .exit)) (now (ll .exit)) (now (lv .exit)) (now (leaves .exit)) in
+        ⌜ SlotOut level (now (bytes .entry)) source base i before st after r ⌝ }
 {
     let at = slot_at(source, level, i);
     if layout::mask_bit(bytes, mask_at(source, level), i) == 0 {

@@ -1,4 +1,4 @@
-//  The spans that a decoder has claimed, in lent words: four to a span. A node is found, and an overlap refused, by chains.
+// The spans that a decoder has claimed, in lent words: four to a span. A node is found, and an overlap refused, by chains.
 ghost use mathlib.Core.Path.{_≡_};
 ghost use mathlib.Core.Bool.{true, false, _&&_};
 ghost use mathlib.Core.List.{List, [], _∷_, _++_};
@@ -6,7 +6,8 @@ ghost use Prim.Native.Nat.{ℕ, _+_, _-_, _*_, _/_, _%_, _<_, _≤_, _^_};
 ghost use lib.ListN.{length, getD};
 ghost use lib.Dec.{ltb, eqb};
 ghost use Rattle.nanovdb.specs.Spans.{overlaps, seen};
-ghost use Rattle.decode.specs.Inner.WorkTable.{size, spans, nodes, headerSpan, rootSpan, chainIn, Rep, MetIn, MetAt, FoundIn, seenOf, Small, putS, Pushed, ClaimOut, RootOut, EnterOut};
+ghost use Rattle.decode.specs.Inner.WorkTable.{size, spans, nodes, headerSpan, rootSpan, chainIn, Rep, MetIn, MetAt, FoundIn, seenOf};
+ghost use Rattle.decode.specs.Inner.WorkTable.{Small, putS, Pushed, ClaimOut, RootOut, EnterOut};
 
 pub enum Found {
     At(u32),
@@ -60,7 +61,7 @@ fn hit(a: u64, word: u64, start: u64, level: u64) -> bool
     if a == start { word % 4 == level } else { false }
 }
 
-// Whether the headerSpan or the root is met.
+// Whether the header or the root is met.
 fn fixed(root: u64, limit: u64, start: u64, end: u64) -> bool
     requires { ⌜ start < end ⌝ }
     ensures { λ r. ⌜ r ≡ overlaps (headerSpan ∷ (rootSpan root limit ∷ [])) start end ⌝ }
@@ -189,7 +190,9 @@ fn put(work: &mut [u64], h: usize, count: usize, start: u64, word: u64)
 
 // Claims a node, which no span overlaps.
 pub(crate) fn push(work: &mut [u64], st: Spans, start: u64, level: u64, number: u32) -> Spans
-    requires { ⌜ (Rep (now work) (st .count) × (st .count * 4 + 12 ≤ length (now work))) × ((level < 3) × (number < 4294967295) × (overlaps (spans (now work) (st .count) (st .root) (st .limit)) start (start + size level) ≡ false)) ⌝ }
+    requires { ⌜ (Rep (now work) (st .count) × (st .count * 4 + 12 ≤ length (now work)))
+        × ((level < 3) × (number < 4294967295)
+        × (overlaps (spans (now work) (st .count) (st .root) (st .limit)) start (start + size level) ≡ false)) ⌝ }
     ensures { λ r. ⌜ Pushed (now (work .entry)) (now (work .exit)) st r start level number ⌝ }
 {
     let n = work.len() / 4;
@@ -246,7 +249,7 @@ pub(crate) fn clear(work: &mut [u64])
     }
 }
 
-// Claims the root, from root to limit, behind the headerSpan's span, and empties the chains.
+// Claims the root, from root to limit, behind the header's span, and empties the chains.
 pub(crate) fn begin(len: u64, work: &mut [u64], root: u64, limit: u64) -> Claimed
     requires { ⌜ root < limit ⌝ }
     ensures { λ r. ⌜ RootOut len (now (work .entry)) (now (work .exit)) r root limit ⌝ }

@@ -49,7 +49,10 @@ fn put_root(
     value: f32,
 )
     requires { ⌜ (3 * i + 3 ≤ length (now blocks)) × (i < length (now rl)) × (i < length (now rv)) ⌝ }
-    ensures { λ r. ⌜ RootPut i key link value (rootTabs (now (blocks .entry)) (now (rl .entry)) (now (rv .entry))) (rootTabs (now (blocks .exit)) (now (rl .exit)) (now (rv .exit))) ⌝ }
+    ensures { λ r.
+        let before = rootTabs (now (blocks .entry)) (now (rl .entry)) (now (rv .entry)) in
+        let after = rootTabs (now (blocks .exit)) (now (rl .exit)) (now (rv .exit)) in
+        ⌜ RootPut i key link value before after ⌝ }
 {
     blocks[3 * i] = key_field(key / 4398046511104 % 1048576);
     blocks[3 * i + 1] = key_field(key / 2097152 % 1048576);
@@ -74,8 +77,15 @@ fn tile(
     lv: &mut [f32],
     leaves: &mut [f32],
 ) -> Step
-    requires { ⌜ (length (now bytes) < 4294967296) × (root < 4294967296) × (i < 4294967296) × (3 * i + 3 ≤ length (now blocks)) × (i < length (now rl)) × (length (now rv) ≡ length (now rl)) × Fit (length (now bytes)) (tabs (now work) (now ul) (now uv) (now ll) (now lv) (now leaves)) st ⌝ }
-    ensures { λ r. ⌜ TileOut (now (bytes .entry)) root i (tabs (now (work .entry)) (now (ul .entry)) (now (uv .entry)) (now (ll .entry)) (now (lv .entry)) (now (leaves .entry))) (rootTabs (now (blocks .entry)) (now (rl .entry)) (now (rv .entry))) st (tabs (now (work .exit)) (now (ul .exit)) (now (uv .exit)) (now (ll .exit)) (now (lv .exit)) (now (leaves .exit))) (rootTabs (now (blocks .exit)) (now (rl .exit)) (now (rv .exit))) r ⌝ }
+    requires { ⌜ (length (now bytes) < 4294967296) × (root < 4294967296) × (i < 4294967296) × (3 * i + 3 ≤ length (now blocks))
+        × (i < length (now rl)) × (length (now rv) ≡ length (now rl))
+        × Fit (length (now bytes)) (tabs (now work) (now ul) (now uv) (now ll) (now lv) (now leaves)) st ⌝ }
+    ensures { λ r.
+        let before = tabs (now (work .entry)) (now (ul .entry)) (now (uv .entry)) (now (ll .entry)) (now (lv .entry)) (now (leaves .entry)) in
+        let roots = rootTabs (now (blocks .entry)) (now (rl .entry)) (now (rv .entry)) in
+        let after = tabs (now (work .exit)) (now (ul .exit)) (now (uv .exit)) (now (ll .exit)) (now (lv .exit)) (now (leaves .exit)) in
+        let left = rootTabs (now (blocks .exit)) (now (rl .exit)) (now (rv .exit)) in
+        ⌜ TileOut (now (bytes .entry)) root i before roots st after left r ⌝ }
 {
     let at = root + 64 + 32 * i;
     let key = layout::u64_at(bytes, at);
@@ -115,8 +125,15 @@ pub(crate) fn tiles(
     lv: &mut [f32],
     leaves: &mut [f32],
 ) -> Step
-    requires { ⌜ (length (now bytes) < 4294967296) × (root < 4294967296) × (count < 4294967296) × (length (now blocks) ≡ 3 * length (now rl)) × (count ≤ length (now rl)) × (length (now rv) ≡ length (now rl)) × Fit (length (now bytes)) (tabs (now work) (now ul) (now uv) (now ll) (now lv) (now leaves)) st ⌝ }
-    ensures { λ r. ⌜ TilesOut (now (bytes .entry)) root count (tabs (now (work .entry)) (now (ul .entry)) (now (uv .entry)) (now (ll .entry)) (now (lv .entry)) (now (leaves .entry))) (rootTabs (now (blocks .entry)) (now (rl .entry)) (now (rv .entry))) st (tabs (now (work .exit)) (now (ul .exit)) (now (uv .exit)) (now (ll .exit)) (now (lv .exit)) (now (leaves .exit))) (rootTabs (now (blocks .exit)) (now (rl .exit)) (now (rv .exit))) r ⌝ }
+    requires { ⌜ (length (now bytes) < 4294967296) × (root < 4294967296) × (count < 4294967296)
+        × (length (now blocks) ≡ 3 * length (now rl)) × (count ≤ length (now rl)) × (length (now rv) ≡ length (now rl))
+        × Fit (length (now bytes)) (tabs (now work) (now ul) (now uv) (now ll) (now lv) (now leaves)) st ⌝ }
+    ensures { λ r.
+        let before = tabs (now (work .entry)) (now (ul .entry)) (now (uv .entry)) (now (ll .entry)) (now (lv .entry)) (now (leaves .entry)) in
+        let roots = rootTabs (now (blocks .entry)) (now (rl .entry)) (now (rv .entry)) in
+        let after = tabs (now (work .exit)) (now (ul .exit)) (now (uv .exit)) (now (ll .exit)) (now (lv .exit)) (now (leaves .exit)) in
+        let left = rootTabs (now (blocks .exit)) (now (rl .exit)) (now (rv .exit)) in
+        ⌜ TilesOut (now (bytes .entry)) root count before roots st after left r ⌝ }
 {
     let mut now = st;
     let mut i: usize = 0;

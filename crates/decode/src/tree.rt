@@ -29,7 +29,9 @@ pub enum TreeRead {
 
 // The counts in the bytes are those of the nodes that were reached.
 fn counts_pass(bytes: &[u8], st: State) -> bool
-    ensures { λ r. ⌜ r ≡ (eqb (st .leaves) (u32At (now (bytes .entry)) 704) && eqb (st .lowers) (u32At (now (bytes .entry)) 708) && eqb (st .uppers) (u32At (now (bytes .entry)) 712)) ⌝ }
+    ensures { λ r.
+        let b = now (bytes .entry) in
+        ⌜ r ≡ (eqb (st .leaves) (u32At b 704) && eqb (st .lowers) (u32At b 708) && eqb (st .uppers) (u32At b 712)) ⌝ }
 {
     let leaves = layout::u32_at(bytes, 704) as usize;
     let lowers = layout::u32_at(bytes, 708) as usize;
@@ -52,8 +54,14 @@ pub(crate) fn read_tree(
     lv: &mut [f32],
     leaves: &mut [f32],
 ) -> TreeRead
-    requires { ⌜ (length (now bytes) < 4294967296) × (length (now blocks) ≡ 3 * length (now rl)) × (length (now rv) ≡ length (now rl)) × (length (now uv) ≡ length (now ul)) × (length (now lv) ≡ length (now ll)) ⌝ }
-    ensures { λ r. ⌜ TreeOut (now (bytes .entry)) (tabs (now (work .entry)) (now (ul .entry)) (now (uv .entry)) (now (ll .entry)) (now (lv .entry)) (now (leaves .entry))) (rootTabs (now (blocks .entry)) (now (rl .entry)) (now (rv .entry))) (tabs (now (work .exit)) (now (ul .exit)) (now (uv .exit)) (now (ll .exit)) (now (lv .exit)) (now (leaves .exit))) (rootTabs (now (blocks .exit)) (now (rl .exit)) (now (rv .exit))) r ⌝ }
+    requires { ⌜ (length (now bytes) < 4294967296) × (length (now blocks) ≡ 3 * length (now rl)) × (length (now rv) ≡ length (now rl))
+        × (length (now uv) ≡ length (now ul)) × (length (now lv) ≡ length (now ll)) ⌝ }
+    ensures { λ r.
+        let before = tabs (now (work .entry)) (now (ul .entry)) (now (uv .entry)) (now (ll .entry)) (now (lv .entry)) (now (leaves .entry)) in
+        let roots = rootTabs (now (blocks .entry)) (now (rl .entry)) (now (rv .entry)) in
+        let after = tabs (now (work .exit)) (now (ul .exit)) (now (uv .exit)) (now (ll .exit)) (now (lv .exit)) (now (leaves .exit)) in
+        let left = rootTabs (now (blocks .exit)) (now (rl .exit)) (now (rv .exit)) in
+        ⌜ TreeOut (now (bytes .entry)) before roots after left r ⌝ }
 {
     let n = bytes.len();
     if n < 736 {

@@ -48,9 +48,14 @@ unfolding decodeDensity sample le signed narrow validate densityFault boundsFaul
 accepted = refl
 
 -- the walk reads 0.5 in the block (-1, 0, 0) and the background in every other
-reads : (c : Coord) → Signed32 c → walk sample c ≡ cond (sameBlock (record { x = negsuc 0; y = pos 0; z = pos 0 }) (blockOf c)) (record { bits = 0x3f000000; level = ofRoot }) (record { bits = 0; level = ofBackground })
+reads : (c : Coord) → Signed32 c
+    → walk sample c ≡ cond (sameBlock (record { x = negsuc 0; y = pos 0; z = pos 0 }) (blockOf c))
+    (record { bits = 0x3f000000; level = ofRoot }) (record { bits = 0; level = ofBackground })
 unfolding signed
-reads c s = sample-walk c ∙ ap (λ (t : Bool). cond t (record { bits = 0x3f000000; level = ofRoot }) (record { bits = 0; level = ofBackground })) (key-same 0x3ffffc0000000000 c tt s)
+reads c s =
+    sample-walk c
+    ∙ ap (λ (t : Bool). cond t (record { bits = 0x3f000000; level = ofRoot }) (record { bits = 0; level = ofBackground }))
+    (key-same 0x3ffffc0000000000 c tt s)
 
 -- bit 62 alone in the tile's key
 pub bit-62-refused : numberOf (decodeDensity (sampleWith (field 800 8 (2 ^ 62) ∷ [])) places) ≡ 7

@@ -44,7 +44,8 @@ pub seen-new : (ss : List Span) (s : Span) (source level : ℕ) {k : ℕ} → se
 unfolding seen
 seen-new [] s source level {k} e = go (eqb (s .start) source) (eqb (s .level) level) (eqb→eq (s .start) source) (eqb→eq (s .level) level) e
   where
-    go : (x y : Bool) → (T x → s .start ≡ source) → (T y → s .level ≡ level) → cond (x && y) (at (s .number)) nowhere ≡ at k → (nowhere ≡ at k) ⊎ ((s .start ≡ source) × (s .level ≡ level) × (s .number ≡ k))
+    go : (x y : Bool) → (T x → s .start ≡ source) → (T y → s .level ≡ level) → cond (x && y) (at (s .number)) nowhere ≡ at k
+        → (nowhere ≡ at k) ⊎ ((s .start ≡ source) × (s .level ≡ level) × (s .number ≡ k))
     go true true p q e = inr (p tt, q tt, at-injective e)
     go true false p q e = inl e
     go false y p q e = inl e
@@ -65,7 +66,8 @@ seen-other [] s source level h = go (eqb (s .start) source) (eqb (s .level) leve
     go true true k = absurd (k tt)
     go true false k = refl
     go false y k = refl
-seen-other (r ∷ ss) s source level h = ap (λ (z : Seen). cond (eqb (r .start) source && eqb (r .level) level) (at (r .number)) z) (seen-other ss s source level h)
+seen-other (r ∷ ss) s source level h =
+    ap (λ (z : Seen). cond (eqb (r .start) source && eqb (r .level) level) (at (r .number)) z) (seen-other ss s source level h)
 
 -- ---- a node of the bytes, in the tables
 
@@ -90,7 +92,8 @@ good-map f false bits target (Child j) g = f target j g
 -- slot i of the node at source
 abbrev pub SlotGood : (ℕ → ℕ → Type 0) → List ℕ → ℕ → ℕ → ℕ → Entry → Type 0
 SlotGood child b level source i e =
-    Good child (eqb (maskBit b (source + maskOf level) i) 0) (u32At b (source + tableOf level + 8 * i)) (shift source (i64At b (source + tableOf level + 8 * i))) e
+    Good child (eqb (maskBit b (source + maskOf level) i) 0) (u32At b (source + tableOf level + 8 * i))
+    (shift source (i64At b (source + tableOf level + 8 * i))) e
 
 -- node number k of the table is the one at source
 pub record Node (child : ℕ → ℕ → Type 0) (b : List ℕ) (level : ℕ) (table : List Entry) (source k : ℕ) : Type 0 where
@@ -107,12 +110,16 @@ leaf-grown {l = l} p s k r = record {
 pub in-node : (n k i t : ℕ) → n * (k + 1) ≤ t → i < n → n * k + i < t
 in-node n k i t h l = omega (arith, native.Mathlib.Nat.mul-add n k 1, native.Mathlib.Nat.mul-one n)
 
-pub node-grown : {P Q : ℕ → ℕ → Type 0} {b : List ℕ} {level : ℕ} {l m : List Entry} → ((s k : ℕ) → P s k → Q s k) → Prefix l m → (s k : ℕ) → Node P b level l s k → Node Q b level m s k
+pub node-grown : {P Q : ℕ → ℕ → Type 0} {b : List ℕ} {level : ℕ} {l m : List Entry} → ((s k : ℕ) → P s k → Q s k) → Prefix l m → (s k : ℕ)
+    → Node P b level l s k → Node Q b level m s k
 node-grown {P} {Q} {b} {level} {l} {m} f p s k r = record {
   fits = le-trans (r .fits) (prefix-length p);
   each = λ (i : ℕ) (h : i < entriesOf level).
-      let e : getD m (entriesOf level * k + i) (Tile +0) ≡ getD l (entriesOf level * k + i) (Tile +0) = prefix-at p (entriesOf level * k + i) (Tile +0) (in-node (entriesOf level) k i (length l) (r .fits) h) in
-      subst (λ (z : Entry). SlotGood Q b level s i z) (sym e) (good-map f (eqb (maskBit b (s + maskOf level) i) 0) (u32At b (s + tableOf level + 8 * i)) (shift s (i64At b (s + tableOf level + 8 * i))) (getD l (entriesOf level * k + i) (Tile +0)) (r .each i h));
+      let e : getD m (entriesOf level * k + i) (Tile +0) ≡ getD l (entriesOf level * k + i) (Tile +0) = prefix-at p (entriesOf level * k + i)
+      (Tile +0) (in-node (entriesOf level) k i (length l) (r .fits) h) in
+      subst (λ (z : Entry). SlotGood Q b level s i z) (sym e)
+      (good-map f (eqb (maskBit b (s + maskOf level) i) 0) (u32At b (s + tableOf level + 8 * i)) (shift s (i64At b (s + tableOf level + 8 * i)))
+      (getD l (entriesOf level * k + i) (Tile +0)) (r .each i h));
 }
 
 -- the node whose entries are put behind those of k whole ones
@@ -121,7 +128,8 @@ pub node-new : {P : ℕ → ℕ → Type 0} {b : List ℕ} {level : ℕ} (l es :
 node-new {P} {b} {level} l es s k hl he g = record {
   fits = whole (entriesOf level) (length (l ++ es)) (length l) (length es) k (length-append l es) hl he;
   each = λ (i : ℕ) (h : i < entriesOf level).
-      subst (λ (z : Entry). SlotGood P b level s i z) (sym (subst (λ (n : ℕ). getD (l ++ es) (n + i) (Tile +0) ≡ getD es i (Tile +0)) hl (getD-append-add l es i (Tile +0)))) (g i h);
+      subst (λ (z : Entry). SlotGood P b level s i z)
+      (sym (subst (λ (n : ℕ). getD (l ++ es) (n + i) (Tile +0) ≡ getD es i (Tile +0)) hl (getD-append-add l es i (Tile +0)))) (g i h);
 }
   where
     whole : (n t x y k : ℕ) → t ≡ x + y → x ≡ n * k → y ≡ n → n * (k + 1) ≤ t
@@ -132,7 +140,8 @@ node-new {P} {b} {level} l es s k hl he g = record {
 pub leafValues-length : (b : List ℕ) (source n : ℕ) → length (leafValues b source n) ≡ n
 unfolding leafValues
 leafValues-length b source zero = refl
-leafValues-length b source (suc n) = omega (arith, leafValues-length b source n, length-append (leafValues b source n) (ofBits binary32 (u32At b (source + 96 + 4 * n)) ∷ []))
+leafValues-length b source (suc n) =
+    omega (arith, leafValues-length b source n, length-append (leafValues b source n) (ofBits binary32 (u32At b (source + 96 + 4 * n)) ∷ []))
 
 leafValues-at : (b : List ℕ) (source n i : ℕ) → i < n → getD (leafValues b source n) i +0 ≡ ofBits binary32 (u32At b (source + 96 + 4 * i))
 unfolding leafValues
@@ -151,7 +160,10 @@ leaf-length b source = leafValues-length b source 512
 pub leaf-new : (b : List ℕ) (l : List Float) (s k : ℕ) → length l ≡ 512 * k → Leaf b (l ++ leafValues b s 512) s k
 leaf-new b l s k h = record {
   fits = omega (arith, length-append l (leafValues b s 512), leaf-length b s);
-  each = λ (i : ℕ) (u : i < 512). subst (λ (n : ℕ). getD (l ++ leafValues b s 512) (n + i) +0 ≡ getD (leafValues b s 512) i +0) h (getD-append-add l (leafValues b s 512) i +0) ∙ leafValues-at b s 512 i u;
+  each =
+      λ (i : ℕ) (u : i < 512). subst (λ (n : ℕ). getD (l ++ leafValues b s 512) (n + i) +0 ≡ getD (leafValues b s 512) i +0) h
+      (getD-append-add l (leafValues b s 512) i +0)
+      ∙ leafValues-at b s 512 i u;
 }
 
 -- ---- the slots of a node, whose child reader keeps an invariant
@@ -166,7 +178,8 @@ pub record Step (I : State → Type 0) (R : State → ℕ → ℕ → Type 0) (G
   pub reads : R (r .state) source (r .number)
   pub grown : G t (r .state)
 
-pub record Filled (I : State → Type 0) (R : State → ℕ → ℕ → Type 0) (G : State → State → Type 0) (b : List ℕ) (level source n : ℕ) (t : State) (s : Slots) : Type 0 where
+pub record Filled (I : State → Type 0) (R : State → ℕ → ℕ → Type 0) (G : State → State → Type 0) (b : List ℕ) (level source n : ℕ) (t : State)
+    (s : Slots) : Type 0 where
   pub keeps : I (s .state)
   pub grown : G t (s .state)
   pub size : length (s .entries) ≡ n
@@ -186,11 +199,16 @@ module _ (I : State → Type 0) (R : State → ℕ → ℕ → Type 0) (G : Stat
   }
     where
       pick : (j : ℕ) → (j ≡ n) ⊎ (j < n) → SlotGood (R u) b level source j (getD (s .entries ++ (e ∷ [])) j (Tile +0))
-      pick j (inl p) = subst (λ (z : Entry). SlotGood (R u) b level source j z) (sym (getD-at (s .entries) e [] (Tile +0) j (f .size ∙ sym p))) (subst (λ (z : ℕ). SlotGood (R u) b level source z e) (sym p) good)
-      pick j (inr q) = subst (λ (z : Entry). SlotGood (R u) b level source j z) (sym (List·getD-append (s .entries) (e ∷ []) (Tile +0) j (omega (arith, f .size))))
-          (good-map (stable (s .state) u g) (eqb (maskBit b (source + maskOf level) j) 0) (u32At b (source + tableOf level + 8 * j)) (shift source (i64At b (source + tableOf level + 8 * j))) (getD (s .entries) j (Tile +0)) (f .each j q))
+      pick j (inl p) =
+          subst (λ (z : Entry). SlotGood (R u) b level source j z) (sym (getD-at (s .entries) e [] (Tile +0) j (f .size ∙ sym p)))
+          (subst (λ (z : ℕ). SlotGood (R u) b level source z e) (sym p) good)
+      pick j (inr q) =
+          subst (λ (z : Entry). SlotGood (R u) b level source j z) (sym (List·getD-append (s .entries) (e ∷ []) (Tile +0) j (omega (arith, f .size))))
+          (good-map (stable (s .state) u g) (eqb (maskBit b (source + maskOf level) j) 0) (u32At b (source + tableOf level + 8 * j))
+          (shift source (i64At b (source + tableOf level + 8 * j))) (getD (s .entries) j (Tile +0)) (f .each j q))
 
-  slot-filled : (n : ℕ) (t : State) (s s′ : Slots) → Filled I R G b level source n t s → slotRead b child level source n s ≡ ok s′ → Filled I R G b level source (suc n) t s′
+  slot-filled : (n : ℕ) (t : State) (s s′ : Slots) → Filled I R G b level source n t s → slotRead b child level source n s ≡ ok s′
+      → Filled I R G b level source (suc n) t s′
   slot-filled n t s s′ f e = go (eqb (maskBit b (source + maskOf level) n) 0) (more n t s) e
     where
       at₀ : ℕ
@@ -200,21 +218,35 @@ module _ (I : State → Type 0) (R : State → ℕ → ℕ → Type 0) (G : Stat
           → ((u : State) (e : Entry) → Filled I R G b level source n t s → I u → G (s .state) u → Good (R u) x (u32At b at₀) (shift source (i64At b at₀)) e
           → Filled I R G b level source (suc n) t (record { entries = s .entries ++ (e ∷ []); state = u }))
           → cond x (ok (record { entries = s .entries ++ (Tile (ofBits binary32 (u32At b at₀)) ∷ []); state = s .state }))
-          (need (not (eqb (u64At b at₀) 0)) 8 (bind (childTarget source (i64At b at₀)) (λ (target : ℕ). bind (child target (s .state)) (λ (r : Read). ok (record { entries = s .entries ++ (Child (r .number) ∷ []); state = r .state })))))
+          (need (not (eqb (u64At b at₀) 0)) 8
+          (bind (childTarget source (i64At b at₀)) (λ (target : ℕ).
+          bind (child target (s .state)) (λ (r : Read). ok (record { entries = s .entries ++ (Child (r .number) ∷ []); state = r .state })))))
           ≡ ok s′
           → Filled I R G b level source (suc n) t s′
-      go true add e = subst (λ (z : Slots). Filled I R G b level source (suc n) t z) (ok-injective e) (add (s .state) (Tile (ofBits binary32 (u32At b at₀))) f (f .keeps) (same (s .state)) refl)
+      go true add e =
+          subst (λ (z : Slots). Filled I R G b level source (suc n) t z) (ok-injective e)
+          (add (s .state) (Tile (ofBits binary32 (u32At b at₀))) f (f .keeps) (same (s .state)) refl)
       go false add e =
-          let n8 = need-ok (not (eqb (u64At b at₀) 0)) 8 (bind (childTarget source (i64At b at₀)) (λ (target : ℕ). bind (child target (s .state)) (λ (r : Read). ok (record { entries = s .entries ++ (Child (r .number) ∷ []); state = r .state })))) e in
-          let (target, isTarget, e₁) = bind-ok (childTarget source (i64At b at₀)) (λ (target : ℕ). bind (child target (s .state)) (λ (r : Read). ok (record { entries = s .entries ++ (Child (r .number) ∷ []); state = r .state }))) (n8 .1) in
-          let (r, isRead, e₂) = bind-ok (child target (s .state)) (λ (r : Read). ok (record { entries = s .entries ++ (Child (r .number) ∷ []); state = r .state })) e₁ in
+          let n8 = need-ok (not (eqb (u64At b at₀) 0)) 8
+          (bind (childTarget source (i64At b at₀)) (λ (target : ℕ).
+          bind (child target (s .state)) (λ (r : Read). ok (record { entries = s .entries ++ (Child (r .number) ∷ []); state = r .state }))))
+          e in
+          let (target, isTarget, e₁) = bind-ok (childTarget source (i64At b at₀))
+          (λ (target : ℕ).
+          bind (child target (s .state)) (λ (r : Read). ok (record { entries = s .entries ++ (Child (r .number) ∷ []); state = r .state })))
+          (n8 .1) in
+          let (r, isRead, e₂) = bind-ok (child target (s .state))
+          (λ (r : Read). ok (record { entries = s .entries ++ (Child (r .number) ∷ []); state = r .state })) e₁ in
           let st = step target (s .state) r (f .keeps) isRead in
           subst (λ (z : Slots). Filled I R G b level source (suc n) t z) (ok-injective e₂)
-          (add (r .state) (Child (r .number)) f (st .keeps) (st .grown) (subst (λ (z : ℕ). R (r .state) z (r .number)) (target-is source (i64At b at₀) isTarget) (st .reads)))
+          (add (r .state) (Child (r .number)) f (st .keeps) (st .grown)
+          (subst (λ (z : ℕ). R (r .state) z (r .number)) (target-is source (i64At b at₀) isTarget) (st .reads)))
 
   pub slots-filled : (n : ℕ) (t : State) (s : Slots) → I t → slotsRead b child level source n t ≡ ok s → Filled I R G b level source n t s
   unfolding slotsRead
-  slots-filled zero t s i e = subst (λ (z : Slots). Filled I R G b level source 0 t z) (ok-injective e) (record { keeps = i; grown = same t; size = refl; each = λ (i : ℕ) (h : i < 0). absurd (omega arith) })
+  slots-filled zero t s i e =
+      subst (λ (z : Slots). Filled I R G b level source 0 t z) (ok-injective e)
+      (record { keeps = i; grown = same t; size = refl; each = λ (i : ℕ) (h : i < 0). absurd (omega arith) })
   slots-filled (suc n) t s i e =
       let (s₀, before, last) = bind-ok (slotsRead b child level source n t) (slotRead b child level source n) e in
       slot-filled n t s₀ s (slots-filled n t s₀ i before) last

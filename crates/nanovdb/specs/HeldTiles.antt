@@ -63,13 +63,20 @@ more b root n r u e f i g good = record {
 }
   where
     pick : (j : ℕ) → (j ≡ n) ⊎ (j < n) → TileGood (UpperIn b u) b root j (getD (r .roots ++ (e ∷ [])) j noRoot)
-    pick j (inl p) = subst (λ (z : Root). TileGood (UpperIn b u) b root j z) (sym (getD-at (r .roots) e [] noRoot j (f .size ∙ sym p))) (subst (λ (z : ℕ). TileGood (UpperIn b u) b root z e) (sym p) good)
-    pick j (inr q) = subst (λ (z : Root). TileGood (UpperIn b u) b root j z) (sym (List·getD-append (r .roots) (e ∷ []) noRoot j (omega (arith, f .size)))) (tile-map (stable2 b (r .state) u g) (f .each j q))
+    pick j (inl p) =
+        subst (λ (z : Root). TileGood (UpperIn b u) b root j z) (sym (getD-at (r .roots) e [] noRoot j (f .size ∙ sym p)))
+        (subst (λ (z : ℕ). TileGood (UpperIn b u) b root z e) (sym p) good)
+    pick j (inr q) =
+        subst (λ (z : Root). TileGood (UpperIn b u) b root j z) (sym (List·getD-append (r .roots) (e ∷ []) noRoot j (omega (arith, f .size))))
+        (tile-map (stable2 b (r .state) u g) (f .each j q))
 
 tile-read : (b : List ℕ) (p : Places) (root n : ℕ) (r r′ : Roots) → Tiled b root n r → tileRead b p root n r ≡ ok r′ → Tiled b root (suc n) r′
 tile-read b p root n r r′ f e =
     let (pass, e₁) = need-ok (keyPasses k) 7 (rest (eqb (u64At b (tileAt root n + 8)) 0)) e in
-    go (eqb (u64At b (tileAt root n + 8)) 0) (λ (u : State) (e : Entry) (i : Inv2 b u) (g : Grown2 (r .state) u) good. more b root n r u (rootOf k e) f i g (record { passes = pass; x = refl; y = refl; z = refl; entry = good })) e₁
+    go (eqb (u64At b (tileAt root n + 8)) 0)
+    (λ (u : State) (e : Entry) (i : Inv2 b u) (g : Grown2 (r .state) u) good.
+    more b root n r u (rootOf k e) f i g (record { passes = pass; x = refl; y = refl; z = refl; entry = good }))
+    e₁
   where
     k : ℕ
     k = u64At b (tileAt root n)
@@ -90,7 +97,8 @@ tile-read b p root n r r′ f e =
     rest x = cond x (ok (record { roots = r .roots ++ (rootOf k (Tile (ofBits binary32 bits)) ∷ []); state = r .state })) (bind (childTarget root offset) visit)
 
     go : (x : Bool)
-        → ((u : State) (e : Entry) → Inv2 b u → Grown2 (r .state) u → Good (UpperIn b u) x bits (shift root offset) e → Tiled b root (suc n) (record { roots = r .roots ++ (rootOf k e ∷ []); state = u }))
+        → ((u : State) (e : Entry) → Inv2 b u → Grown2 (r .state) u → Good (UpperIn b u) x bits (shift root offset) e
+        → Tiled b root (suc n) (record { roots = r .roots ++ (rootOf k e ∷ []); state = u }))
         → rest x ≡ ok r′ → Tiled b root (suc n) r′
     go true add e = subst (Tiled b root (suc n)) (ok-injective e) (add (r .state) (Tile (ofBits binary32 bits)) (f .keeps) (same2 (r .state)) refl)
     go false add e =
@@ -98,11 +106,13 @@ tile-read b p root n r r′ f e =
         let (m, isRead, e₂) = bind-ok (node 2 b p target (r .state)) after e₁ in
         let st = read-upper b p target (r .state) m (f .keeps) isRead in
         subst (Tiled b root (suc n)) (ok-injective e₂)
-        (add (m .state) (Child (m .number)) (st .keeps) (st .grown) (subst (λ (z : ℕ). UpperIn b (m .state) z (m .number)) (target-is root offset isTarget) (st .reads)))
+        (add (m .state) (Child (m .number)) (st .keeps) (st .grown)
+        (subst (λ (z : ℕ). UpperIn b (m .state) z (m .number)) (target-is root offset isTarget) (st .reads)))
 
 pub tiles-read : (b : List ℕ) (p : Places) (root n : ℕ) (t : State) (r : Roots) → Inv2 b t → tilesRead b p root n t ≡ ok r → Tiled b root n r
 unfolding tilesRead
-tiles-read b p root zero t r i e = subst (Tiled b root 0) (ok-injective e) (record { keeps = i; size = refl; each = λ (i : ℕ) (h : i < 0). absurd (omega arith) })
+tiles-read b p root zero t r i e =
+    subst (Tiled b root 0) (ok-injective e) (record { keeps = i; size = refl; each = λ (i : ℕ) (h : i < 0). absurd (omega arith) })
 tiles-read b p root (suc n) t r i e =
     let (r₀, before, last) = bind-ok (tilesRead b p root n t) (tileRead b p root n) e in
     tile-read b p root n r₀ r (tiles-read b p root n t r₀ i before) last
@@ -113,7 +123,9 @@ tiles-read b p root (suc n) t r i e =
 two-spans : (h r : Span) (s level k : ℕ) → h .level ≡ 3 → r .level ≡ 3 → level < 3 → seen (([] ++ (h ∷ [])) ++ (r ∷ [])) s level ≡ at k → ⊥
 unfolding seen
 two-spans h r s level k hl rl l e =
-    not-seen (sym (seen-other [] h s level (λ (x : h .level ≡ level). omega arith)) ∙ sym (seen-other ([] ++ (h ∷ [])) r s level (λ (x : r .level ≡ level). omega arith)) ∙ e)
+    not-seen
+    (sym (seen-other [] h s level (λ (x : h .level ≡ level). omega arith))
+    ∙ sym (seen-other ([] ++ (h ∷ [])) r s level (λ (x : r .level ≡ level). omega arith)) ∙ e)
 
 pub start : (b : List ℕ) (h r : Span) → h .level ≡ 3 → r .level ≡ 3 → Inv2 b (withSpan (withSpan empty h) r)
 start b h r hl rl = record {
@@ -138,7 +150,8 @@ tree-holds b p r e =
     let (few, e₄) = need-ok (leb count (p .roots)) 9 (bind (tilesRead b p root count t) after-tiles) e₃ in
     let (r₁, tiles, e₅) = bind-ok (tilesRead b p root count t) after-tiles e₄ in
     let (counts, e₆) = need-ok (checked r₁) 10 (ok r₁) e₅ in
-    let is : withSpan (withSpan empty head) whole ≡ t = ap (λ (z : State). withSpan z whole) (claim-is b p empty head claimed) ∙ claim-is b p h whole claimed₂ in
+    let is : withSpan (withSpan empty head) whole ≡ t = ap (λ (z : State). withSpan z whole) (claim-is b p empty head claimed)
+    ∙ claim-is b p h whole claimed₂ in
     subst (Tiled b root count) (ok-injective e₆) (tiles-read b p root count t r₁ (subst (Inv2 b) is (start b head whole refl refl)) tiles)
   where
     root : ℕ

@@ -28,7 +28,8 @@ pub field-same : (f : ℕ) (z : ℤ) → f < 1048576 → mag z < 524288 → eqZ 
 unfolding signed
 field-same f z hf hz = go (ltb f 524288) z (ltb→lt f 524288) (nltb→le f 524288) hz
   where
-    go : (x : Bool) (z : ℤ) → (T x → f < 524288) → (T (not x) → 524288 ≤ f) → mag z < 524288 → eqZ (cond x (pos f) (negsuc (1048576 - (f + 1)))) z ≡ eqb f (modZ z 1048576)
+    go : (x : Bool) (z : ℤ) → (T x → f < 524288) → (T (not x) → 524288 ≤ f) → mag z < 524288
+        → eqZ (cond x (pos f) (negsuc (1048576 - (f + 1)))) z ≡ eqb f (modZ z 1048576)
     go true (pos a) p q h = ap (eqb f) (small a h)
       where
         small : (a : ℕ) → a < 524288 → a ≡ a % 1048576
@@ -81,10 +82,13 @@ three f g h l m n hf hg hh hl hm hn = same-test (eqb (f * 2 ^ 42 + g * 2 ^ 21 + 
     eq→eqb (f * 2 ^ 42 + g * 2 ^ 21 + h) (l * 2 ^ 42 + m * 2 ^ 21 + n) (omega arith))
 
 -- a tile's key is the coordinate's exactly where the blocks are the same
-pub key-same : (k : ℕ) (c : Coord) → T (keyPasses k) → Signed32 c → eqb k (key c) ≡ sameBlock (record { x = field k 42; y = field k 21; z = field k 0 }) (blockOf c)
+pub key-same : (k : ℕ) (c : Coord) → T (keyPasses k) → Signed32 c
+    → eqb k (key c) ≡ sameBlock (record { x = field k 42; y = field k 21; z = field k 0 }) (blockOf c)
 key-same k c t s =
     let u = and-l (ltb k (2 ^ 62) && eqb (k / 2 ^ 20 % 2) 0) (eqb (k / 2 ^ 41 % 2) 0) t in
-    let whole = split k (ltb→lt k (2 ^ 62) (and-l (ltb k (2 ^ 62)) (eqb (k / 2 ^ 20 % 2) 0) u)) (eqb→eq (k / 2 ^ 20 % 2) 0 (and-r (ltb k (2 ^ 62)) (eqb (k / 2 ^ 20 % 2) 0) u)) (eqb→eq (k / 2 ^ 41 % 2) 0 (and-r (ltb k (2 ^ 62) && eqb (k / 2 ^ 20 % 2) 0) (eqb (k / 2 ^ 41 % 2) 0) t)) in
+    let whole = split k (ltb→lt k (2 ^ 62) (and-l (ltb k (2 ^ 62)) (eqb (k / 2 ^ 20 % 2) 0) u))
+    (eqb→eq (k / 2 ^ 20 % 2) 0 (and-r (ltb k (2 ^ 62)) (eqb (k / 2 ^ 20 % 2) 0) u))
+    (eqb→eq (k / 2 ^ 41 % 2) 0 (and-r (ltb k (2 ^ 62) && eqb (k / 2 ^ 20 % 2) 0) (eqb (k / 2 ^ 41 % 2) 0) t)) in
     ap (λ (n : ℕ). eqb n (key c)) whole
     ∙ three (f 42) (f 21) (f 0) (m (c .x)) (m (c .y)) (m (c .z)) (in-f 42) (in-f 21) (in-f 0) (in-m (c .x)) (in-m (c .y)) (in-m (c .z))
     ∙ sym (all (same 42 (c .x) (s .x)) (same 21 (c .y) (s .y)) (same 0 (c .z) (s .z)))

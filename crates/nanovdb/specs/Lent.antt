@@ -32,7 +32,8 @@ pub record Lent : Type 0 where
 
 -- 18 for paired tables of unequal length, or blocks that are not three a root
 unfoldable pub lentFault : Lent → ℕ
-lentFault l = unless (eqb (l .rootLinks) (l .rootValues) && eqb (l .blocks) (3 * l .rootLinks) && eqb (l .upperLinks) (l .upperValues) && eqb (l .lowerLinks) (l .lowerValues)) 18
+lentFault l = unless (eqb (l .rootLinks) (l .rootValues) && eqb (l .blocks) (3 * l .rootLinks) && eqb (l .upperLinks) (l .upperValues) && eqb
+    (l .lowerLinks) (l .lowerValues)) 18
 
 -- four words a span, and whole nodes
 abbrev pub placesOf : Lent → Places

@@ -57,12 +57,15 @@ module _ {A : Type 0} (entry : A → Entry) (none : A) (isNone : entry none ≡ 
   link-at = ap (λ (z : ℕ). getD (map (λ (a : A). linkOf (entry a)) l) i z) (sym (ap linkOf isNone)) ∙ List·getD-map (λ (a : A). linkOf (entry a)) l i none
 
   value-at : getD (map (λ (a : A). valueOf (entry a)) l) i +0 ≡ valueOf (entry (getD l i none))
-  value-at = ap (λ (z : Float). getD (map (λ (a : A). valueOf (entry a)) l) i z) (sym (ap valueOf isNone)) ∙ List·getD-map (λ (a : A). valueOf (entry a)) l i none
+  value-at =
+      ap (λ (z : Float). getD (map (λ (a : A). valueOf (entry a)) l) i z) (sym (ap valueOf isNone))
+      ∙ List·getD-map (λ (a : A). valueOf (entry a)) l i none
 
   entry-at : entryAt (map (λ (a : A). linkOf (entry a)) l) (map (λ (a : A). valueOf (entry a)) l) i ≡ entry (getD l i none)
   entry-at = (λ j. entryOf (link-at j) (value-at j)) ∙ entry-whole (entry (getD l i none))
 
-  finite-at : (getD (map (λ (a : A). linkOf (entry a)) l) i 0 ≡ 0 → T (finite (getD (map (λ (a : A). valueOf (entry a)) l) i +0))) → FiniteEntry (entry (getD l i none))
+  finite-at : (getD (map (λ (a : A). linkOf (entry a)) l) i 0 ≡ 0 → T (finite (getD (map (λ (a : A). valueOf (entry a)) l) i +0)))
+      → FiniteEntry (entry (getD l i none))
   finite-at h = finite-entry (entry (getD l i none)) (λ e. subst (λ (v : Float). T (finite v)) value-at (h (link-at ∙ e)))
 
 -- ---- one level of the walk
@@ -83,9 +86,12 @@ met : (x : Bool) (w : Reading) (f r : Found) → T x → Agrees w f → Agrees w
 met true w f r t a = a
 met false w f r t a = absurd t
 
-step : {child : ℕ → ℕ → Type 0} (below : ℕ → Reading) (found : Entry → Found) (level : Level) → ((v : Float) → found (Tile v) ≡ value v level) → ((s k : ℕ) → child s k → Agrees (below s) (found (Child k)))
-    → (x : Bool) (bits target : ℕ) (e : Entry) → bits < 2 ^ 32 → FiniteEntry e → Good child x bits target e → Agrees (cond x (record { bits = bits; level = level }) (below target)) (found e)
-step below found level tile kid true bits target (Tile v) h t g = subst (Agrees (record { bits = bits; level = level })) (sym (tile v)) (record { number = g; whole = t; small = h; level = refl })
+step : {child : ℕ → ℕ → Type 0} (below : ℕ → Reading) (found : Entry → Found) (level : Level) → ((v : Float) → found (Tile v) ≡ value v level)
+    → ((s k : ℕ) → child s k → Agrees (below s) (found (Child k)))
+    → (x : Bool) (bits target : ℕ) (e : Entry) → bits < 2 ^ 32 → FiniteEntry e → Good child x bits target e
+    → Agrees (cond x (record { bits = bits; level = level }) (below target)) (found e)
+step below found level tile kid true bits target (Tile v) h t g =
+    subst (Agrees (record { bits = bits; level = level })) (sym (tile v)) (record { number = g; whole = t; small = h; level = refl })
 step below found level tile kid true bits target (Child j) h t g = absurd g
 step below found level tile kid false bits target (Tile v) h t g = absurd g
 step below found level tile kid false bits target (Child j) h t g = kid target j g
@@ -97,12 +103,15 @@ own e = e
 -- ---- the three levels of nodes
 
 -- a node of entries, over the level below
-node-agrees : {child : ℕ → ℕ → Type 0} (b : List ℕ) → Bytes b → (below : ℕ → Reading) (found : Entry → Found) (name : Level) → ((v : Float) → found (Tile v) ≡ value v name)
+node-agrees : {child : ℕ → ℕ → Type 0} (b : List ℕ) → Bytes b → (below : ℕ → Reading) (found : Entry → Found) (name : Level)
+    → ((v : Float) → found (Tile v) ≡ value v name)
     → ((s k : ℕ) → child s k → Agrees (below s) (found (Child k))) → (level : ℕ) (table : List Entry)
     → ((i : ℕ) → i < length (map linkOf table) → getD (map linkOf table) i 0 ≡ 0 → T (finite (getD (map valueOf table) i +0)))
     → (i : ℕ) → i < entriesOf level → (source k : ℕ) → Node child b level table source k
-    → Agrees (cond (eqb (maskBit b (source + maskOf level) i) 0) (record { bits = u32At b (source + tableOf level + 8 * i); level = name }) (below (shift source (i64At b (source + tableOf level + 8 * i)))))
-    (cond (leb (entriesOf level * (k + 1)) (length (map linkOf table))) (found (entryAt (map linkOf table) (map valueOf table) (entriesOf level * k + i))) (refused 11))
+    → Agrees (cond (eqb (maskBit b (source + maskOf level) i) 0) (record { bits = u32At b (source + tableOf level + 8 * i); level = name })
+    (below (shift source (i64At b (source + tableOf level + 8 * i)))))
+    (cond (leb (entriesOf level * (k + 1)) (length (map linkOf table)))
+    (found (entryAt (map linkOf table) (map valueOf table) (entriesOf level * k + i))) (refused 11))
 node-agrees b bytes below found name tile kid level table finites i h source k l =
     let n = entriesOf level in
     let j = n * k + i in
@@ -114,7 +123,8 @@ node-agrees b bytes below found name tile kid level table finites i h source k l
     met (leb (n * (k + 1)) (length (map linkOf table))) w (found (entryAt (map linkOf table) (map valueOf table) j)) (refused 11)
     (le→leb (n * (k + 1)) (length (map linkOf table)) (subst (λ (z : ℕ). n * (k + 1) ≤ z) (sym isLength) (l .fits)))
     (subst (λ (z : Entry). Agrees w (found z)) (sym (entry-at own (Tile +0) refl table j))
-    (step below found name tile kid x (u32At b at) (shift source (i64At b at)) (getD table j (Tile +0)) (u32-lt b at bytes) (finite-at own (Tile +0) refl table j (finites j inside)) (l .each i h)))
+    (step below found name tile kid x (u32At b at) (shift source (i64At b at)) (getD table j (Tile +0))
+    (u32-lt b at bytes) (finite-at own (Tile +0) refl table j (finites j inside)) (l .each i h)))
 
 module _ (b : List ℕ) (bytes : Bytes b) (r : Roots) (s : Sound (tablesOf b r)) (c : Coord) where
   leaf-agrees : (source k : ℕ) → Leaf b (r .state .leaf) source k → Agrees (leafWalk b source c) (leafAt (tablesOf b r) k c)
@@ -122,16 +132,26 @@ module _ (b : List ℕ) (bytes : Bytes b) (r : Roots) (s : Sound (tablesOf b r))
   leaf-agrees source k l =
       let leaf = r .state .leaf in
       let i = slot 8 1 c in
-      met (leb (512 * (k + 1)) (length leaf)) (leafWalk b source c) (value (getD leaf (512 * k + i) +0) ofLeaf) (refused 11) (le→leb (512 * (k + 1)) (length leaf) (l .fits))
-      (record { number = l .each i (slot-leaf c); whole = s .leaf-finite (512 * k + i) (in-node 512 k i (length leaf) (l .fits) (slot-leaf c)); small = u32-lt b (source + 96 + 4 * i) bytes; level = refl })
+      met (leb (512 * (k + 1)) (length leaf)) (leafWalk b source c) (value (getD leaf (512 * k + i) +0) ofLeaf) (refused 11)
+      (le→leb (512 * (k + 1)) (length leaf) (l .fits))
+      (record {
+        number = l .each i (slot-leaf c);
+        whole = s .leaf-finite (512 * k + i) (in-node 512 k i (length leaf) (l .fits) (slot-leaf c));
+        small = u32-lt b (source + 96 + 4 * i) bytes;
+        level = refl;
+      })
 
   lower-agrees : (source k : ℕ) → LowerIn b (r .state) source k → Agrees (lowerWalk b source c) (lowerAt (tablesOf b r) k c)
   unfolding tablesOf
-  lower-agrees = node-agrees b bytes (λ (z : ℕ). leafWalk b z c) (lowerEntry (tablesOf b r) c) ofLower (λ v. refl) leaf-agrees 1 (r .state .lower) (s .lower-finite) (slot 16 8 c) (slot-lower c)
+  lower-agrees =
+      node-agrees b bytes (λ (z : ℕ). leafWalk b z c) (lowerEntry (tablesOf b r) c) ofLower (λ v. refl) leaf-agrees 1 (r .state .lower)
+      (s .lower-finite) (slot 16 8 c) (slot-lower c)
 
   upper-agrees : (source k : ℕ) → UpperIn b (r .state) source k → Agrees (upperWalk b source c) (upperAt (tablesOf b r) k c)
   unfolding tablesOf
-  upper-agrees = node-agrees b bytes (λ (z : ℕ). lowerWalk b z c) (upperEntry (tablesOf b r) c) ofUpper (λ v. refl) lower-agrees 2 (r .state .upper) (s .upper-finite) (slot 32 128 c) (slot-upper c)
+  upper-agrees =
+      node-agrees b bytes (λ (z : ℕ). lowerWalk b z c) (upperEntry (tablesOf b r) c) ofUpper (λ v. refl) lower-agrees 2 (r .state .upper)
+      (s .upper-finite) (slot 32 128 c) (slot-upper c)
 
 -- ---- the roots
 
@@ -162,7 +182,8 @@ block-z (r ∷ rs) (suc i) = ap (λ (n : ℕ). getD (blocksOf (r ∷ rs)) n (pos
     next : (i : ℕ) → 3 * suc i + 2 ≡ suc (suc (suc (3 * i + 2)))
     next i = omega arith
 
-module _ (b : List ℕ) (bytes : Bytes b) (r : Roots) (count : ℕ) (tiled : Tiled b (rootOfBytes b) count r) (s : Sound (tablesOf b r)) (c : Coord) (small : Signed32 c) where
+module _ (b : List ℕ) (bytes : Bytes b) (r : Roots) (count : ℕ) (tiled : Tiled b (rootOfBytes b) count r) (s : Sound (tablesOf b r)) (c : Coord)
+    (small : Signed32 c) where
   same-block : (i : ℕ) → i < count → eqb (u64At b (tileAt (rootOfBytes b) i)) (key c) ≡ sameBlock (blockAt (tablesOf b r) i) (blockOf c)
   unfolding tablesOf
   same-block i h =
@@ -174,7 +195,9 @@ module _ (b : List ℕ) (bytes : Bytes b) (r : Roots) (count : ℕ) (tiled : Til
       let z : field k 0 ≡ getD (blocksOf rs) (3 * i + 2) (pos 0) = sym (block-z rs i ∙ t .z) in
       key-same k c (t .passes) small ∙ (λ j. sameBlock (record { x = x j; y = y j; z = z j }) (blockOf c))
 
-  tile-agrees : (i : ℕ) → i < count → Agrees (tileWalk b (rootOfBytes b) (tileAt (rootOfBytes b) i) c) (rootEntry (tablesOf b r) c (entryAt (tablesOf b r .rootLinks) (tablesOf b r .rootValues) i))
+  tile-agrees : (i : ℕ) → i < count
+      → Agrees (tileWalk b (rootOfBytes b) (tileAt (rootOfBytes b) i) c)
+      (rootEntry (tablesOf b r) c (entryAt (tablesOf b r .rootLinks) (tablesOf b r .rootValues) i))
   unfolding tablesOf
   tile-agrees i h =
       let t = tiled .each i h in
@@ -184,7 +207,8 @@ module _ (b : List ℕ) (bytes : Bytes b) (r : Roots) (count : ℕ) (tiled : Til
       let inside : i < length (map (λ (e : Root). linkOf (e .entry)) rs) = omega (arith, length-map rs (λ (e : Root). linkOf (e .entry)), tiled .size) in
       let fine = finite-at entryIn noRoot refl rs i (s .root-finite i inside) in
       subst (λ (z : Entry). Agrees (tileWalk b root at c) (rootEntry (tablesOf b r) c z)) (sym (entry-at entryIn noRoot refl rs i))
-      (step (λ (z : ℕ). upperWalk b z c) (rootEntry (tablesOf b r) c) ofRoot (λ v. refl) (upper-agrees b bytes r s c) (eqb (u64At b (at + 8)) 0) (u32At b (at + 20)) (shift root (i64At b (at + 8))) (getD rs i noRoot .entry) (u32-lt b (at + 20) bytes) fine (t .entry))
+      (step (λ (z : ℕ). upperWalk b z c) (rootEntry (tablesOf b r) c) ofRoot (λ v. refl) (upper-agrees b bytes r s c)
+      (eqb (u64At b (at + 8)) 0) (u32At b (at + 20)) (shift root (i64At b (at + 8))) (getD rs i noRoot .entry) (u32-lt b (at + 20) bytes) fine (t .entry))
 
   roots-agree : (n i : ℕ) → i + n ≡ count → Agrees (tilesWalk n b (rootOfBytes b) (tileAt (rootOfBytes b) i) c) (rootsFrom (tablesOf b r) n i c)
   unfolding tilesWalk rootsFrom tablesOf
@@ -193,10 +217,16 @@ module _ (b : List ℕ) (bytes : Bytes b) (r : Roots) (count : ℕ) (tiled : Til
       let root = rootOfBytes b in
       let inside : i < count = omega arith in
       let next : tileAt root (i + 1) ≡ tileAt root i + 32 = omega arith in
-      let rest : Agrees (tilesWalk n b root (tileAt root i + 32) c) (rootsFrom (tablesOf b r) n (i + 1) c) = subst (λ (z : ℕ). Agrees (tilesWalk n b root z c) (rootsFrom (tablesOf b r) n (i + 1) c)) next (roots-agree n (i + 1) (omega arith)) in
-      subst (λ (x : Bool). Agrees (cond (eqb (u64At b (tileAt root i)) (key c)) (tileWalk b root (tileAt root i) c) (tilesWalk n b root (tileAt root i + 32) c)) (cond x (rootEntry (tablesOf b r) c (entryAt (tablesOf b r .rootLinks) (tablesOf b r .rootValues) i)) (rootsFrom (tablesOf b r) n (i + 1) c)))
+      let rest : Agrees (tilesWalk n b root (tileAt root i + 32) c) (rootsFrom (tablesOf b r) n (i + 1) c) = subst
+      (λ (z : ℕ). Agrees (tilesWalk n b root z c) (rootsFrom (tablesOf b r) n (i + 1) c)) next (roots-agree n (i + 1) (omega arith)) in
+      subst
+      (λ (x : Bool).
+      Agrees (cond (eqb (u64At b (tileAt root i)) (key c)) (tileWalk b root (tileAt root i) c) (tilesWalk n b root (tileAt root i + 32) c))
+      (cond x (rootEntry (tablesOf b r) c (entryAt (tablesOf b r .rootLinks) (tablesOf b r .rootValues) i)) (rootsFrom (tablesOf b r) n (i + 1) c)))
       (same-block i inside)
-      (both (eqb (u64At b (tileAt root i)) (key c)) (tileWalk b root (tileAt root i) c) (tilesWalk n b root (tileAt root i + 32) c) (rootEntry (tablesOf b r) c (entryAt (tablesOf b r .rootLinks) (tablesOf b r .rootValues) i)) (rootsFrom (tablesOf b r) n (i + 1) c) (tile-agrees i inside) rest)
+      (both (eqb (u64At b (tileAt root i)) (key c)) (tileWalk b root (tileAt root i) c) (tilesWalk n b root (tileAt root i + 32) c)
+      (rootEntry (tablesOf b r) c (entryAt (tablesOf b r .rootLinks) (tablesOf b r .rootValues) i)) (rootsFrom (tablesOf b r) n (i + 1) c)
+      (tile-agrees i inside) rest)
     where
       both : (x : Bool) (v w : Reading) (f g : Found) → Agrees v f → Agrees w g → Agrees (cond x v w) (cond x f g)
       both true v w f g p q = p
@@ -204,7 +234,8 @@ module _ (b : List ℕ) (bytes : Bytes b) (r : Roots) (count : ℕ) (tiled : Til
 
 -- ---- the claim
 
-found : (b : List ℕ) → Bytes b → (r : Roots) (c : Coord) → Signed32 c → Tiled b (rootOfBytes b) (u32At b (rootOfBytes b + 24)) r → Sound (tablesOf b r) → Agrees (walk b c) (lookup (tablesOf b r) c)
+found : (b : List ℕ) → Bytes b → (r : Roots) (c : Coord) → Signed32 c → Tiled b (rootOfBytes b) (u32At b (rootOfBytes b + 24)) r
+    → Sound (tablesOf b r) → Agrees (walk b c) (lookup (tablesOf b r) c)
 unfolding walk lookup tablesOf
 found b bytes r c small tiled s =
     let root = rootOfBytes b in
@@ -214,20 +245,25 @@ found b bytes r c small tiled s =
     let first : tileAt root 0 ≡ root + 64 = omega arith in
     let all : Agrees (tilesWalk count b root (tileAt root 0) c) (rootsFrom g count 0 c) = roots-agree b bytes r count tiled s c small count 0 (omega arith) in
     met (eqb (pairFault g) 0) (walk b c) (rootsFrom g (length (g .rootLinks)) 0 c) (refused (pairFault g)) (eq→eqb (pairFault g) 0 (s .paired))
-    (subst (λ (n : ℕ). Agrees (tilesWalk count b root (root + 64) c) (rootsFrom g n 0 c)) (sym isCount) (subst (λ (z : ℕ). Agrees (tilesWalk count b root z c) (rootsFrom g count 0 c)) first all))
+    (subst (λ (n : ℕ). Agrees (tilesWalk count b root (root + 64) c) (rootsFrom g n 0 c)) (sym isCount)
+    (subst (λ (z : ℕ). Agrees (tilesWalk count b root z c) (rootsFrom g count 0 c)) first all))
 
 agrees : (b : List ℕ) → Bytes b → (p : Places) (t : Accepted) → decodeDensity b p ≡ ok t → (c : Coord) → Signed32 c → Agrees (walk b c) (lookup (t .grid) c)
 agrees b bytes p t e c small =
     let q = density-passed b p t e .0 in
     let r = q .roots in
-    subst (λ (g : Grid). Agrees (walk b c) (lookup g c)) (sym (q .grid)) (found b bytes r c small (tree-holds b p r (q .read)) (sound (tablesOf b r) (subst (λ (g : Grid). validate g ≡ 0) (q .grid) (q .valid))))
+    subst (λ (g : Grid). Agrees (walk b c) (lookup g c)) (sym (q .grid))
+    (found b bytes r c small (tree-holds b p r (q .read)) (sound (tablesOf b r) (subst (λ (g : Grid). validate g ≡ 0) (q .grid) (q .valid))))
 
 -- a lookup in an accepted grid finds the walk's bits, at the walk's level
 pub lookups : (b : List ℕ) → Bytes b → (p : Places) (t : Accepted) → decodeDensity b p ≡ ok t → (c : Coord) → Signed32 c → ReadsAs b c (lookup (t .grid) c)
 lookups b bytes p t e c small = go (lookup (t .grid) c) (agrees b bytes p t e c small)
   where
     go : (f : Found) → Agrees (walk b c) f → ReadsAs b c f
-    go (value v l) a = (ap (toBits binary32) (a .number) ∙ bits-kept (walk b c .bits) (a .small) (subst (λ (z : Float). T (finite z)) (a .number) (a .whole)), a .level)
+    go (value v l) a = (
+      ap (toBits binary32) (a .number) ∙ bits-kept (walk b c .bits) (a .small) (subst (λ (z : Float). T (finite z)) (a .number) (a .whole)),
+      a .level,
+    )
     go (refused n) a = a
 
 -- the same as an equation, and that the number is finite

@@ -34,7 +34,15 @@ abbrev pub empty : State
 empty = record { spans = []; upperNodes = 0; lowerNodes = 0; leafNodes = 0; upper = []; lower = []; leaf = [] }
 
 abbrev pub withSpan : State → Span → State
-withSpan t s = record { spans = t .spans ++ (s ∷ []); upperNodes = t .upperNodes; lowerNodes = t .lowerNodes; leafNodes = t .leafNodes; upper = t .upper; lower = t .lower; leaf = t .leaf }
+withSpan t s = record {
+  spans = t .spans ++ (s ∷ []);
+  upperNodes = t .upperNodes;
+  lowerNodes = t .lowerNodes;
+  leafNodes = t .leafNodes;
+  upper = t .upper;
+  lower = t .lower;
+  leaf = t .leaf;
+}
 
 -- a span past the end of the bytes (5), over another (6), or without a place in the work table (9); otherwise it is put behind the others
 unfoldable pub claim : List ℕ → Places → State → Span → Result State
@@ -77,9 +85,33 @@ placesAt p level = byLevel level (p .leaf) (p .lower) (p .upper)
 
 -- one node more at this level
 abbrev pub counted : State → ℕ → State
-counted t zero = record { spans = t .spans; upperNodes = t .upperNodes; lowerNodes = t .lowerNodes; leafNodes = t .leafNodes + 1; upper = t .upper; lower = t .lower; leaf = t .leaf }
-counted t (suc zero) = record { spans = t .spans; upperNodes = t .upperNodes; lowerNodes = t .lowerNodes + 1; leafNodes = t .leafNodes; upper = t .upper; lower = t .lower; leaf = t .leaf }
-counted t (suc (suc n)) = record { spans = t .spans; upperNodes = t .upperNodes + 1; lowerNodes = t .lowerNodes; leafNodes = t .leafNodes; upper = t .upper; lower = t .lower; leaf = t .leaf }
+counted t zero = record {
+  spans = t .spans;
+  upperNodes = t .upperNodes;
+  lowerNodes = t .lowerNodes;
+  leafNodes = t .leafNodes + 1;
+  upper = t .upper;
+  lower = t .lower;
+  leaf = t .leaf;
+}
+counted t (suc zero) = record {
+  spans = t .spans;
+  upperNodes = t .upperNodes;
+  lowerNodes = t .lowerNodes + 1;
+  leafNodes = t .leafNodes;
+  upper = t .upper;
+  lower = t .lower;
+  leaf = t .leaf;
+}
+counted t (suc (suc n)) = record {
+  spans = t .spans;
+  upperNodes = t .upperNodes + 1;
+  lowerNodes = t .lowerNodes;
+  leafNodes = t .leafNodes;
+  upper = t .upper;
+  lower = t .lower;
+  leaf = t .leaf;
+}
 
 pub record Read : Type 0 where
   pub number : ℕ
@@ -117,11 +149,39 @@ leafValues b source (suc n) = leafValues b source n ++ (f32At b (source + 96 + 4
 -- the entries of a node that has been read are put behind those of its level
 abbrev pub placed : ℕ → Slots → State
 placed zero s = s .state
-placed (suc zero) s = let t = s .state in record { spans = t .spans; upperNodes = t .upperNodes; lowerNodes = t .lowerNodes; leafNodes = t .leafNodes; upper = t .upper; lower = t .lower ++ s .entries; leaf = t .leaf }
-placed (suc (suc n)) s = let t = s .state in record { spans = t .spans; upperNodes = t .upperNodes; lowerNodes = t .lowerNodes; leafNodes = t .leafNodes; upper = t .upper ++ s .entries; lower = t .lower; leaf = t .leaf }
+placed (suc zero) s =
+    let t = s .state in
+    record {
+      spans = t .spans;
+      upperNodes = t .upperNodes;
+      lowerNodes = t .lowerNodes;
+      leafNodes = t .leafNodes;
+      upper = t .upper;
+      lower = t .lower ++ s .entries;
+      leaf = t .leaf;
+    }
+placed (suc (suc n)) s =
+    let t = s .state in
+    record {
+      spans = t .spans;
+      upperNodes = t .upperNodes;
+      lowerNodes = t .lowerNodes;
+      leafNodes = t .leafNodes;
+      upper = t .upper ++ s .entries;
+      lower = t .lower;
+      leaf = t .leaf;
+    }
 
 abbrev pub leafPlaced : List ℕ → ℕ → State → State
-leafPlaced b source t = record { spans = t .spans; upperNodes = t .upperNodes; lowerNodes = t .lowerNodes; leafNodes = t .leafNodes; upper = t .upper; lower = t .lower; leaf = t .leaf ++ leafValues b source 512 }
+leafPlaced b source t = record {
+  spans = t .spans;
+  upperNodes = t .upperNodes;
+  lowerNodes = t .lowerNodes;
+  leafNodes = t .leafNodes;
+  upper = t .upper;
+  lower = t .lower;
+  leaf = t .leaf ++ leafValues b source 512;
+}
 
 -- a new node is claimed and numbered (5, 6, 9), and then its entries are read
 abbrev pub opened : List ℕ → Places → ℕ → ℕ → State → (State → Result State) → Result Read
@@ -141,5 +201,6 @@ node zero b p source t =
     let new = opened b p 0 source t (λ (u : State). ok (leafPlaced b source u)) in
     again (seen (t .spans) source 0) t new
 node (suc level) b p source t =
-    let new = opened b p (suc level) source t (λ (u : State). bind (slotsRead b (node level b p) (suc level) source (entriesOf (suc level)) u) (λ (s : Slots). ok (placed (suc level) s))) in
+    let new = opened b p (suc level) source t
+    (λ (u : State). bind (slotsRead b (node level b p) (suc level) source (entriesOf (suc level)) u) (λ (s : Slots). ok (placed (suc level) s))) in
     again (seen (t .spans) source (suc level)) t new

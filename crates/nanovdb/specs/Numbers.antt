@@ -13,7 +13,8 @@ use Rattle.layout.specs.Bytes.{u32At, u64At, i64At, f32At, maskBit}
 use Rattle.sparse_grid.specs.Validate.{densityFault}
 use Rattle.sparse_grid.specs.declared.Entry.the-variants.{Child, Tile}
 use Rattle.nanovdb.specs.Spans.{Span, overlaps, Seen, at, nowhere, seen}
-use Rattle.nanovdb.specs.Nodes.{Places, State, empty, withSpan, claim, childTarget, tableOf, maskOf, entriesOf, sizeOf, nodesAt, placesAt, counted, Read, Slots, Reader, slotRead, slotsRead, placed, leafPlaced, opened, again, node}
+use Rattle.nanovdb.specs.Nodes.{Places, State, empty, withSpan, claim, childTarget, tableOf, maskOf, entriesOf, sizeOf, nodesAt, placesAt}
+use Rattle.nanovdb.specs.Nodes.{counted, Read, Slots, Reader, slotRead, slotsRead, placed, leafPlaced, opened, again, node}
 use Rattle.nanovdb.specs.Tree.{Roots, keyPasses, rootOf, tileRead, tilesRead, tree}
 use Rattle.nanovdb.specs.Decode.{tablesOf, mediumOf, bytesFault, treeFault, decodeScalar, decodeDensity}
 use Rattle.nanovdb.specs.Lent.{Lent, lentFault, placesOf, decodeInto}
@@ -57,7 +58,8 @@ of-target : (base : ℕ) (z : ℤ) → Numbered (childTarget base z)
 of-target base (pos k) = of-need (eqb ((base + k) % 32) 0) 7 (value (base + k))
 of-target base (negsuc k) = of-need (ltb k base && eqb ((base - (k + 1)) % 32) 0) 7 (value (base - (k + 1)))
 
-of-slot : (b : List ℕ) (child : Reader) → ((s : ℕ) (t : State) → Numbered (child s t)) → (level source i : ℕ) (s : Slots) → Numbered (slotRead b child level source i s)
+of-slot : (b : List ℕ) (child : Reader) → ((s : ℕ) (t : State) → Numbered (child s t)) → (level source i : ℕ) (s : Slots)
+    → Numbered (slotRead b child level source i s)
 of-slot b child h level source i s =
     let at = source + tableOf level + 8 * i in
     of-cond (eqb (maskBit b (source + maskOf level) i) 0)
@@ -66,12 +68,14 @@ of-slot b child h level source i s =
     (of-bind _ (of-target source (i64At b at)) (λ target.
     of-bind _ (h target (s .state)) (λ r. value (record { entries = s .entries ++ (Child (r .number) ∷ []); state = r .state })))))
 
-of-slots : (b : List ℕ) (child : Reader) → ((s : ℕ) (t : State) → Numbered (child s t)) → (level source n : ℕ) (t : State) → Numbered (slotsRead b child level source n t)
+of-slots : (b : List ℕ) (child : Reader) → ((s : ℕ) (t : State) → Numbered (child s t)) → (level source n : ℕ) (t : State)
+    → Numbered (slotsRead b child level source n t)
 unfolding slotsRead
 of-slots b child h level source zero t = value (record { entries = []; state = t })
 of-slots b child h level source (suc n) t = of-bind _ (of-slots b child h level source n t) (of-slot b child h level source n)
 
-of-opened : (b : List ℕ) (p : Places) (level source : ℕ) (t : State) (fill : State → Result State) → ((u : State) → Numbered (fill u)) → Numbered (opened b p level source t fill)
+of-opened : (b : List ℕ) (p : Places) (level source : ℕ) (t : State) (fill : State → Result State) → ((u : State) → Numbered (fill u))
+    → Numbered (opened b p level source t fill)
 of-opened b p level source t fill h =
     let k = nodesAt t level in
     of-bind _ (of-claim b p t (record { start = source; end = source + sizeOf level; level = level; number = k })) (λ u.
@@ -84,10 +88,12 @@ of-again nowhere t h = h
 
 of-node : (level : ℕ) (b : List ℕ) (p : Places) (source : ℕ) (t : State) → Numbered (node level b p source t)
 unfolding node
-of-node zero b p source t = of-again (seen (t .spans) source 0) t (of-opened b p 0 source t (λ (u : State). ok (leafPlaced b source u)) (λ u. value (leafPlaced b source u)))
+of-node zero b p source t =
+    of-again (seen (t .spans) source 0) t (of-opened b p 0 source t (λ (u : State). ok (leafPlaced b source u)) (λ u. value (leafPlaced b source u)))
 of-node (suc level) b p source t =
     of-again (seen (t .spans) source (suc level)) t
-    (of-opened b p (suc level) source t (λ (u : State). bind (slotsRead b (node level b p) (suc level) source (entriesOf (suc level)) u) (λ (s : Slots). ok (placed (suc level) s)))
+    (of-opened b p (suc level) source t
+    (λ (u : State). bind (slotsRead b (node level b p) (suc level) source (entriesOf (suc level)) u) (λ (s : Slots). ok (placed (suc level) s)))
     (λ u. of-bind _ (of-slots b (node level b p) (of-node level b p) (suc level) source (entriesOf (suc level)) u) (λ s. value (placed (suc level) s))))
 
 -- ---- the tree, and the decode
@@ -124,7 +130,8 @@ of-scalar : (b : List ℕ) (p : Places) → Numbered (decodeScalar b p)
 unfolding decodeScalar
 of-scalar b p =
     of-passing (bytesFault b)
-    (of-bind _ (of-tree b p) (λ r. of-passing (treeFault (record { grid = tablesOf b r; medium = mediumOf b })) (value (record { grid = tablesOf b r; medium = mediumOf b }))))
+    (of-bind _ (of-tree b p) (λ r.
+    of-passing (treeFault (record { grid = tablesOf b r; medium = mediumOf b })) (value (record { grid = tablesOf b r; medium = mediumOf b }))))
 
 pub numbered : (b : List ℕ) (l : Lent) → Numbered (decodeInto decodeDensity b l)
 unfolding decodeInto decodeDensity

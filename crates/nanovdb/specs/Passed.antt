@@ -30,7 +30,8 @@ unfolding decodeScalar bytesFault treeFault
 scalar-passed b p t e =
     let m = mediumOf b in
     let (start, e₁) = passing-ok (bytesFault b) (bind (tree b p) last) e in
-    let (f₁, g₁) = then-zero (unless (ltb (length b) (2 ^ 32)) 1) (unless (leb 672 (length b)) 2 then unless (headerPasses b) 3 then each (boundsFault m)) start in
+    let (f₁, g₁) = then-zero (unless (ltb (length b) (2 ^ 32)) 1)
+    (unless (leb 672 (length b)) 2 then unless (headerPasses b) 3 then each (boundsFault m)) start in
     let (f₂, g₂) = then-zero (unless (leb 672 (length b)) 2) (unless (headerPasses b) 3 then each (boundsFault m)) g₁ in
     let (f₃, bounds) = then-zero (unless (headerPasses b) 3) (each (boundsFault m)) g₂ in
     let (r, read, e₂) = bind-ok (tree b p) last e₁ in
@@ -39,7 +40,16 @@ scalar-passed b p t e =
     let (mapped, index) = then-zero (mapFault m) (each (indexFault m)) g₃ in
     let is = sym (ok-injective e₃) in
     let grid : t .grid ≡ tablesOf b r = ap (λ (a : Accepted). a .grid) is in
-    record { roots = r; read = read; grid = grid; medium = ap (λ (a : Accepted). a .medium) is; valid = subst (λ (g : Grid). validate g ≡ 0) (sym grid) valid; bounds = bounds; mapped = mapped; index = index }
+    record {
+      roots = r;
+      read = read;
+      grid = grid;
+      medium = ap (λ (a : Accepted). a .medium) is;
+      valid = subst (λ (g : Grid). validate g ≡ 0) (sym grid) valid;
+      bounds = bounds;
+      mapped = mapped;
+      index = index;
+    }
   where
     last : Roots → Result Accepted
     last = λ (r : Roots). let t : Accepted = record { grid = tablesOf b r; medium = mediumOf b } in passing (treeFault t) (ok t)

@@ -7,7 +7,7 @@ use native.Mathlib.Omega.{arith}
 use lib.Ieee.{Float}
 use Rattle.refusals.specs.Faults.{_then_}
 use Rattle.refusals.specs.FaultSteps.{then-stop}
-use Rattle.sparse_grid.specs.Tables.{gridOf}
+use Rattle.sparse_grid.specs.Tables.{Grid, gridOf}
 use Rattle.sparse_grid.specs.Validate.{validate, densityFault}
 use Rattle.medium.specs.Medium.{Medium, each, indexFault, mapFault}
 use Rattle.nanovdb.specs.Decode.{Accepted, treeFault}
@@ -20,31 +20,34 @@ then-none : (a : ℕ) → (a then 0) ≡ a
 then-none zero = refl
 then-none (suc a) = then-stop (suc a) 0 (λ e. omega arith)
 
+-- the grid of t with this background, and with nothing but values
+abbrev pub over : Accepted → Float → Grid
+over t x = let g = t .grid in
+    gridOf x (g .blocks) (g .rootLinks) (g .rootValues) (g .upperLinks) (g .upperValues) (g .lowerLinks) (g .lowerValues) (g .leafValues)
+
+abbrev pub values : Accepted → Float → Grid
+values t x = let g = t .grid in gridOf x [] [] (g .rootValues) [] (g .upperValues) [] (g .lowerValues) (g .leafValues)
+
 -- blocks and links play no part in 15
-density-values : (t : Accepted) → densityFault (t .grid) ≡ densityFault (gridOf (t .grid .background) [] [] (t .grid .rootValues) [] (t .grid .upperValues) [] (t .grid .lowerValues) (t .grid .leafValues))
+density-values : (t : Accepted) → densityFault (t .grid) ≡ densityFault (values t (t .grid .background))
 unfolding densityFault
 density-values t = refl
 
-module _ (t : Accepted) (background : Float) (B : background ≡ t .grid .background) (m : Medium) (A : m ≡ t .medium) (v k i g f : ℕ)
-    (L : v ≡ validate (gridOf background (t .grid .blocks) (t .grid .rootLinks) (t .grid .rootValues) (t .grid .upperLinks) (t .grid .upperValues) (t .grid .lowerLinks) (t .grid .lowerValues) (t .grid .leafValues)))
-    (K : k ≡ mapFault m) (I : i ≡ each (indexFault m)) (G : g ≡ (k then i)) (F : f ≡ (v then g)) where
-  tested : f ≡ treeFault t
-  unfolding treeFault
-  tested = F ∙ (λ j. valid j then (G ∙ (λ j. mapped j then index j)) j)
-    where
-      valid : v ≡ validate (t .grid)
-      valid = L ∙ ap (λ (x : Float). validate (gridOf x (t .grid .blocks) (t .grid .rootLinks) (t .grid .rootValues) (t .grid .upperLinks) (t .grid .upperValues) (t .grid .lowerLinks) (t .grid .lowerValues) (t .grid .leafValues))) B
+-- the tests of the values, the map and the index box, joined
+pub tested : (t : Accepted) {background : Float} {m : Medium} {v k i g f : ℕ} → background ≡ t .grid .background → m ≡ t .medium
+    → v ≡ validate (over t background) → k ≡ mapFault m → i ≡ each (indexFault m) → g ≡ (k then i) → f ≡ (v then g) → f ≡ treeFault t
+unfolding treeFault
+tested t {k = k} {i} is are valid map index later all =
+    let mapped : k ≡ mapFault (t .medium) = map ∙ ap mapFault are in
+    let indexed : i ≡ each (indexFault (t .medium)) = index ∙ ap (λ (x : Medium). each (indexFault x)) are in
+    all ∙ (λ j. (valid ∙ ap (λ (x : Float). validate (over t x)) is) j then (later ∙ (λ j. mapped j then indexed j)) j)
 
-      mapped : k ≡ mapFault (t .medium)
-      mapped = K ∙ ap mapFault A
+pub scalar : (density : Bool) (t : Accepted) {f : ℕ} → f ≡ treeFault t → not density ≡ true → f ≡ gridFault density t
+scalar false t tree e = tree ∙ sym (then-none (treeFault t))
+scalar true t tree e = absurd (differ (sym e))
 
-      index : i ≡ each (indexFault (t .medium))
-      index = I ∙ ap (λ (x : Medium). each (indexFault x)) A
-
-  pub scalar : (density : Bool) → not density ≡ true → f ≡ gridFault density t
-  scalar false e = tested ∙ sym (then-none (treeFault t))
-  scalar true e = absurd (differ (sym e))
-
-  pub dense : (density : Bool) → not density ≡ false → (d n : ℕ) → d ≡ densityFault (gridOf background [] [] (t .grid .rootValues) [] (t .grid .upperValues) [] (t .grid .lowerValues) (t .grid .leafValues)) → n ≡ (f then d) → n ≡ gridFault density t
-  dense false e d n D N = absurd (differ e)
-  dense true e d n D N = N ∙ (λ j. tested j then (D ∙ ap (λ (x : Float). densityFault (gridOf x [] [] (t .grid .rootValues) [] (t .grid .upperValues) [] (t .grid .lowerValues) (t .grid .leafValues))) B ∙ sym (density-values t)) j)
+pub dense : (density : Bool) (t : Accepted) {background : Float} {f d n : ℕ} → f ≡ treeFault t → not density ≡ false → background ≡ t .grid .background
+    → d ≡ densityFault (values t background) → n ≡ (f then d) → n ≡ gridFault density t
+dense false t tree e is negative all = absurd (differ e)
+dense true t tree e is negative all =
+    all ∙ (λ j. tree j then (negative ∙ ap (λ (x : Float). densityFault (values t x)) is ∙ sym (density-values t)) j)

@@ -1,9 +1,9 @@
 -- The used parts of the tables are the tables of the tree that was read. Assumes nothing.
-use mathlib.Core.Path.{_≡_, refl, sym, ap, _∙_, subst}
-use mathlib.Core.List.{List, [], _∷_, _++_, map, append-nil}
+use mathlib.Core.Path.{_≡_, sym, ap, _∙_, subst}
+use mathlib.Core.List.{List, [], _++_, map, append-nil}
 use Prim.Native.Nat.{ℕ, _+_, _*_, _/_, _≤_}
 use native.Mathlib.Omega.{arith}
-use lib.IntN.{ℤ, pos}
+use lib.IntN.{pos}
 use lib.ListN.{length, take, length-map}
 use lib.Ieee.{Float}
 use Rattle.refusals.specs.Results.{ok}
@@ -12,16 +12,16 @@ use Rattle.lent.specs.Padded.{padded}
 use Rattle.lent.specs.PaddedLaws.{padded-take, padded-fits}
 use Rattle.layout.specs.Bytes.{f32At}
 use Rattle.sparse_grid.specs.declared.Entry.{Entry}
-use Rattle.nanovdb.specs.Nodes.{State}
 use Rattle.nanovdb.specs.Tree.{Root, Roots}
 use Rattle.nanovdb.specs.Decode.{linkOf, valueOf, blocksOf, tablesOf, mediumAt, mediumOf, rootPlace}
-use Rattle.nanovdb.specs.Lent.{Answer, Lent, Tables, tables, lengths, answerOf, leftOf}
+use Rattle.nanovdb.specs.Lent.{tables, lengths, answerOf, leftOf}
 use Rattle.nanovdb.specs.HeldNodes.{Inv2}
 use Rattle.decode.specs.Inner.Filled.{Tabs, Holds}
 use Rattle.decode.specs.Inner.Rooted.{RootTabs, RootsHeld}
 use Rattle.decode.specs.Inner.GridRead.{usedIn, Used, allTables, workless, answerIn}
 use Rattle.decode.specs.declared.tree.Tree as Tree
 use Rattle.decode.specs.declared.tree.TreeRead.the-variants.{Read}
+use Rattle.decode.proofs.tiles.Roots.{blocks-length}
 use Rattle.decode.proofs.grid.Ways.{acceptedOf}
 
 -- the first n places of a table that holds n things are those
@@ -31,16 +31,18 @@ part t z l n e h = ap (take n) e ∙ ap (λ (k : ℕ). take k (padded (length t)
 fits : {A : Type 0} (t : List A) (z : A) (l : List A) (n : ℕ) → t ≡ padded (length t) z l → length l ≡ n → n ≤ length t
 fits t z l n e h = subst (λ (k : ℕ). k ≤ length t) h (padded-fits t z l e)
 
-blocks-length : (rs : List Root) → length (blocksOf rs) ≡ 3 * length rs
-unfolding blocksOf
-blocks-length [] = refl
-blocks-length (r ∷ rs) = omega (arith, blocks-length rs)
-
 -- no node is open
 shut : {A : Type 0} (t : List A) (z : A) (f : Entry → A) (d : List Entry) → t ≡ padded (length t) z (map f (d ++ [])) → t ≡ padded (length t) z (map f d)
 shut t z f d e = e ∙ ap (λ (l : List Entry). padded (length t) z (map f l)) (append-nil d)
 
-module _ (b : List ℕ) (x : Tree.Tree) (u : Tabs) (v : RootTabs) (r : Roots) (holds : Holds u (x .nodes) (r .state) [] []) (roots : RootsHeld v (r .roots)) (place : x .root ≡ rootPlace b) (inside : x .root + 28 ≤ length b) (size : length (r .roots) ≡ x .roots) (full : Inv2 b (r .state)) where
+abbrev linkIn : Root → ℕ
+linkIn r = linkOf (r .entry)
+
+abbrev valueIn : Root → Float
+valueIn r = valueOf (r .entry)
+
+module _ (b : List ℕ) (x : Tree.Tree) (u : Tabs) (v : RootTabs) (r : Roots) (holds : Holds u (x .nodes) (r .state) [] []) (roots : RootsHeld v (r .roots))
+    (place : x .root ≡ rootPlace b) (inside : x .root + 28 ≤ length b) (size : length (r .roots) ≡ x .roots) (full : Inv2 b (r .state)) where
   blocks-size : length (blocksOf (r .roots)) ≡ 3 * x .roots
   blocks-size = omega (arith, blocks-length (r .roots), size)
 
@@ -68,12 +70,13 @@ module _ (b : List ℕ) (x : Tree.Tree) (u : Tabs) (v : RootTabs) (r : Roots) (h
   lowerValues : u .lowerValues ≡ padded (length (u .lowerValues)) +0 (map valueOf (r .state .lower))
   lowerValues = shut (u .lowerValues) +0 valueOf (r .state .lower) (holds .lowerValues)
 
-  pub used : Used (length b) x (length (v .blocks)) (length (v .links)) (length (v .values)) (length (u .upperLinks)) (length (u .upperValues)) (length (u .lowerLinks)) (length (u .lowerValues)) (length (u .leafValues))
+  pub used : Used (length b) x (length (v .blocks)) (length (v .links)) (length (v .values)) (length (u .upperLinks)) (length (u .upperValues))
+      (length (u .lowerLinks)) (length (u .lowerValues)) (length (u .leafValues))
   used = record {
     place = inside;
     blocks-in = fits (v .blocks) (pos 0) (blocksOf (r .roots)) (3 * x .roots) (roots .blocks) blocks-size;
-    rootLinks-in = fits (v .links) 0 (map (λ (r : Root). linkOf (r .entry)) (r .roots)) (x .roots) (roots .links) (root-size (λ (r : Root). linkOf (r .entry)));
-    rootValues-in = fits (v .values) +0 (map (λ (r : Root). valueOf (r .entry)) (r .roots)) (x .roots) (roots .values) (root-size (λ (r : Root). valueOf (r .entry)));
+    rootLinks-in = fits (v .links) 0 (map linkIn (r .roots)) (x .roots) (roots .links) (root-size linkIn);
+    rootValues-in = fits (v .values) +0 (map valueIn (r .roots)) (x .roots) (roots .values) (root-size valueIn);
     upperLinks-in = fits (u .upperLinks) 0 (map linkOf (r .state .upper)) (32768 * x .nodes .uppers) upperLinks (upper-size linkOf);
     upperValues-in = fits (u .upperValues) +0 (map valueOf (r .state .upper)) (32768 * x .nodes .uppers) upperValues (upper-size valueOf);
     lowerLinks-in = fits (u .lowerLinks) 0 (map linkOf (r .state .lower)) (4096 * x .nodes .lowers) lowerLinks (lower-size linkOf);
@@ -88,8 +91,8 @@ module _ (b : List ℕ) (x : Tree.Tree) (u : Tabs) (v : RootTabs) (r : Roots) (h
     grid = record {
       background = f32At b (place i + 28);
       blocks = part (v .blocks) (pos 0) (blocksOf (r .roots)) (3 * x .roots) (roots .blocks) blocks-size i;
-      rootLinks = part (v .links) 0 (map (λ (r : Root). linkOf (r .entry)) (r .roots)) (x .roots) (roots .links) (root-size (λ (r : Root). linkOf (r .entry))) i;
-      rootValues = part (v .values) +0 (map (λ (r : Root). valueOf (r .entry)) (r .roots)) (x .roots) (roots .values) (root-size (λ (r : Root). valueOf (r .entry))) i;
+      rootLinks = part (v .links) 0 (map linkIn (r .roots)) (x .roots) (roots .links) (root-size linkIn) i;
+      rootValues = part (v .values) +0 (map valueIn (r .roots)) (x .roots) (roots .values) (root-size valueIn) i;
       upperLinks = part (u .upperLinks) 0 (map linkOf (r .state .upper)) (32768 * x .nodes .uppers) upperLinks (upper-size linkOf) i;
       upperValues = part (u .upperValues) +0 (map valueOf (r .state .upper)) (32768 * x .nodes .uppers) upperValues (upper-size valueOf) i;
       lowerLinks = part (u .lowerLinks) 0 (map linkOf (r .state .lower)) (4096 * x .nodes .lowers) lowerLinks (lower-size linkOf) i;
@@ -119,7 +122,7 @@ module _ (b : List ℕ) (x : Tree.Tree) (u : Tabs) (v : RootTabs) (r : Roots) (h
   unfolding tablesOf mediumOf
   answers = λ i. record {
     number = 0;
-    roots = sym (root-size (λ (r : Root). linkOf (r .entry))) i;
+    roots = sym (root-size linkIn) i;
     upper = whole (x .nodes .uppers) _ 32768 (upper-size linkOf) upper-count i;
     lower = whole (x .nodes .lowers) _ 4096 (lower-size linkOf) lower-count i;
     leaf = whole (x .nodes .leaves) _ 512 leaf-size leaf-count i;

@@ -73,7 +73,9 @@ module _ (b : List ℕ) (p : Places) where
           (λ e. absurd (h (then-next (treeFault (acceptedOf b r)) 0 e)))
           (λ d. faulty d ∙ ap refused (sym (then-stop (treeFault (acceptedOf b r)) 0 d)))
       of-fault true h = split (treeFault (acceptedOf b r))
-          (λ e. after (clean e) ∙ passing-stop (densityFault (tablesOf b r)) (ok (acceptedOf b r)) (λ z. h (then-next (treeFault (acceptedOf b r)) (densityFault (tablesOf b r)) e ∙ z)) ∙ ap refused (sym (then-next (treeFault (acceptedOf b r)) (densityFault (tablesOf b r)) e)))
+          (λ e.
+          let next = then-next (treeFault (acceptedOf b r)) (densityFault (tablesOf b r)) e in
+          after (clean e) ∙ passing-stop (densityFault (tablesOf b r)) (ok (acceptedOf b r)) (λ z. h (next ∙ z)) ∙ ap refused (sym next))
           (λ d. after (faulty d) ∙ ap refused (sym (then-stop (treeFault (acceptedOf b r)) (densityFault (tablesOf b r)) d)))
 
       pub of-accepted : (density : Bool) → gridFault density (acceptedOf b r) ≡ 0 → decodeOf density b p ≡ ok (acceptedOf b r)

@@ -1,15 +1,17 @@
--- Tables of zeros: what the reader asks of them, and that they keep their lengths. Assumes nothing.
+-- Tables of zeros: what the reader asks of them, and what `decode` then answers. Assumes nothing.
 use mathlib.Core.Path.{_≡_, sym, ap, _∙_}
 use Prim.Native.Nat.{ℕ}
 use mathlib.Core.List.{List}
-use lib.IntN.{ℤ, pos}
+use mathlib.Core.Bool.{Bool}
+use lib.IntN.{pos}
 use lib.ListN.{length, replicate, length-replicate}
-use lib.Ieee.{Float}
 use Rattle.float.specs.Zero.{+0}
-use Rattle.nanovdb.specs.Lent.{Lent, Tables, tables, lengths, zeros}
-use Rattle.decode.specs.Inner.Filled.{tabs}
-use Rattle.decode.specs.Inner.Rooted.{rootTabs}
+use Rattle.nanovdb.specs.Lent.{Answer, Lent, Tables, lengths, zeros, decodeInto, answerOf, leftOf}
+use Rattle.decode.specs.Inner.Filled.{Tabs, tabs}
+use Rattle.decode.specs.Inner.Rooted.{RootTabs, rootTabs}
 use Rattle.decode.specs.Inner.TreeRead.{Zeroed}
+use Rattle.decode.specs.Inner.GridRead.{decodeOf, answerIn, leftIn, GridOut}
+use Rattle.decode.specs.declared.tree.TreeRead.{TreeRead}
 
 -- a table of n zeros is as many zeros as it is long
 own : {A : Type 0} (t : List A) (n : ℕ) (z : A) → t ≡ replicate n z → t ≡ replicate (length t) z
@@ -28,18 +30,31 @@ lengths-zeros l = λ i. record {
   work = length-replicate {A = ℕ} (l .work) 0 i;
 }
 
-module _ (blocks : List ℤ) (rl : List ℕ) (rv : List Float) (ul : List ℕ) (uv : List Float) (ll : List ℕ) (lv lf : List Float) (w : List ℕ) (l : Lent) (e : tables blocks rl rv ul uv ll lv lf w ≡ zeros l) where
-  pub zeroed : Zeroed (tabs w ul uv ll lv lf) (rootTabs blocks rl rv)
+-- ---- the tables by name: those of the nodes, and those of the roots
+abbrev pub nodesOf : Tables → Tabs
+nodesOf t = tabs (t .work) (t .upperLinks) (t .upperValues) (t .lowerLinks) (t .lowerValues) (t .leafValues)
+
+abbrev pub rootsOf : Tables → RootTabs
+rootsOf t = rootTabs (t .blocks) (t .rootLinks) (t .rootValues)
+
+module _ (t : Tables) (l : Lent) (e : t ≡ zeros l) where
+  pub zeroed : Zeroed (nodesOf t) (rootsOf t)
   zeroed = record {
-    blocks = own blocks (l .blocks) (pos 0) (ap (λ (x : Tables). x .blocks) e);
-    links = own rl (l .rootLinks) 0 (ap (λ (x : Tables). x .rootLinks) e);
-    values = own rv (l .rootValues) +0 (ap (λ (x : Tables). x .rootValues) e);
-    upperLinks = own ul (l .upperLinks) 0 (ap (λ (x : Tables). x .upperLinks) e);
-    upperValues = own uv (l .upperValues) +0 (ap (λ (x : Tables). x .upperValues) e);
-    lowerLinks = own ll (l .lowerLinks) 0 (ap (λ (x : Tables). x .lowerLinks) e);
-    lowerValues = own lv (l .lowerValues) +0 (ap (λ (x : Tables). x .lowerValues) e);
-    leafValues = own lf (l .leafValues) +0 (ap (λ (x : Tables). x .leafValues) e);
+    blocks = own (t .blocks) (l .blocks) (pos 0) (ap (λ (x : Tables). x .blocks) e);
+    links = own (t .rootLinks) (l .rootLinks) 0 (ap (λ (x : Tables). x .rootLinks) e);
+    values = own (t .rootValues) (l .rootValues) +0 (ap (λ (x : Tables). x .rootValues) e);
+    upperLinks = own (t .upperLinks) (l .upperLinks) 0 (ap (λ (x : Tables). x .upperLinks) e);
+    upperValues = own (t .upperValues) (l .upperValues) +0 (ap (λ (x : Tables). x .upperValues) e);
+    lowerLinks = own (t .lowerLinks) (l .lowerLinks) 0 (ap (λ (x : Tables). x .lowerLinks) e);
+    lowerValues = own (t .lowerValues) (l .lowerValues) +0 (ap (λ (x : Tables). x .lowerValues) e);
+    leafValues = own (t .leafValues) (l .leafValues) +0 (ap (λ (x : Tables). x .leafValues) e);
   }
 
-  pub lengths-kept : lengths (tables blocks rl rv ul uv ll lv lf w) ≡ l
-  lengths-kept = ap lengths e ∙ lengths-zeros l
+  -- a grid read from zeros, once its answer is given and what it leaves is left
+  pub decoded : {density : Bool} {b : List ℕ} {u v : Tables} {r : TreeRead} {a : Answer} → GridOut density b t u r → a ≡ answerIn b r → v ≡ leftIn u r
+      → (a ≡ answerOf (decodeInto (decodeOf density) b l)) × (v ≡ leftOf l (decodeInto (decodeOf density) b l))
+  decoded {density} {b} out answer left =
+      let same : lengths t ≡ l = ap lengths e ∙ lengths-zeros l in (
+        answer ∙ out .says ∙ ap (λ (k : Lent). answerOf (decodeInto (decodeOf density) b k)) same,
+        left ∙ out .left ∙ ap (λ (k : Lent). leftOf k (decodeInto (decodeOf density) b k)) same,
+      )

@@ -14,8 +14,10 @@ use Rattle.nanovdb.specs.Decode.{boundAt, mediumAt, mediumOf, headerPasses, byt
 
 pub medium-is : (b : List ℕ) (root : ℕ) {l₀ l₁ l₂ h₀ h₁ h₂ m₀ m₁ m₂ m₃ m₄ m₅ m₆ m₇ m₈ t₀ t₁ t₂ : Float} {i₀ i₁ i₂ j₀ j₁ j₂ : ℤ}
     → l₀ ≡ boundAt b 560 → l₁ ≡ boundAt b 568 → l₂ ≡ boundAt b 576 → h₀ ≡ boundAt b 584 → h₁ ≡ boundAt b 592 → h₂ ≡ boundAt b 600
-    → i₀ ≡ i32At b root → i₁ ≡ i32At b (root + 4) → i₂ ≡ i32At b (root + 8) → j₀ ≡ i32At b (root + 12) → j₁ ≡ i32At b (root + 16) → j₂ ≡ i32At b (root + 20)
-    → m₀ ≡ f32At b 332 → m₁ ≡ f32At b 336 → m₂ ≡ f32At b 340 → m₃ ≡ f32At b 344 → m₄ ≡ f32At b 348 → m₅ ≡ f32At b 352 → m₆ ≡ f32At b 356 → m₇ ≡ f32At b 360 → m₈ ≡ f32At b 364
+    → i₀ ≡ i32At b root → i₁ ≡ i32At b (root + 4) → i₂ ≡ i32At b (root + 8)
+    → j₀ ≡ i32At b (root + 12) → j₁ ≡ i32At b (root + 16) → j₂ ≡ i32At b (root + 20)
+    → m₀ ≡ f32At b 332 → m₁ ≡ f32At b 336 → m₂ ≡ f32At b 340 → m₃ ≡ f32At b 344 → m₄ ≡ f32At b 348 → m₅ ≡ f32At b 352
+    → m₆ ≡ f32At b 356 → m₇ ≡ f32At b 360 → m₈ ≡ f32At b 364
     → t₀ ≡ f32At b 368 → t₁ ≡ f32At b 372 → t₂ ≡ f32At b 376
     → _≡_ {A = Medium} (record {
       low = record { x = l₀; y = l₁; z = l₂ };
@@ -46,11 +48,14 @@ module _ (b : List ℕ) where
     fault-short h = sym (rw (lt-ltb (length b) 4294967296 (omega arith), lt-leb 672 (length b) h))
 
     module _ (long : 672 ≤ length b) where
-      pub fault-header : (r : Bool) → r ≡ headerPasses b → r ≡ false → 3 ≡ bytesFault b
+      pub fault-header : {r : Bool} → r ≡ headerPasses b → r ≡ false → 3 ≡ bytesFault b
       unfolding bytesFault
-      fault-header r e f = sym (rw (lt-ltb (length b) 4294967296 (omega arith), le-leb 672 (length b) long, sym e ∙ f))
+      fault-header e f = sym (rw (lt-ltb (length b) 4294967296 (omega arith), le-leb 672 (length b) long, sym e ∙ f))
 
       -- the world box does not depend on where the root stands
-      pub fault-bounds : (r : Bool) (n root : ℕ) (m : Medium) → r ≡ headerPasses b → r ≡ true → m ≡ mediumAt b root → n ≡ each (boundsFault m) → n ≡ bytesFault b
+      pub fault-bounds : {r : Bool} {n : ℕ} {m : Medium} → r ≡ headerPasses b → r ≡ true → (root : ℕ) → m ≡ mediumAt b root
+          → n ≡ each (boundsFault m) → n ≡ bytesFault b
       unfolding bytesFault boundsFault mediumOf mediumAt
-      fault-bounds r n root m e f is faults = faults ∙ ap (λ (x : Medium). each (boundsFault x)) is ∙ sym (rw (lt-ltb (length b) 4294967296 (omega arith), le-leb 672 (length b) long, sym e ∙ f))
+      fault-bounds e f root is faults =
+          faults ∙ ap (λ (x : Medium). each (boundsFault x)) is
+          ∙ sym (rw (lt-ltb (length b) 4294967296 (omega arith), le-leb 672 (length b) long, sym e ∙ f))

@@ -1,76 +1,72 @@
 -- `decode::leave` meets its contract: the work table, or every table. Assumes nothing.
-use mathlib.Core.Path.{sym, ap, _∙_}
-use Rattle.nanovdb.specs.Lent.{tables}
-use Rattle.decode.specs.Inner.GridRead.{leftIn}
+use mathlib.Core.Path.{_≡_, sym, ap, _∙_}
+use mathlib.Core.List.{List}
+use Prim.Native.Nat.{ℕ}
 use borrow.Author.Needs.{needs}
+use Rattle.nanovdb.specs.Lent.{Tables, tables, lengths, zeros}
+use Rattle.decode.specs.Inner.GridRead.{leftIn}
 use Rattle.decode.proofs.leave.Statement.{statement}
 use Rattle.decode.proofs.leave.Tie as tie
 
-enum-known-read : tie.Need-enum-known-read
-enum-known-read c = search needs
+-- ---- places on the way to a place: the two arms, and `clear`
+abbrev at-start : tie.After-read → tie.Start
+at-start c = c .before .before .before .before .before .before .before .before .before .before
 
-zero-u64-requires : tie.Need-zero-u64-requires
-zero-u64-requires c κs = search needs
+abbrev at-start₂ : tie.After-read2 → tie.Start
+at-start₂ c = c .before .before .before .before .before .before .before .before .before .before
 
-enum-known-read-2 : tie.Need-enum-known-read-2
-enum-known-read-2 c = search needs
+abbrev at-read : tie.After-zero-u64 → tie.After-read
+at-read c = c .before .before .before
 
-clear-requires : tie.Need-clear-requires
-clear-requires c κs = search needs
+abbrev at-refusal : tie.After-clear → tie.After-read2
+at-refusal c = c .before .before .before .before .before .before .before .before .before .before .before
 
-same-length : tie.Need-same-length
-same-length c = search needs
+abbrev at-clear : tie.After-slice-known17 → tie.After-clear
+at-clear c = c .before .before .before .before .before .before .before .before .before .before .before .before .before .before .before .before .before
 
+-- ---- the tables as they are lent, with other words
+abbrev lent : tie.Start → List ℕ → Tables
+lent c work =
+    let a = c .args in
+    tables (a .blocks .now) (a .root-links .now) (a .root-values .now) (a .upper-links .now) (a .upper-values .now) (a .lower-links .now)
+    (a .lower-values .now) (a .leaf-values .now) work
+
+abbrev cleared : tie.After-clear → Tables
+cleared c =
+    let (blocks, (rl, (rv, (ul, (uv, (ll, (lv, (leaves, (work, _))))))))) = c .clear .last in
+    tables blocks rl rv ul uv ll lv leaves work
+
+zeros-are : (c : tie.After-clear) → let s = at-start₂ (at-refusal c) in cleared c ≡ zeros (lengths (lent s (s .args .work .now)))
+zeros-are c = c .clear .ensures
+
+-- ---- the ways out
 returns : tie.Need-returns
-returns c = (λ i. record { blocks = c .before .before .before .before .before .before .before .before .before .before .before .before .before .before .before .args .blocks .now; rootLinks = c .before .before .before .before .before .before .before .before .before .before .before .before .before .before .before .args .root-links .now; rootValues = c .before .before .before .before .before .before .before .before .before .before .before .before .before .before .before .args .root-values .now; upperLinks = c .before .before .before .before .before .before .before .before .before .before .before .before .before .before .before .args .upper-links .now; upperValues = c .before .before .before .before .before .before .before .before .before .before .before .before .before .before .before .args .upper-values .now; lowerLinks = c .before .before .before .before .before .before .before .before .before .before .before .before .before .before .before .args .lower-links .now; lowerValues = c .before .before .before .before .before .before .before .before .before .before .before .before .before .before .before .args .lower-values .now; leafValues = c .before .before .before .before .before .before .before .before .before .before .before .before .before .before .before .args .leaf-values .now; work = (c .before .before .zero-u64 .ensures) i }) ∙ ap (leftIn (tables (c .before .before .before .before .before .before .before .before .before .before .before .before .before .before .before .args .blocks .now) (c .before .before .before .before .before .before .before .before .before .before .before .before .before .before .before .args .root-links .now) (c .before .before .before .before .before .before .before .before .before .before .before .before .before .before .before .args .root-values .now) (c .before .before .before .before .before .before .before .before .before .before .before .before .before .before .before .args .upper-links .now) (c .before .before .before .before .before .before .before .before .before .before .before .before .before .before .before .args .upper-values .now) (c .before .before .before .before .before .before .before .before .before .before .before .before .before .before .before .args .lower-links .now) (c .before .before .before .before .before .before .before .before .before .before .before .before .before .before .before .args .lower-values .now) (c .before .before .before .before .before .before .before .before .before .before .before .before .before .before .before .args .leaf-values .now) (c .before .before .before .before .before .before .before .before .before .before .before .before .before .before .before .args .work .now))) (sym (c .before .before .before .before .before .read .given .1))
-
-same-length-2 : tie.Need-same-length-2
-same-length-2 c = search needs
-
-same-length-3 : tie.Need-same-length-3
-same-length-3 c = search needs
-
-same-length-4 : tie.Need-same-length-4
-same-length-4 c = search needs
-
-same-length-5 : tie.Need-same-length-5
-same-length-5 c = search needs
-
-same-length-6 : tie.Need-same-length-6
-same-length-6 c = search needs
-
-same-length-7 : tie.Need-same-length-7
-same-length-7 c = search needs
-
-same-length-8 : tie.Need-same-length-8
-same-length-8 c = search needs
-
-same-length-9 : tie.Need-same-length-9
-same-length-9 c = search needs
-
-same-length-10 : tie.Need-same-length-10
-same-length-10 c = search needs
+returns c =
+    let z = c .before .before in let r = at-read z in let s = at-start r in
+    ap (lent s) (z .zero-u64 .ensures) ∙ ap (leftIn (lent s (s .args .work .now))) (sym (r .read .given .1))
 
 returns-2 : tie.Need-returns-2
-returns-2 c = c .before .before .before .before .before .before .before .before .before .before .before .before .before .before .before .before .before .clear .ensures ∙ ap (leftIn (tables (c .before .before .before .before .before .before .before .before .before .before .before .before .before .before .before .before .before .before .before .before .before .before .before .before .before .before .before .before .before .before .before .before .before .before .before .before .before .before .args .blocks .now) (c .before .before .before .before .before .before .before .before .before .before .before .before .before .before .before .before .before .before .before .before .before .before .before .before .before .before .before .before .before .before .before .before .before .before .before .before .before .before .args .root-links .now) (c .before .before .before .before .before .before .before .before .before .before .before .before .before .before .before .before .before .before .before .before .before .before .before .before .before .before .before .before .before .before .before .before .before .before .before .before .before .before .args .root-values .now) (c .before .before .before .before .before .before .before .before .before .before .before .before .before .before .before .before .before .before .before .before .before .before .before .before .before .before .before .before .before .before .before .before .before .before .before .before .before .before .args .upper-links .now) (c .before .before .before .before .before .before .before .before .before .before .before .before .before .before .before .before .before .before .before .before .before .before .before .before .before .before .before .before .before .before .before .before .before .before .before .before .before .before .args .upper-values .now) (c .before .before .before .before .before .before .before .before .before .before .before .before .before .before .before .before .before .before .before .before .before .before .before .before .before .before .before .before .before .before .before .before .before .before .before .before .before .before .args .lower-links .now) (c .before .before .before .before .before .before .before .before .before .before .before .before .before .before .before .before .before .before .before .before .before .before .before .before .before .before .before .before .before .before .before .before .before .before .before .before .before .before .args .lower-values .now) (c .before .before .before .before .before .before .before .before .before .before .before .before .before .before .before .before .before .before .before .before .before .before .before .before .before .before .before .before .before .before .before .before .before .before .before .before .before .before .args .leaf-values .now) (c .before .before .before .before .before .before .before .before .before .before .before .before .before .before .before .before .before .before .before .before .before .before .before .before .before .before .before .before .before .before .before .before .before .before .before .before .before .before .args .work .now))) (sym (c .before .before .before .before .before .before .before .before .before .before .before .before .before .before .before .before .before .before .before .before .before .before .before .before .before .before .before .before .read2 .given .1))
+returns-2 c =
+    let z = at-clear c in let r = at-refusal z in let s = at-start₂ r in
+    zeros-are z ∙ ap (leftIn (lent s (s .args .work .now))) (sym (r .read2 .given .1))
 
 pub leave-spec : {M : Type 1} → statement M
 leave-spec =
     tie.close
     (tie.spec
-    enum-known-read
-    zero-u64-requires
-    enum-known-read-2
-    clear-requires
-    same-length
+    (λ c. search needs)
+    (λ c κs. search needs)
+    (λ c. search needs)
+    (λ c κs. search needs)
+    (λ c. search needs)
     returns
-    same-length-2
-    same-length-3
-    same-length-4
-    same-length-5
-    same-length-6
-    same-length-7
-    same-length-8
-    same-length-9
-    same-length-10
+    (λ c. search needs)
+    (λ c. search needs)
+    (λ c. search needs)
+    (λ c. search needs)
+    (λ c. search needs)
+    (λ c. search needs)
+    (λ c. search needs)
+    (λ c. search needs)
+    (λ c. search needs)
     returns-2)

@@ -10,13 +10,15 @@ use Rattle.refusals.specs.ResultLaws.{run-more, run-stop}
 use Rattle.layout.specs.Bytes.{u64At, i64At, f32At, maskBit}
 use Rattle.sparse_grid.specs.declared.Entry.the-variants.{Child, Tile}
 use Rattle.nanovdb.specs.Spans.{at, nowhere, seen}
-use Rattle.nanovdb.specs.Nodes.{Places, State, Read, Slots, Reader, claim, withSpan, childTarget, entriesOf, maskOf, tableOf, nodesAt, placesAt, slotRead, slotsRead, placed, leafPlaced, opened, again, node}
+use Rattle.nanovdb.specs.Nodes.{Places, State, Read, Slots, Reader, claim, withSpan, childTarget, entriesOf, maskOf, tableOf, nodesAt, placesAt}
+use Rattle.nanovdb.specs.Nodes.{slotRead, slotsRead, placed, leafPlaced, opened, again, node}
 use Rattle.nanovdb.specs.HeldNodes.{spanOf, opening}
 
 -- ---- one slot
 
 module _ (b : List ℕ) (child : Reader) (level source i : ℕ) (now : Slots) where
-  pub slot-tile : (v : Float) → maskBit b (source + maskOf level) i ≡ 0 → v ≡ f32At b (source + tableOf level + 8 * i) → slotRead b child level source i now ≡ ok (record { entries = now .entries ++ (Tile v ∷ []); state = now .state })
+  pub slot-tile : (v : Float) → maskBit b (source + maskOf level) i ≡ 0 → v ≡ f32At b (source + tableOf level + 8 * i)
+      → slotRead b child level source i now ≡ ok (record { entries = now .entries ++ (Tile v ∷ []); state = now .state })
   slot-tile v clear e = rw (eq-eqb (maskBit b (source + maskOf level) i) 0 clear, e)
 
   module _ (set : maskBit b (source + maskOf level) i ≡ 0 → ⊥) where
@@ -27,10 +29,12 @@ module _ (b : List ℕ) (child : Reader) (level source i : ℕ) (now : Slots) wh
       pub slot-off : (e : ℕ) → refused e ≡ childTarget source (i64At b (source + tableOf level + 8 * i)) → slotRead b child level source i now ≡ refused e
       slot-off e t = rw (ne-eqb (maskBit b (source + maskOf level) i) 0 set, ne-eqb (u64At b (source + tableOf level + 8 * i)) 0 some, sym t)
 
-      pub slot-refused : (to e : ℕ) → ok to ≡ childTarget source (i64At b (source + tableOf level + 8 * i)) → child to (now .state) ≡ refused e → slotRead b child level source i now ≡ refused e
+      pub slot-refused : (to e : ℕ) → ok to ≡ childTarget source (i64At b (source + tableOf level + 8 * i)) → child to (now .state) ≡ refused e
+          → slotRead b child level source i now ≡ refused e
       slot-refused to e t c = rw (ne-eqb (maskBit b (source + maskOf level) i) 0 set, ne-eqb (u64At b (source + tableOf level + 8 * i)) 0 some, sym t, c)
 
-      pub slot-child : (to : ℕ) (r : Read) → ok to ≡ childTarget source (i64At b (source + tableOf level + 8 * i)) → child to (now .state) ≡ ok r → slotRead b child level source i now ≡ ok (record { entries = now .entries ++ (Child (r .number) ∷ []); state = r .state })
+      pub slot-child : (to : ℕ) (r : Read) → ok to ≡ childTarget source (i64At b (source + tableOf level + 8 * i)) → child to (now .state) ≡ ok r
+          → slotRead b child level source i now ≡ ok (record { entries = now .entries ++ (Child (r .number) ∷ []); state = r .state })
       slot-child to r t c = rw (ne-eqb (maskBit b (source + maskOf level) i) 0 set, ne-eqb (u64At b (source + tableOf level + 8 * i)) 0 some, sym t, c)
 
 -- ---- the slots of a node
@@ -40,10 +44,12 @@ module _ (b : List ℕ) (child : Reader) (level source : ℕ) (t : State) where
   unfolding slotsRead
   next n = refl
 
-  pub slots-more : (i : ℕ) (s s' : Slots) → slotsRead b child level source i t ≡ ok s → slotRead b child level source i s ≡ ok s' → slotsRead b child level source (i + 1) t ≡ ok s'
+  pub slots-more : (i : ℕ) (s s' : Slots) → slotsRead b child level source i t ≡ ok s → slotRead b child level source i s ≡ ok s'
+      → slotsRead b child level source (i + 1) t ≡ ok s'
   slots-more = run-more (λ (n : ℕ). slotsRead b child level source n t) (slotRead b child level source) next
 
-  slots-stop : (i n e : ℕ) (s : Slots) → slotsRead b child level source i t ≡ ok s → slotRead b child level source i s ≡ refused e → i < n → slotsRead b child level source n t ≡ refused e
+  slots-stop : (i n e : ℕ) (s : Slots) → slotsRead b child level source i t ≡ ok s → slotRead b child level source i s ≡ refused e → i < n
+      → slotsRead b child level source n t ≡ refused e
   slots-stop = run-stop (λ (n : ℕ). slotsRead b child level source n t) (slotRead b child level source) next
 
 -- ---- the node
@@ -73,27 +79,38 @@ module _ (level source : ℕ) (b : List ℕ) (p : Places) (d : State) where
       pub node-full : placesAt p level ≤ nodesAt d level → node level b p source d ≡ refused 9
       node-full h = node-is ∙ rw (new, claimed, le-ltb (nodesAt d level) (placesAt p level) h)
 
-      filled : nodesAt d level < placesAt p level → node level b p source d ≡ bind (filling level b p source (opening level source d)) (λ (v : State). ok (record { number = nodesAt d level; state = v }))
+      -- the node's number beside the state that it gives
+      abbrev numbered : State → Result Read
+      numbered v = ok (record { number = nodesAt d level; state = v })
+
+      filled : nodesAt d level < placesAt p level → node level b p source d ≡ bind (filling level b p source (opening level source d)) numbered
       filled h = node-is ∙ rw (new, claimed, lt-ltb (nodesAt d level) (placesAt p level) h)
 
       module _ (room : nodesAt d level < placesAt p level) where
         pub node-leaf : level ≡ 0 → node level b p source d ≡ ok (record { number = nodesAt d level; state = leafPlaced b source (opening level source d) })
-        node-leaf e = filled room ∙ ap (λ (r : Result State). bind r (λ (v : State). ok (record { number = nodesAt d level; state = v }))) (leaf level e)
+        node-leaf e = filled room ∙ ap (λ (r : Result State). bind r numbered) (leaf level e)
           where
             leaf : (level : ℕ) → level ≡ 0 → filling level b p source (opening level source d) ≡ ok (leafPlaced b source (opening level source d))
             leaf zero e = refl
             leaf (suc l) e = absurd (omega arith)
 
-        slots : (l : ℕ) → level ≡ suc l → filling level b p source (opening level source d) ≡ bind (slotsRead b (node l b p) level source (entriesOf level) (opening level source d)) (λ (s : Slots). ok (placed level s))
-        slots l e = subst (λ (m : ℕ). filling m b p source (opening m source d) ≡ bind (slotsRead b (node l b p) m source (entriesOf m) (opening m source d)) (λ (s : Slots). ok (placed m s))) (sym e) refl
+        slots : (l : ℕ) → level ≡ suc l → filling level b p source (opening level source d)
+            ≡ bind (slotsRead b (node l b p) level source (entriesOf level) (opening level source d)) (λ (s : Slots). ok (placed level s))
+        slots l e =
+            subst (λ (m : ℕ). filling m b p source (opening m source d)
+            ≡ bind (slotsRead b (node l b p) m source (entriesOf m) (opening m source d)) (λ (s : Slots). ok (placed m s)))
+            (sym e) refl
 
         module _ (l : ℕ) (is : level ≡ suc l) where
-          pub node-broke : (i e : ℕ) (s : Slots) → slotsRead b (node l b p) level source i (opening level source d) ≡ ok s → slotRead b (node l b p) level source i s ≡ refused e → i < entriesOf level → node level b p source d ≡ refused e
+          pub node-broke : (i e : ℕ) (s : Slots) → slotsRead b (node l b p) level source i (opening level source d) ≡ ok s
+              → slotRead b (node l b p) level source i s ≡ refused e → i < entriesOf level → node level b p source d ≡ refused e
           node-broke i e s before stop h =
-              filled room ∙ ap (λ (r : Result State). bind r (λ (v : State). ok (record { number = nodesAt d level; state = v })))
-              (slots l is ∙ ap (λ (r : Result Slots). bind r (λ (s : Slots). ok (placed level s))) (slots-stop b (node l b p) level source (opening level source d) i (entriesOf level) e s before stop h))
+              let stopped = slots-stop b (node l b p) level source (opening level source d) i (entriesOf level) e s before stop h in
+              filled room ∙ ap (λ (r : Result State). bind r numbered)
+              (slots l is ∙ ap (λ (r : Result Slots). bind r (λ (s : Slots). ok (placed level s))) stopped)
 
-          pub node-ends : (s : Slots) → slotsRead b (node l b p) level source (entriesOf level) (opening level source d) ≡ ok s → node level b p source d ≡ ok (record { number = nodesAt d level; state = placed level s })
+          pub node-ends : (s : Slots) → slotsRead b (node l b p) level source (entriesOf level) (opening level source d) ≡ ok s
+              → node level b p source d ≡ ok (record { number = nodesAt d level; state = placed level s })
           node-ends s e =
-              filled room ∙ ap (λ (r : Result State). bind r (λ (v : State). ok (record { number = nodesAt d level; state = v })))
+              filled room ∙ ap (λ (r : Result State). bind r numbered)
               (slots l is ∙ ap (λ (r : Result Slots). bind r (λ (s : Slots). ok (placed level s))) e)

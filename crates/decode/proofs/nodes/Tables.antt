@@ -11,13 +11,40 @@ use Rattle.lent.specs.Padded.{padded}
 use Rattle.lent.specs.PaddedLaws.{padded-push, padded-zero}
 use Rattle.sparse_grid.specs.declared.Entry.{Entry}
 use Rattle.sparse_grid.specs.declared.Entry.the-variants.{Child, Tile}
+use Rattle.nanovdb.specs.Spans.{Span}
 use Rattle.nanovdb.specs.Nodes.{byLevel, Places, State, Read, Slots, entriesOf, nodesAt, leafValues, leafPlaced, placed, slotsRead, node}
 use Rattle.nanovdb.specs.Decode.{linkOf, valueOf}
 use Rattle.nanovdb.specs.HeldNodes.{spanOf, opening, lower-filled, upper-filled, read-leaf, read-lower}
 use Rattle.decode.specs.Inner.WorkTable.{spans, size, Pushed}
-use Rattle.decode.specs.Inner.Filled.{countIn, grownBy, roomIn, atLower, atUpper, LeafFilled, tabs, Holds, Ready, Shut, lowerOpen, upperOpen, before}
+use Rattle.decode.specs.Inner.Filled.{countIn, grownBy, atLower, atUpper, LeafFilled, Tabs, tabs, Holds, Ready, Shut, lowerOpen, upperOpen, before}
 use Rattle.decode.specs.declared.spans.Spans.{Spans}
 use Rattle.decode.specs.declared.nodes.State as Progress
+use Rattle.decode.proofs.nodes.Fits.{withWork, roomOf}
+
+-- ---- tables and states with a part exchanged
+
+abbrev pub withLinks : Tabs → List ℕ → List ℕ → Tabs
+withLinks t ul ll = tabs (t .work) ul (t .upperValues) ll (t .lowerValues) (t .leafValues)
+
+abbrev pub withValues : Tabs → List Float → List Float → Tabs
+withValues t uv lv = tabs (t .work) (t .upperLinks) uv (t .lowerLinks) lv (t .leafValues)
+
+abbrev pub withLeaves : Tabs → List Float → Tabs
+withLeaves t lf = tabs (t .work) (t .upperLinks) (t .upperValues) (t .lowerLinks) (t .lowerValues) lf
+
+abbrev withEntries : State → List Entry → List Entry → State
+withEntries d us ls = record {
+  spans = d .spans;
+  upperNodes = d .upperNodes;
+  lowerNodes = d .lowerNodes;
+  leafNodes = d .leafNodes;
+  upper = us;
+  lower = ls;
+  leaf = d .leaf;
+}
+
+abbrev spanAs : ℕ → ℕ → ℕ → Span
+spanAs source level number = record { start = source; end = source + byLevel level 2144 33856 270400; level = level; number = number }
 
 -- ---- one entry more in a pair of tables
 
@@ -30,13 +57,24 @@ module _ {B : Type 0} (z : B) (f : Entry → B) (d es : List Entry) (e : Entry) 
   whole = ap (map f) (sym (append-assoc d es (e ∷ []))) ∙ map-snoc f (d ++ es) e
 
   -- stored
-  pub entry-put : (at : ℕ) (v : B) → length (d ++ es) ≡ at → at < length t → v ≡ f e → set t at v ≡ padded (length (set t at v)) z (map f (d ++ (es ++ (e ∷ []))))
+  pub entry-put : (at : ℕ) (v : B) → length (d ++ es) ≡ at → at < length t → v ≡ f e
+      → set t at v ≡ padded (length (set t at v)) z (map f (d ++ (es ++ (e ∷ []))))
   entry-put at v p room is =
       let l = map f (d ++ es) in
       let size : length l ≡ at = length-map (d ++ es) f ∙ p in
       let pushed : set (padded (length t) z l) (length l) v ≡ padded (length t) z (l ++ (v ∷ [])) = padded-push (length t) z l v (omega arith) in
-      ap (λ (x : List B). set x at v) h ∙ ap (λ (k : ℕ). set (padded (length t) z l) k v) (sym size) ∙ pushed
-      ∙ ap (λ (x : B). padded (length t) z (l ++ (x ∷ []))) is ∙ ap (padded (length t) z) (sym whole) ∙ ap (λ (k : ℕ). padded k z (map f (d ++ (es ++ (e ∷ []))))) (sym (length-set t at v))
+      ap (λ (x : List B). set x at v) h
+      ∙ ap (λ (k : ℕ). set (padded (length t) z l) k v) (sym size)
+      ∙ pushed
+      ∙ ap (λ (x : B). padded (length t) z (l ++ (x ∷ []))) is
+      ∙ ap (padded (length t) z) (sym whole)
+      ∙ ap (λ (k : ℕ). padded k z (map f (d ++ (es ++ (e ∷ []))))) (sym (length-set t at v))
+
+  -- the table after the store
+  pub entry-stored : (at : ℕ) (v : B) {u : List B} → u ≡ set t at v → length (d ++ es) ≡ at → at < length t → v ≡ f e
+      → u ≡ padded (length u) z (map f (d ++ (es ++ (e ∷ []))))
+  entry-stored at v stored p room is =
+      subst (λ (l : List B). l ≡ padded (length l) z (map f (d ++ (es ++ (e ∷ []))))) (sym stored) (entry-put at v p room is)
 
   -- a zero, which stands there already
   pub entry-none : (at : ℕ) → length (d ++ es) ≡ at → at < length t → z ≡ f e → t ≡ padded (length t) z (map f (d ++ (es ++ (e ∷ []))))
@@ -46,42 +84,22 @@ module _ {B : Type 0} (z : B) (f : Entry → B) (d es : List Entry) (e : Entry) 
       let same : padded (length t) z (l ++ (z ∷ [])) ≡ padded (length t) z l = padded-zero (length t) z l (omega arith) in
       h ∙ sym same ∙ ap (λ (x : B). padded (length t) z (l ++ (x ∷ []))) is ∙ ap (padded (length t) z) (sym whole)
 
--- ---- a span and a number more
+-- a table that did not change
+left-alone : {B : Type 0} (z : B) (l : List B) {t u : List B} → u ≡ t → t ≡ padded (length t) z l → u ≡ padded (length u) z l
+left-alone z l e h = subst (λ (x : List _). x ≡ padded (length x) z l) (sym e) h
 
-module _ (w w' ul : List ℕ) (uv : List Float) (ll : List ℕ) (lv lf : List Float) (st : Progress.State) (next : Spans) (d : State) (lower upper : List Entry) (source : ℕ) where
-  span-more : (level number : ℕ) → d .spans ≡ spans w (st .spans .count) (st .spans .root) (st .spans .limit) → number ≡ nodesAt d level → Pushed w w' (st .spans) next source level number
-      → d .spans ++ (spanOf level source d ∷ []) ≡ spans w' (next .count) (next .root) (next .limit)
-  unfolding size
-  span-more level number s n p = ap (λ (l : List _). l ++ (spanOf level source d ∷ [])) s ∙ ap (λ (k : ℕ). spans w (st .spans .count) (st .spans .root) (st .spans .limit) ++ (record { start = source; end = source + byLevel level 2144 33856 270400; level = level; number = k } ∷ [])) (sym n) ∙ sym (p .list)
+-- ---- tables beside a state: with other words and counts, with other leaves, and with other entries
 
-  pub holds-opened : (level : ℕ) → Holds (tabs w ul uv ll lv lf) st d lower upper → Pushed w w' (st .spans) next source level (countIn st level) → Holds (tabs w' ul uv ll lv lf) (grownBy level st next) (opening level source d) lower upper
-  holds-opened zero h p = record {
-    spans-are = span-more 0 (st .leaves) (h .spans-are) (sym (h .leaves)) p;
-    uppers = h .uppers;
-    lowers = h .lowers;
-    leaves = ap (λ (k : ℕ). k + 1) (h .leaves);
-    upperLinks = h .upperLinks;
-    upperValues = h .upperValues;
-    lowerLinks = h .lowerLinks;
-    lowerValues = h .lowerValues;
-    leafValues = h .leafValues;
-  }
-  holds-opened (suc zero) h p = record {
-    spans-are = span-more 1 (st .lowers) (h .spans-are) (sym (h .lowers)) p;
-    uppers = h .uppers;
-    lowers = ap (λ (k : ℕ). k + 1) (h .lowers);
-    leaves = h .leaves;
-    upperLinks = h .upperLinks;
-    upperValues = h .upperValues;
-    lowerLinks = h .lowerLinks;
-    lowerValues = h .lowerValues;
-    leafValues = h .leafValues;
-  }
-  holds-opened (suc (suc n)) h p = record {
-    spans-are = span-more (suc (suc n)) (st .uppers) (h .spans-are) (sym (h .uppers)) p;
-    uppers = ap (λ (k : ℕ). k + 1) (h .uppers);
-    lowers = h .lowers;
-    leaves = h .leaves;
+module _ {t : Tabs} {st : Progress.State} {d : State} {lower upper : List Entry} (h : Holds t st d lower upper) where
+  recounted : {w : List ℕ} {s : Progress.State} {l : List Span} {n m k : ℕ} → l ≡ spans w (s .spans .count) (s .spans .root) (s .spans .limit)
+      → n ≡ s .uppers → m ≡ s .lowers → k ≡ s .leaves
+      → Holds (withWork t w) s
+      (record { spans = l; upperNodes = n; lowerNodes = m; leafNodes = k; upper = d .upper; lower = d .lower; leaf = d .leaf }) lower upper
+  recounted e n m k = record {
+    spans-are = e;
+    uppers = n;
+    lowers = m;
+    leaves = k;
     upperLinks = h .upperLinks;
     upperValues = h .upperValues;
     lowerLinks = h .lowerLinks;
@@ -89,11 +107,9 @@ module _ (w w' ul : List ℕ) (uv : List Float) (ll : List ℕ) (lv lf : List Fl
     leafValues = h .leafValues;
   }
 
--- ---- a leaf, and a node whose slots have all been read
-
-module _ (w ul : List ℕ) (uv : List Float) (ll : List ℕ) (lv lf : List Float) (s : Progress.State) where
-  pub holds-leaf : (lf' : List Float) (b : List ℕ) (source base : ℕ) (d : State) (lower upper : List Entry) → Holds (tabs w ul uv ll lv lf) s d lower upper → length (d .leaf) ≡ base → LeafFilled b source base lf lf' → Holds (tabs w ul uv ll lv lf') s (leafPlaced b source d) lower upper
-  holds-leaf lf' b source base d lower upper h size f = record {
+  pub holds-leaf : {lf : List Float} {b : List ℕ} {source base : ℕ} → length (d .leaf) ≡ base → LeafFilled b source base (t .leafValues) lf
+      → Holds (withLeaves t lf) st (leafPlaced b source d) lower upper
+  holds-leaf {lf} {b} {source} size f = record {
     spans-are = h .spans-are;
     uppers = h .uppers;
     lowers = h .lowers;
@@ -105,102 +121,122 @@ module _ (w ul : List ℕ) (uv : List Float) (ll : List ℕ) (lv lf : List Float
     leafValues = f .filled (d .leaf) (h .leafValues) size ∙ ap (λ (k : ℕ). padded k +0 (d .leaf ++ leafValues b source 512)) (sym (f .kept));
   }
 
-  nothing : {B : Type 0} (n : ℕ) (z : B) (f : Entry → B) (d es o : List Entry) → o ≡ [] → padded n z (map f (d ++ es)) ≡ padded n z (map f ((d ++ es) ++ o))
-  nothing n z f d es o e = ap (λ (l : List Entry). padded n z (map f l)) (sym (append-nil (d ++ es)) ∙ ap (λ (l : List Entry). (d ++ es) ++ l) (sym e))
-
-  closed : {B : Type 0} (n : ℕ) (z : B) (f : Entry → B) (d o : List Entry) → o ≡ [] → padded n z (map f (d ++ [])) ≡ padded n z (map f (d ++ o))
-  closed n z f d o e = ap (λ (l : List Entry). padded n z (map f (d ++ l))) (sym e)
-
-  pub holds-placed : (level : ℕ) (now : Slots) (lower upper : List Entry) → 0 < level → Shut level lower upper → Holds (tabs w ul uv ll lv lf) s (now .state) (lowerOpen level (now .entries)) (upperOpen level (now .entries) upper) → Holds (tabs w ul uv ll lv lf) s (placed level now) lower upper
-  holds-placed zero now lower upper p c h = absurd (omega arith)
-  holds-placed (suc zero) now lower upper p c h = record {
+  refilled : {ul : List ℕ} {uv : List Float} {ll : List ℕ} {lv : List Float} {us ls es os : List Entry}
+      → ul ≡ padded (length ul) 0 (map linkOf (us ++ os)) → uv ≡ padded (length uv) +0 (map valueOf (us ++ os))
+      → ll ≡ padded (length ll) 0 (map linkOf (ls ++ es)) → lv ≡ padded (length lv) +0 (map valueOf (ls ++ es))
+      → Holds (tabs (t .work) ul uv ll lv (t .leafValues)) st (withEntries d us ls) es os
+  refilled a b e f = record {
     spans-are = h .spans-are;
     uppers = h .uppers;
     lowers = h .lowers;
     leaves = h .leaves;
-    upperLinks = h .upperLinks;
-    upperValues = h .upperValues;
-    lowerLinks = h .lowerLinks ∙ nothing (length ll) 0 linkOf (now .state .lower) (now .entries) lower c;
-    lowerValues = h .lowerValues ∙ nothing (length lv) +0 valueOf (now .state .lower) (now .entries) lower c;
-    leafValues = h .leafValues;
-  }
-  holds-placed (suc (suc n)) now lower upper p c h = record {
-    spans-are = h .spans-are;
-    uppers = h .uppers;
-    lowers = h .lowers;
-    leaves = h .leaves;
-    upperLinks = h .upperLinks ∙ nothing (length ul) 0 linkOf (now .state .upper) (now .entries) upper (c .1);
-    upperValues = h .upperValues ∙ nothing (length uv) +0 valueOf (now .state .upper) (now .entries) upper (c .1);
-    lowerLinks = h .lowerLinks ∙ closed (length ll) 0 linkOf (now .state .lower) lower (c .0);
-    lowerValues = h .lowerValues ∙ closed (length lv) +0 valueOf (now .state .lower) lower (c .0);
+    upperLinks = a;
+    upperValues = b;
+    lowerLinks = e;
+    lowerValues = f;
     leafValues = h .leafValues;
   }
 
-  -- no slot has been read yet
-  pub holds-begun : (level : ℕ) (d : State) (lower upper : List Entry) → 0 < level → Shut level lower upper → Holds (tabs w ul uv ll lv lf) s d lower upper → Holds (tabs w ul uv ll lv lf) s d (lowerOpen level []) (upperOpen level [] upper)
-  holds-begun zero d lower upper p c h = absurd (omega arith)
-  holds-begun (suc zero) d lower upper p c h = subst (λ (l : List Entry). Holds (tabs w ul uv ll lv lf) s d l upper) c h
-  holds-begun (suc (suc n)) d lower upper p c h = subst (λ (l : List Entry). Holds (tabs w ul uv ll lv lf) s d [] l) (c .1) (subst (λ (l : List Entry). Holds (tabs w ul uv ll lv lf) s d l upper) (c .0) h)
+-- ---- a span and a number more
 
--- ---- one slot more
+span-more : {w w' : List ℕ} {s next : Spans} (source : ℕ) (d : State) (level number : ℕ) → d .spans ≡ spans w (s .count) (s .root) (s .limit)
+    → number ≡ nodesAt d level → Pushed w w' s next source level number
+    → d .spans ++ (spanOf level source d ∷ []) ≡ spans w' (next .count) (next .root) (next .limit)
+unfolding size
+span-more {w} {w'} {s} source d level number held n p =
+    ap (λ (l : List Span). l ++ (spanOf level source d ∷ [])) held
+    ∙ ap (λ (k : ℕ). spans w (s .count) (s .root) (s .limit) ++ (spanAs source level k ∷ [])) (sym n)
+    ∙ sym (p .list)
 
-module _ (w ul ul' : List ℕ) (uv uv' : List Float) (ll ll' : List ℕ) (lv lv' lf : List Float) (s : Progress.State) (d : State) (es outer : List Entry) where
-  pub holds-tile : (level at : ℕ) (v : Float) → level < 3 → Holds (tabs w ul uv ll lv lf) s d (lowerOpen level es) (upperOpen level es outer) → length uv ≡ length ul → length lv ≡ length ll → before level d es ≡ at → at < roomIn level (length ul) (length ll)
-      → uv' ≡ atUpper level uv at v → lv' ≡ atLower level lv at v → Holds (tabs w ul uv' ll lv' lf) s d (lowerOpen level (es ++ (Tile v ∷ []))) (upperOpen level (es ++ (Tile v ∷ [])) outer)
-  holds-tile zero at v small h pu pl b room u l = absurd (omega arith)
-  holds-tile (suc zero) at v small h pu pl b room u l = record {
-    spans-are = h .spans-are;
-    uppers = h .uppers;
-    lowers = h .lowers;
-    leaves = h .leaves;
-    upperLinks = h .upperLinks;
-    upperValues = subst (λ (t : List Float). t ≡ padded (length t) +0 (map valueOf (d .upper ++ outer))) (sym u) (h .upperValues);
-    lowerLinks = entry-none 0 linkOf (d .lower) es (Tile v) ll (h .lowerLinks) at b room refl;
-    lowerValues = subst (λ (t : List Float). t ≡ padded (length t) +0 (map valueOf (d .lower ++ (es ++ (Tile v ∷ []))))) (sym l) (entry-put +0 valueOf (d .lower) es (Tile v) lv (h .lowerValues) at v b (omega arith) refl);
-    leafValues = h .leafValues;
-  }
-  holds-tile (suc (suc n)) at v small h pu pl b room u l = record {
-    spans-are = h .spans-are;
-    uppers = h .uppers;
-    lowers = h .lowers;
-    leaves = h .leaves;
-    upperLinks = entry-none 0 linkOf (d .upper) es (Tile v) ul (h .upperLinks) at b room refl;
-    upperValues = subst (λ (t : List Float). t ≡ padded (length t) +0 (map valueOf (d .upper ++ (es ++ (Tile v ∷ []))))) (sym u) (entry-put +0 valueOf (d .upper) es (Tile v) uv (h .upperValues) at v b (omega arith) refl);
-    lowerLinks = h .lowerLinks;
-    lowerValues = subst (λ (t : List Float). t ≡ padded (length t) +0 (map valueOf (d .lower ++ []))) (sym l) (h .lowerValues);
-    leafValues = h .leafValues;
-  }
+pub holds-opened : (level source : ℕ) {t : Tabs} {w : List ℕ} {st : Progress.State} {next : Spans} {d : State} {lower upper : List Entry}
+    → Holds t st d lower upper → Pushed (t .work) w (st .spans) next source level (countIn st level)
+    → Holds (withWork t w) (grownBy level st next) (opening level source d) lower upper
+holds-opened zero source {d = d} h p =
+    recounted h (span-more source d 0 _ (h .spans-are) (sym (h .leaves)) p) (h .uppers) (h .lowers) (ap (λ (k : ℕ). k + 1) (h .leaves))
+holds-opened (suc zero) source {d = d} h p =
+    recounted h (span-more source d 1 _ (h .spans-are) (sym (h .lowers)) p) (h .uppers) (ap (λ (k : ℕ). k + 1) (h .lowers)) (h .leaves)
+holds-opened (suc (suc n)) source {d = d} h p =
+    recounted h (span-more source d (suc (suc n)) _ (h .spans-are) (sym (h .uppers)) p) (ap (λ (k : ℕ). k + 1) (h .uppers)) (h .lowers) (h .leaves)
 
-  pub holds-child : (level at k x : ℕ) → level < 3 → Holds (tabs w ul uv ll lv lf) s d (lowerOpen level es) (upperOpen level es outer) → length uv ≡ length ul → length lv ≡ length ll → before level d es ≡ at → at < roomIn level (length ul) (length ll)
-      → x ≡ k + 1 → ul' ≡ atUpper level ul at x → ll' ≡ atLower level ll at x → Holds (tabs w ul' uv ll' lv lf) s d (lowerOpen level (es ++ (Child k ∷ []))) (upperOpen level (es ++ (Child k ∷ [])) outer)
-  holds-child zero at k x small h pu pl b room is u l = absurd (omega arith)
-  holds-child (suc zero) at k x small h pu pl b room is u l = record {
-    spans-are = h .spans-are;
-    uppers = h .uppers;
-    lowers = h .lowers;
-    leaves = h .leaves;
-    upperLinks = subst (λ (t : List ℕ). t ≡ padded (length t) 0 (map linkOf (d .upper ++ outer))) (sym u) (h .upperLinks);
-    upperValues = h .upperValues;
-    lowerLinks = subst (λ (t : List ℕ). t ≡ padded (length t) 0 (map linkOf (d .lower ++ (es ++ (Child k ∷ []))))) (sym l) (entry-put 0 linkOf (d .lower) es (Child k) ll (h .lowerLinks) at x b room is);
-    lowerValues = entry-none +0 valueOf (d .lower) es (Child k) lv (h .lowerValues) at b (omega arith) refl;
-    leafValues = h .leafValues;
-  }
-  holds-child (suc (suc n)) at k x small h pu pl b room is u l = record {
-    spans-are = h .spans-are;
-    uppers = h .uppers;
-    lowers = h .lowers;
-    leaves = h .leaves;
-    upperLinks = subst (λ (t : List ℕ). t ≡ padded (length t) 0 (map linkOf (d .upper ++ (es ++ (Child k ∷ []))))) (sym u) (entry-put 0 linkOf (d .upper) es (Child k) ul (h .upperLinks) at x b room is);
-    upperValues = entry-none +0 valueOf (d .upper) es (Child k) uv (h .upperValues) at b (omega arith) refl;
-    lowerLinks = subst (λ (t : List ℕ). t ≡ padded (length t) 0 (map linkOf (d .lower ++ []))) (sym l) (h .lowerLinks);
-    lowerValues = h .lowerValues;
-    leafValues = h .leafValues;
-  }
+-- ---- a node whose slots have all been read, and one whose slots have not
+
+nothing : {B : Type 0} (n : ℕ) (z : B) (f : Entry → B) (d es o : List Entry) → o ≡ []
+    → padded n z (map f (d ++ es)) ≡ padded n z (map f ((d ++ es) ++ o))
+nothing n z f d es o e = ap (λ (l : List Entry). padded n z (map f l)) (sym (append-nil (d ++ es)) ∙ ap (λ (l : List Entry). (d ++ es) ++ l) (sym e))
+
+closed : {B : Type 0} (n : ℕ) (z : B) (f : Entry → B) (d o : List Entry) → o ≡ [] → padded n z (map f (d ++ [])) ≡ padded n z (map f (d ++ o))
+closed n z f d o e = ap (λ (l : List Entry). padded n z (map f (d ++ l))) (sym e)
+
+pub holds-placed : (level : ℕ) (now : Slots) {t : Tabs} {s : Progress.State} {lower upper : List Entry} → 0 < level → Shut level lower upper
+    → Holds t s (now .state) (lowerOpen level (now .entries)) (upperOpen level (now .entries) upper) → Holds t s (placed level now) lower upper
+holds-placed zero now p c h = absurd (omega arith)
+holds-placed (suc zero) now {t} {lower = lower} p c h =
+    let d = now .state .lower in
+    refilled h (h .upperLinks) (h .upperValues)
+    (h .lowerLinks ∙ nothing (length (t .lowerLinks)) 0 linkOf d (now .entries) lower c)
+    (h .lowerValues ∙ nothing (length (t .lowerValues)) +0 valueOf d (now .entries) lower c)
+holds-placed (suc (suc n)) now {t} {lower = lower} {upper} p c h =
+    let d = now .state in
+    refilled h
+    (h .upperLinks ∙ nothing (length (t .upperLinks)) 0 linkOf (d .upper) (now .entries) upper (c .1))
+    (h .upperValues ∙ nothing (length (t .upperValues)) +0 valueOf (d .upper) (now .entries) upper (c .1))
+    (h .lowerLinks ∙ closed (length (t .lowerLinks)) 0 linkOf (d .lower) lower (c .0))
+    (h .lowerValues ∙ closed (length (t .lowerValues)) +0 valueOf (d .lower) lower (c .0))
+
+pub holds-begun : (level : ℕ) {t : Tabs} {s : Progress.State} {d : State} {lower upper : List Entry} → 0 < level → Shut level lower upper
+    → Holds t s d lower upper → Holds t s d (lowerOpen level []) (upperOpen level [] upper)
+holds-begun zero p c h = absurd (omega arith)
+holds-begun (suc zero) {t} {s} {d} {lower} {upper} p c h = subst (λ (l : List Entry). Holds t s d l upper) c h
+holds-begun (suc (suc n)) {t} {s} {d} {lower} {upper} p c h =
+    subst (λ (l : List Entry). Holds t s d [] l) (c .1) (subst (λ (l : List Entry). Holds t s d l upper) (c .0) h)
+
+-- ---- one slot more: the next entry goes to `at` of the tables of its level, which are paired
+
+-- the slot's entry is the next of its level
+pub record Next (level : ℕ) (t : Tabs) (s : Progress.State) (d : State) (es outer : List Entry) (at : ℕ) : Type 0 where
+  pub holds : Holds t s d (lowerOpen level es) (upperOpen level es outer)
+  pub upper-pair : length (t .upperValues) ≡ length (t .upperLinks)
+  pub lower-pair : length (t .lowerValues) ≡ length (t .lowerLinks)
+  pub place : before level d es ≡ at
+  pub room : at < roomOf level t
+
+pub holds-tile : (level : ℕ) {t : Tabs} {s : Progress.State} {d : State} {es outer : List Entry} {at : ℕ} (v : Float) {uv lv : List Float} → level < 3
+    → Next level t s d es outer at → uv ≡ atUpper level (t .upperValues) at v → lv ≡ atLower level (t .lowerValues) at v
+    → Holds (withValues t uv lv) s d (lowerOpen level (es ++ (Tile v ∷ []))) (upperOpen level (es ++ (Tile v ∷ [])) outer)
+holds-tile zero v small n u l = absurd (omega arith)
+holds-tile (suc zero) {t} {s} {d} {es} {outer} {at} v small n u l =
+    let h = n .holds in
+    refilled h (h .upperLinks) (left-alone +0 _ u (h .upperValues))
+    (entry-none 0 linkOf (d .lower) es (Tile v) (t .lowerLinks) (h .lowerLinks) at (n .place) (n .room) refl)
+    (entry-stored +0 valueOf (d .lower) es (Tile v) (t .lowerValues) (h .lowerValues) at v l (n .place) (omega (arith, n .lower-pair, n .room)) refl)
+holds-tile (suc (suc k)) {t} {s} {d} {es} {outer} {at} v small n u l =
+    let h = n .holds in
+    refilled h
+    (entry-none 0 linkOf (d .upper) es (Tile v) (t .upperLinks) (h .upperLinks) at (n .place) (n .room) refl)
+    (entry-stored +0 valueOf (d .upper) es (Tile v) (t .upperValues) (h .upperValues) at v u (n .place) (omega (arith, n .upper-pair, n .room)) refl)
+    (h .lowerLinks) (left-alone +0 _ l (h .lowerValues))
+
+pub holds-child : (level : ℕ) {t : Tabs} {s : Progress.State} {d : State} {es outer : List Entry} {at : ℕ} (k x : ℕ) {ul ll : List ℕ} → level < 3
+    → Next level t s d es outer at → x ≡ k + 1 → ul ≡ atUpper level (t .upperLinks) at x → ll ≡ atLower level (t .lowerLinks) at x
+    → Holds (withLinks t ul ll) s d (lowerOpen level (es ++ (Child k ∷ []))) (upperOpen level (es ++ (Child k ∷ [])) outer)
+holds-child zero k x small n is u l = absurd (omega arith)
+holds-child (suc zero) {t} {s} {d} {es} {outer} {at} k x small n is u l =
+    let h = n .holds in
+    refilled h (left-alone 0 _ u (h .upperLinks)) (h .upperValues)
+    (entry-stored 0 linkOf (d .lower) es (Child k) (t .lowerLinks) (h .lowerLinks) at x l (n .place) (n .room) is)
+    (entry-none +0 valueOf (d .lower) es (Child k) (t .lowerValues) (h .lowerValues) at (n .place) (omega (arith, n .lower-pair, n .room)) refl)
+holds-child (suc (suc m)) {t} {s} {d} {es} {outer} {at} k x small n is u l =
+    let h = n .holds in
+    refilled h
+    (entry-stored 0 linkOf (d .upper) es (Child k) (t .upperLinks) (h .upperLinks) at x u (n .place) (n .room) is)
+    (entry-none +0 valueOf (d .upper) es (Child k) (t .upperValues) (h .upperValues) at (n .place) (omega (arith, n .upper-pair, n .room)) refl)
+    (left-alone 0 _ l (h .lowerLinks)) (h .lowerValues)
 
 -- ---- where the next entry goes
 
 -- the nodes below are whole, and the entries of this level are those of the nodes before it and the slots so far
-pub slots-ready : (level l : ℕ) → level ≡ suc l → level < 3 → (b : List ℕ) (p : Places) (source : ℕ) (d : State) (i : ℕ) (now : Slots) → Ready level b d → slotsRead b (node l b p) level source i (opening level source d) ≡ ok now
+pub slots-ready : (level l : ℕ) → level ≡ suc l → level < 3 → (b : List ℕ) (p : Places) (source : ℕ) (d : State) (i : ℕ) (now : Slots)
+    → Ready level b d → slotsRead b (node l b p) level source i (opening level source d) ≡ ok now
     → Ready l b (now .state) × (before level (now .state) (now .entries) ≡ nodesAt d level * entriesOf level + i)
 slots-ready zero l e h b p source d i now r s = absurd (omega arith)
 slots-ready (suc zero) zero e h b p source d i now r s =
@@ -215,7 +251,8 @@ slots-ready (suc (suc zero)) (suc (suc l)) e h b p source d i now r s = absurd (
 slots-ready (suc (suc (suc n))) l e h b p source d i now r s = absurd (omega arith)
 
 -- a child leaves the entries of the level above it as they are
-pub child-before : (level l : ℕ) → level ≡ suc l → level < 3 → (b : List ℕ) (p : Places) (to : ℕ) (d : State) (es : List Entry) (r : Read) → Ready l b d → node l b p to d ≡ ok r → before level (r .state) es ≡ before level d es
+pub child-before : (level l : ℕ) → level ≡ suc l → level < 3 → (b : List ℕ) (p : Places) (to : ℕ) (d : State) (es : List Entry) (r : Read)
+    → Ready l b d → node l b p to d ≡ ok r → before level (r .state) es ≡ before level d es
 child-before zero l e h b p to d es r i n = absurd (omega arith)
 child-before (suc zero) zero e h b p to d es r i n = ap (λ (x : List Entry). length (x ++ es)) (read-leaf b p to d r i n .grown .lower)
 child-before (suc zero) (suc l) e h b p to d es r i n = absurd (omega arith)

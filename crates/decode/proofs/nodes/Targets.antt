@@ -23,21 +23,26 @@ module _ (base bits : ℕ) where
   pub up-on : bits < 9223372036854775808 → (base + bits) % 32 ≡ 0 → ok (base + bits) ≡ childTarget base (signed 64 bits)
   up-on l e = sym (ap (childTarget base) (rises l) ∙ rw (eq-eqb _ _ e))
 
-  same : 9223372036854775808 ≤ bits → bits < 18446744073709551616 → 18446744073709551616 - (bits + 1) ≡ 18446744073709551615 - bits
-  same l h = omega arith
+  -- a negative number, as the code takes it back
+  module _ (high : 9223372036854775808 ≤ bits) (fits : bits < 18446744073709551616) where
+    same : 18446744073709551616 - (bits + 1) ≡ 18446744073709551615 - bits
+    same = omega arith
 
-  down : 9223372036854775808 ≤ bits → bits < 18446744073709551616 → childTarget base (signed 64 bits) ≡ childTarget base (negsuc (18446744073709551615 - bits))
-  down l h = ap (childTarget base) (falls l ∙ ap negsuc (same l h))
+    down : childTarget base (signed 64 bits) ≡ childTarget base (negsuc (18446744073709551615 - bits))
+    down = ap (childTarget base) (falls high ∙ ap negsuc same)
 
-  pub down-below : 9223372036854775808 ≤ bits → bits < 18446744073709551616 → base ≤ 18446744073709551615 - bits → refused 8 ≡ childTarget base (signed 64 bits)
-  down-below l h n = sym (down l h ∙ rw (le-ltb _ _ n))
+    pub down-below : base ≤ 18446744073709551615 - bits → refused 8 ≡ childTarget base (signed 64 bits)
+    down-below n = sym (down ∙ rw (le-ltb _ _ n))
 
-  pub down-off : 9223372036854775808 ≤ bits → bits < 18446744073709551616 → 18446744073709551615 - bits < base → ((base - (18446744073709551615 - bits) - 1) % 32 ≡ 0 → ⊥) → refused 8 ≡ childTarget base (signed 64 bits)
-  down-off l h m n =
-      let e : base - (18446744073709551615 - bits + 1) ≡ base - (18446744073709551615 - bits) - 1 = omega arith in
-      sym (down l h ∙ rw (lt-ltb (18446744073709551615 - bits) base m, e, ne-eqb ((base - (18446744073709551615 - bits) - 1) % 32) 0 n))
+    module _ (above : 18446744073709551615 - bits < base) where
+      moved : base - (18446744073709551615 - bits + 1) ≡ base - (18446744073709551615 - bits) - 1
+      moved = omega arith
 
-  pub down-on : 9223372036854775808 ≤ bits → bits < 18446744073709551616 → 18446744073709551615 - bits < base → (base - (18446744073709551615 - bits) - 1) % 32 ≡ 0 → ok (base - (18446744073709551615 - bits) - 1) ≡ childTarget base (signed 64 bits)
-  down-on l h m n =
-      let e : base - (18446744073709551615 - bits + 1) ≡ base - (18446744073709551615 - bits) - 1 = omega arith in
-      sym (down l h ∙ rw (lt-ltb (18446744073709551615 - bits) base m, e, eq-eqb ((base - (18446744073709551615 - bits) - 1) % 32) 0 n))
+      pub down-off : ((base - (18446744073709551615 - bits) - 1) % 32 ≡ 0 → ⊥) → refused 8 ≡ childTarget base (signed 64 bits)
+      down-off n =
+          sym (down ∙ rw (lt-ltb (18446744073709551615 - bits) base above, moved, ne-eqb ((base - (18446744073709551615 - bits) - 1) % 32) 0 n))
+
+      pub down-on : (base - (18446744073709551615 - bits) - 1) % 32 ≡ 0
+          → ok (base - (18446744073709551615 - bits) - 1) ≡ childTarget base (signed 64 bits)
+      down-on n =
+          sym (down ∙ rw (lt-ltb (18446744073709551615 - bits) base above, moved, eq-eqb ((base - (18446744073709551615 - bits) - 1) % 32) 0 n))

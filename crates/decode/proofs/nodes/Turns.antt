@@ -1,165 +1,241 @@
--- The answers of `slot` and `node`, and the loop over a node's slots. Assumes nothing.
+-- The answers of `slot`, one for each way out, and the loop over a node's slots. Assumes nothing.
 use mathlib.Core.Path.{_≡_, refl, sym, ap, _∙_, subst}
 use mathlib.Core.List.{List, []}
-use Prim.Native.Nat.{ℕ, zero, suc, _+_, _*_, _/_, _≤_, _<_}
+use Prim.Native.Nat.{ℕ, zero, suc, _+_, _-_, _*_, _/_, _≤_, _<_}
 use native.Mathlib.Omega.{arith}
 use lib.ListN.{length}
 use lib.Ieee.{Float}
 use Rattle.refusals.specs.Results.{ok, refused}
-use Rattle.layout.specs.Bytes.{u64At, i64At, f32At, maskBit}
+use Rattle.layout.specs.Bytes.{signed, u64At, i64At, f32At, maskBit}
 use Rattle.sparse_grid.specs.declared.Entry.{Entry}
 use Rattle.nanovdb.specs.Nodes.{Places, State, Slots, childTarget, maskOf, tableOf, slotRead, slotsRead, node}
-use Rattle.decode.specs.Inner.WorkTable.{spans}
-use Rattle.decode.specs.Inner.Filled.{ofTarget, roomIn, atLower, atUpper, tabs, Fit, Kept, Holds, Lends, Ready, Reads, NodeOut, lowerOpen, upperOpen, before, ReadsSlot, SlotOut}
-use Rattle.decode.specs.declared.spans.Entered.the-variants.{Stop}
+use Rattle.decode.specs.Inner.Filled.{ofTarget, atLower, atUpper, Tabs, Fit, Kept, Holds, Lends, Ready, Shut, Reads}
+use Rattle.decode.specs.Inner.Filled.{NodeSays, NodeFit, NodeOut, lowerOpen, upperOpen, before, ReadsSlot, SlotSays, SlotFit, SlotOut}
 use Rattle.decode.specs.declared.nodes.State as Progress
 use Rattle.decode.specs.declared.nodes.Target as Target
 use Rattle.decode.specs.declared.nodes.Placed as Placed
 use Rattle.decode.specs.declared.nodes.Step as Step
 use Rattle.decode.proofs.nodes.Steps.{slot-tile, slot-zero, slot-off, slot-refused, slot-child, slots-more}
-use Rattle.decode.proofs.nodes.Fits.{fit-kept}
-use Rattle.decode.proofs.nodes.Tables.{holds-tile, holds-child, child-before}
+use Rattle.decode.proofs.nodes.Fits.{roomOf, room-kept, fit-kept}
+use Rattle.decode.proofs.nodes.Levels.{less-one}
+use Rattle.decode.proofs.nodes.Tables.{withLinks, withValues, Next, holds-tile, holds-child, child-before}
 
 -- ---- the answers of `slot`
 
-module _ (b : List ℕ) (source level base i : ℕ) (w ul : List ℕ) (uv : List Float) (ll : List ℕ) (lv lf : List Float) (st : Progress.State) (small : level < 3) (fit : Fit (length b) (tabs w ul uv ll lv lf) st) (room : base + i < roomIn level (length ul) (length ll)) where
-  pub slot-out-tile : (uv' lv' : List Float) (m at mask : ℕ) (v : Float) → m ≡ maskBit b mask i → mask ≡ source + maskOf level → m ≡ 0 → at ≡ source + tableOf level + 8 * i → v ≡ f32At b at
-      → uv' ≡ atUpper level uv (base + i) v → lv' ≡ atLower level lv (base + i) v → length uv' ≡ length uv → length lv' ≡ length lv
-      → SlotOut level b source base i (tabs w ul uv ll lv lf) st (tabs w ul uv' ll lv' lf) (Step.the-variants.Next st)
-  slot-out-tile uv' lv' m at mask v bit place clear here is u l ku kl = record {
-    fit = fit-kept (length b) w ul ul uv uv' ll ll lv lv' lf lf st fit refl ku refl kl;
+-- slot i stands at `at` in the bytes, m is its mask bit, and the tables have room for it
+pub record Slot (b : List ℕ) (source level base i : ℕ) (t : Tabs) (st : Progress.State) (at m : ℕ) : Type 0 where
+  pub above : 0 < level
+  pub three : level < 3
+  pub fit : Fit (length b) t st
+  pub room : base + i < roomOf level t
+  pub place : at ≡ source + tableOf level + 8 * i
+  pub bit : m ≡ maskBit b (source + maskOf level) i
+
+-- a child stands there, `relative` is its slot's word, and `target` what that leads to
+pub record Aimed (b : List ℕ) (source level base i : ℕ) (t : Tabs) (st : Progress.State) (at m relative : ℕ) (target : Target.Target) : Type 0 where
+  pub slot : Slot b source level base i t st at m
+  pub set : m ≡ 0 → ⊥
+  pub word : relative ≡ u64At b at
+  pub some : relative ≡ 0 → ⊥
+  pub aims : ofTarget target ≡ childTarget source (signed 64 relative)
+
+module _ {b : List ℕ} {source level base i : ℕ} {t : Tabs} {st : Progress.State} {at m : ℕ} (s : Slot b source level base i t st at m) where
+  -- the slot's entry is the next of its level
+  next : (p : Places) (now : Slots) (outer : List Entry) → ReadsSlot level b (base + i) t st p now outer
+      → Next level t st (now .state) (now .entries) outer (base + i)
+  next p now outer R =
+      record { holds = R .holds; upper-pair = s .fit .upper-pair; lower-pair = s .fit .lower-pair; place = R .place; room = s .room }
+
+  pub slot-out-tile : {v : Float} {uv lv : List Float} → m ≡ 0 → v ≡ f32At b at
+      → (uv ≡ atUpper level (t .upperValues) (base + i) v) × (lv ≡ atLower level (t .lowerValues) (base + i) v)
+      → length uv ≡ length (t .upperValues) → length lv ≡ length (t .lowerValues)
+      → SlotOut level b source base i t st (withValues t uv lv) (Step.the-variants.Next st)
+  slot-out-tile {v} {uv} {lv} clear is stored ku kl = record {
+    fit = fit-kept (s .fit) (withValues t uv lv) refl ku refl kl;
     says = λ k e p now outer R. (
       _,
-      slot-tile b (node k b p) level source i now v (ap (λ (x : ℕ). maskBit b x i) (sym place) ∙ sym bit ∙ clear) (is ∙ ap (f32At b) here),
-      holds-tile w ul ul uv uv' ll ll lv lv' lf st (now .state) (now .entries) outer level (base + i) v small (R .holds) (fit .upper-pair) (fit .lower-pair) (R .place) room u l,
+      slot-tile b (node k b p) level source i now v (sym (s .bit) ∙ clear) (is ∙ ap (f32At b) (s .place)),
+      holds-tile level v (s .three) (next p now outer R) (stored .0) (stored .1),
     );
   }
 
-  module _ (m mask at relative : ℕ) (bit : m ≡ maskBit b mask i) (place : mask ≡ source + maskOf level) (set : m ≡ 0 → ⊥) (here : at ≡ source + tableOf level + 8 * i) (is : relative ≡ u64At b at) (w' ul' : List ℕ) (uv' : List Float) (ll' : List ℕ) (lv' lf' : List Float) where
-    isSet : maskBit b (source + maskOf level) i ≡ 0 → ⊥
-    isSet e = set (bit ∙ ap (λ (x : ℕ). maskBit b x i) place ∙ e)
+  isSet : (m ≡ 0 → ⊥) → maskBit b (source + maskOf level) i ≡ 0 → ⊥
+  isSet set e = set (s .bit ∙ e)
 
-    word : relative ≡ u64At b (source + tableOf level + 8 * i)
-    word = is ∙ ap (u64At b) here
+  pub slot-out-zero : {relative : ℕ} {u : Tabs} → (m ≡ 0 → ⊥) → relative ≡ u64At b at → relative ≡ 0
+      → SlotOut level b source base i t st u (Step.the-variants.Stop 8)
+  slot-out-zero set word e = record {
+    fit = tt;
+    says = λ k q p now outer R. slot-zero b (node k b p) level source i now (isSet set) (ap (u64At b) (sym (s .place)) ∙ sym word ∙ e);
+  }
 
-    pub slot-out-zero : relative ≡ 0 → SlotOut level b source base i (tabs w ul uv ll lv lf) st (tabs w' ul' uv' ll' lv' lf') (Step.the-variants.Stop 8)
-    slot-out-zero e = record { fit = tt; says = λ k q p now outer R. slot-zero b (node k b p) level source i now isSet (sym word ∙ e) }
+module _ {b : List ℕ} {source level base i : ℕ} {t : Tabs} {st : Progress.State} {at m relative : ℕ} {target : Target.Target}
+    (a : Aimed b source level base i t st at m relative target) where
+  there : relative ≡ u64At b (source + tableOf level + 8 * i)
+  there = a .word ∙ ap (u64At b) (a .slot .place)
 
-    module _ (some : relative ≡ 0 → ⊥) (t : Target.Target) (target : ofTarget t ≡ childTarget source (Rattle.layout.specs.Bytes.signed 64 relative)) where
-      isSome : u64At b (source + tableOf level + 8 * i) ≡ 0 → ⊥
-      isSome e = some (word ∙ e)
+  isSome : u64At b (source + tableOf level + 8 * i) ≡ 0 → ⊥
+  isSome e = a .some (there ∙ e)
 
-      aimed : ofTarget t ≡ childTarget source (i64At b (source + tableOf level + 8 * i))
-      aimed = target ∙ ap (λ (x : ℕ). childTarget source (Rattle.layout.specs.Bytes.signed 64 x)) word
+  aimed : ofTarget target ≡ childTarget source (i64At b (source + tableOf level + 8 * i))
+  aimed = a .aims ∙ ap (λ (x : ℕ). childTarget source (signed 64 x)) there
 
-      pub slot-out-off : (e : ℕ) → t ≡ Target.the-variants.Refused e → SlotOut level b source base i (tabs w ul uv ll lv lf) st (tabs w' ul' uv' ll' lv' lf') (Step.the-variants.Stop e)
-      slot-out-off e q = record { fit = tt; says = λ k z p now outer R. slot-off b (node k b p) level source i now isSet isSome e (sym (ap ofTarget q) ∙ aimed) }
+  pub slot-out-off : {e : ℕ} {u : Tabs} → target ≡ Target.the-variants.Refused e → SlotOut level b source base i t st u (Step.the-variants.Stop e)
+  slot-out-off {e} q = record {
+    fit = tt;
+    says = λ k z p now outer R.
+        slot-off b (node k b p) level source i now (isSet (a .slot) (a .set)) isSome e (sym (ap ofTarget q) ∙ aimed);
+  }
 
-      module _ (to below : ℕ) (q : t ≡ Target.the-variants.At to) (down : level ≡ suc below) (r : Placed.Placed) (out : NodeOut below b to (tabs w ul uv ll lv lf) st (tabs w' ul' uv' ll' lv' lf') r) where
-        -- what the child's reader is handed
-        handed : (p : Places) (now : Slots) (outer : List Entry) → ReadsSlot level b (base + i) (tabs w ul uv ll lv lf) st p now outer → Reads below b (tabs w ul uv ll lv lf) st p (now .state) (lowerOpen level (now .entries)) (upperOpen level (now .entries) outer)
-        handed p now outer R = record { holds = R .holds; lends = R .lends; ready = R .ready below down; shut = shut level below down small (now .entries) outer }
-          where
-            shut : (level below : ℕ) → level ≡ suc below → level < 3 → (es outer : List Entry) → Rattle.decode.specs.Inner.Filled.Shut below (lowerOpen level es) (upperOpen level es outer)
-            shut zero below e h es outer = absurd (omega arith)
-            shut (suc zero) zero e h es outer = tt
-            shut (suc zero) (suc n) e h es outer = absurd (omega arith)
-            shut (suc (suc zero)) zero e h es outer = absurd (omega arith)
-            shut (suc (suc zero)) (suc zero) e h es outer = refl
-            shut (suc (suc zero)) (suc (suc n)) e h es outer = absurd (omega arith)
-            shut (suc (suc (suc n))) below e h es outer = absurd (omega arith)
+  -- the child at `to` has been read into the tables u
+  module _ {to : ℕ} {u : Tabs} {r : Placed.Placed} (q : target ≡ Target.the-variants.At to) (out : NodeOut (level - 1) b to t st u r) where
+    -- what the child's reader is handed
+    handed : (p : Places) (now : Slots) (outer : List Entry) → ReadsSlot level b (base + i) t st p now outer
+        → Reads (level - 1) b t st p (now .state) (lowerOpen level (now .entries)) (upperOpen level (now .entries) outer)
+    handed p now outer R = record {
+      holds = R .holds;
+      lends = R .lends;
+      ready = R .ready (level - 1) (less-one level (a .slot .above));
+      shut = shut level (a .slot .above) (a .slot .three) (now .entries) outer;
+    }
+      where
+        shut : (level : ℕ) → 0 < level → level < 3 → (es outer : List Entry) → Shut (level - 1) (lowerOpen level es) (upperOpen level es outer)
+        shut zero p h es outer = absurd (omega arith)
+        shut (suc zero) p h es outer = tt
+        shut (suc (suc zero)) p h es outer = refl
+        shut (suc (suc (suc n))) p h es outer = absurd (omega arith)
 
-        same-level : (k : ℕ) → level ≡ suc k → below ≡ k
-        same-level k e = omega arith
+    same-level : (k : ℕ) → level ≡ suc k → level - 1 ≡ k
+    same-level k e = omega arith
 
-        pub slot-out-refused : (e : ℕ) → r ≡ Placed.the-variants.Refused e → SlotOut level b source base i (tabs w ul uv ll lv lf) st (tabs w' ul' uv' ll' lv' lf') (Step.the-variants.Stop e)
-        slot-out-refused e z = record {
-          fit = tt;
-          says = λ k d p now outer R.
-              let says = subst (λ (x : Placed.Placed). Rattle.decode.specs.Inner.Filled.NodeSays below b to (tabs w ul uv ll lv lf) st (tabs w' ul' uv' ll' lv' lf') x) z (out .says) in
-              slot-refused b (node k b p) level source i now isSet isSome to e (sym (ap ofTarget q) ∙ aimed)
-              (subst (λ (n : ℕ). node n b p to (now .state) ≡ refused e) (same-level k d) (says p (now .state) (lowerOpen level (now .entries)) (upperOpen level (now .entries) outer) (handed p now outer R)));
-        }
+    told : {x : Placed.Placed} → r ≡ x → NodeSays (level - 1) b to t st u x
+    told z = subst (NodeSays (level - 1) b to t st u) z (out .says)
 
-        pub slot-out-child : (n x : ℕ) (s : Progress.State) (ul″ ll″ : List ℕ) → r ≡ Placed.the-variants.Node n s → x ≡ n + 1 → ul″ ≡ atUpper level ul' (base + i) x → ll″ ≡ atLower level ll' (base + i) x
-            → length ul' ≡ length ul → length ll' ≡ length ll → length ul″ ≡ length ul' → length ll″ ≡ length ll'
-            → SlotOut level b source base i (tabs w ul uv ll lv lf) st (tabs w' ul″ uv' ll″ lv' lf') (Step.the-variants.Next s)
-        slot-out-child n x s ul″ ll″ z one u l ku kl ku' kl' = record {
-          fit = fit-kept (length b) w' ul' ul″ uv' uv' ll' ll″ lv' lv' lf' lf' s (fits .0) ku' refl kl' refl;
-          says = λ k d p now outer R.
-              let says = subst (λ (y : Placed.Placed). Rattle.decode.specs.Inner.Filled.NodeSays below b to (tabs w ul uv ll lv lf) st (tabs w' ul' uv' ll' lv' lf') y) z (out .says) in
-              let (e, read, holds) = says p (now .state) (lowerOpen level (now .entries)) (upperOpen level (now .entries) outer) (handed p now outer R) in
-              let here = child-before level below down small b p to (now .state) (now .entries) (record { number = n; state = e }) (R .ready below down) read in (
-                _,
-                slot-child b (node k b p) level source i now isSet isSome to (record { number = n; state = e }) (sym (ap ofTarget q) ∙ aimed) (subst (λ (m : ℕ). node m b p to (now .state) ≡ ok (record { number = n; state = e })) (same-level k d) read),
-                holds-child w' ul' ul″ uv' uv' ll' ll″ lv' lv' lf' s e (now .entries) outer level (base + i) n x small holds (fits .0 .upper-pair) (fits .0 .lower-pair) (here ∙ R .place) (moved level room) one u l,
-              );
-        }
-          where
-            fits : Fit (length b) (tabs w' ul' uv' ll' lv' lf') s × (n < 4294967295)
-            fits = subst (λ (y : Placed.Placed). Rattle.decode.specs.Inner.Filled.NodeFit (length b) (tabs w' ul' uv' ll' lv' lf') y) z (out .fit)
+    pub slot-out-refused : {e : ℕ} → r ≡ Placed.the-variants.Refused e → SlotOut level b source base i t st u (Step.the-variants.Stop e)
+    slot-out-refused {e} z = record {
+      fit = tt;
+      says = λ k d p now outer R.
+          let read = told z p (now .state) (lowerOpen level (now .entries)) (upperOpen level (now .entries) outer) (handed p now outer R) in
+          slot-refused b (node k b p) level source i now (isSet (a .slot) (a .set)) isSome to e (sym (ap ofTarget q) ∙ aimed)
+          (subst (λ (n : ℕ). node n b p to (now .state) ≡ refused e) (same-level k d) read);
+    }
 
-            moved : (level : ℕ) → base + i < roomIn level (length ul) (length ll) → base + i < roomIn level (length ul') (length ll')
-            moved zero h = h
-            moved (suc zero) h = omega arith
-            moved (suc (suc m)) h = omega arith
+    -- u has kept its lengths, and the child's number has been stored in it
+    pub slot-out-child : {n x : ℕ} {v : Progress.State} {ul ll : List ℕ} → r ≡ Placed.the-variants.Node n v → x ≡ n + 1 → Kept t u
+        → (ul ≡ atUpper level (u .upperLinks) (base + i) x) × (ll ≡ atLower level (u .lowerLinks) (base + i) x)
+        → length ul ≡ length (u .upperLinks) → length ll ≡ length (u .lowerLinks)
+        → SlotOut level b source base i t st (withLinks u ul ll) (Step.the-variants.Next v)
+    slot-out-child {n} {x} {v} {ul} {ll} z one kept stored ku kl = record {
+      fit = fit-kept (fits .0) (withLinks u ul ll) ku refl kl refl;
+      says = λ k d p now outer R.
+          let (e, read, holds) = told z p (now .state) (lowerOpen level (now .entries)) (upperOpen level (now .entries) outer) (handed p now outer R) in
+          let down = less-one level (a .slot .above) in
+          let here = child-before level (level - 1) down (a .slot .three) b p to (now .state) (now .entries) (record { number = n; state = e })
+          (R .ready (level - 1) down) read in (
+            _,
+            slot-child b (node k b p) level source i now (isSet (a .slot) (a .set)) isSome to (record { number = n; state = e })
+                (sym (ap ofTarget q) ∙ aimed)
+                (subst (λ (m : ℕ). node m b p to (now .state) ≡ ok (record { number = n; state = e })) (same-level k d) read),
+            holds-child level n x (a .slot .three) (record {
+              holds = holds;
+              upper-pair = fits .0 .upper-pair;
+              lower-pair = fits .0 .lower-pair;
+              place = here ∙ R .place;
+              room = room-kept level (kept .upperLinks) (kept .lowerLinks) (a .slot .room);
+            }) one (stored .0) (stored .1),
+          );
+    }
+      where
+        fits : Fit (length b) u v × (n < 4294967295)
+        fits = subst (NodeFit (length b) u) z (out .fit)
 
 -- ---- the loop over the slots
 
 -- a node is open, and whatever its first slots give, the nodes below are whole and the next entry goes to base + i
-pub record Begins (level l : ℕ) (b : List ℕ) (source base : ℕ) (w ul : List ℕ) (uv : List Float) (ll : List ℕ) (lv lf : List Float) (st : Progress.State) (p : Places) (d : State) (outer : List Entry) : Type 0 where
-  pub holds : Holds (tabs w ul uv ll lv lf) st d (lowerOpen level []) (upperOpen level [] outer)
-  pub lends : Lends (tabs w ul uv ll lv lf) p
-  pub steady : (i : ℕ) (now : Slots) → slotsRead b (node l b p) level source i d ≡ ok now → Ready l b (now .state) × (before level (now .state) (now .entries) ≡ base + i)
+pub record Begins (level l : ℕ) (b : List ℕ) (source base : ℕ) (t : Tabs) (st : Progress.State) (p : Places) (d : State) (outer : List Entry) : Type 0 where
+  pub holds : Holds t st d (lowerOpen level []) (upperOpen level [] outer)
+  pub lends : Lends t p
+  pub steady : (i : ℕ) (now : Slots) → slotsRead b (node l b p) level source i d ≡ ok now
+      → Ready l b (now .state) × (before level (now .state) (now .entries) ≡ base + i)
 
--- after i slots
-pub record Turn (level : ℕ) (b : List ℕ) (source base entries : ℕ) (w₀ ul₀ : List ℕ) (uv₀ : List Float) (ll₀ : List ℕ) (lv₀ lf₀ : List Float) (st₀ : Progress.State) (w ul : List ℕ) (uv : List Float) (ll : List ℕ) (lv lf : List Float) (st : Progress.State) (i : ℕ) : Type 0 where
+-- from the tables t₀ to the tables t by i slots
+pub record Turn (level : ℕ) (b : List ℕ) (source base entries : ℕ) (t₀ : Tabs) (st₀ : Progress.State) (t : Tabs) (st : Progress.State) (i : ℕ) : Type 0 where
   pub turn : i ≤ entries
-  pub kept : Kept (tabs w₀ ul₀ uv₀ ll₀ lv₀ lf₀) (tabs w ul uv ll lv lf)
-  pub fit : Fit (length b) (tabs w ul uv ll lv lf) st
-  pub says : (l : ℕ) → level ≡ suc l → (p : Places) (d : State) (outer : List Entry) → Begins level l b source base w₀ ul₀ uv₀ ll₀ lv₀ lf₀ st₀ p d outer
-      → (now : Slots) × (slotsRead b (node l b p) level source i d ≡ ok now) × Holds (tabs w ul uv ll lv lf) st (now .state) (lowerOpen level (now .entries)) (upperOpen level (now .entries) outer)
+  pub kept : Kept t₀ t
+  pub fit : Fit (length b) t st
+  pub says : (l : ℕ) → level ≡ suc l → (p : Places) (d : State) (outer : List Entry) → Begins level l b source base t₀ st₀ p d outer
+      → (now : Slots) × (slotsRead b (node l b p) level source i d ≡ ok now)
+      × Holds t st (now .state) (lowerOpen level (now .entries)) (upperOpen level (now .entries) outer)
 
-module _ (level : ℕ) (b : List ℕ) (source base entries : ℕ) (w₀ ul₀ : List ℕ) (uv₀ : List Float) (ll₀ : List ℕ) (lv₀ lf₀ : List Float) (st₀ : Progress.State) where
-  pub turn-begins : Fit (length b) (tabs w₀ ul₀ uv₀ ll₀ lv₀ lf₀) st₀ → Turn level b source base entries w₀ ul₀ uv₀ ll₀ lv₀ lf₀ st₀ w₀ ul₀ uv₀ ll₀ lv₀ lf₀ st₀ 0
-  unfolding slotsRead
-  turn-begins f = record { turn = omega arith; kept = record { work = refl; upperLinks = refl; upperValues = refl; lowerLinks = refl; lowerValues = refl; leafValues = refl }; fit = f; says = λ l e p d outer B. (record { entries = []; state = d }, refl, B .holds) }
+pub turn-begins : {level : ℕ} {b : List ℕ} {source base entries : ℕ} {t : Tabs} {st : Progress.State} → Fit (length b) t st
+    → Turn level b source base entries t st t st 0
+unfolding slotsRead
+turn-begins f = record {
+  turn = omega arith;
+  kept = record { work = refl; upperLinks = refl; upperValues = refl; lowerLinks = refl; lowerValues = refl; leafValues = refl };
+  fit = f;
+  says = λ l e p d outer B. (record { entries = []; state = d }, refl, B .holds);
+}
 
-  module _ (w ul : List ℕ) (uv : List Float) (ll : List ℕ) (lv lf : List Float) (st : Progress.State) (i : ℕ) (t : Turn level b source base entries w₀ ul₀ uv₀ ll₀ lv₀ lf₀ st₀ w ul uv ll lv lf st i) where
-    lends-kept : (p : Places) → Lends (tabs w₀ ul₀ uv₀ ll₀ lv₀ lf₀) p → Lends (tabs w ul uv ll lv lf) p
-    lends-kept p l = record {
-      spans = l .spans ∙ ap (λ (k : ℕ). k / 4) (sym (t .kept .work));
-      upper = l .upper ∙ ap (λ (k : ℕ). k / 32768) (sym (t .kept .upperLinks));
-      lower = l .lower ∙ ap (λ (k : ℕ). k / 4096) (sym (t .kept .lowerLinks));
-      leaf = l .leaf ∙ ap (λ (k : ℕ). k / 512) (sym (t .kept .leafValues));
-    }
+-- what keeps the lengths goes on to what keeps them
+pub kept-on : {t u v : Tabs} → Kept t u → Kept u v → Kept t v
+kept-on k m = record {
+  work = m .work ∙ k .work;
+  upperLinks = m .upperLinks ∙ k .upperLinks;
+  upperValues = m .upperValues ∙ k .upperValues;
+  lowerLinks = m .lowerLinks ∙ k .lowerLinks;
+  lowerValues = m .lowerValues ∙ k .lowerValues;
+  leafValues = m .leafValues ∙ k .leafValues;
+}
 
-    -- what the next slot is handed
-    slot-handed : (l : ℕ) → level ≡ suc l → (p : Places) (d : State) (outer : List Entry) → Begins level l b source base w₀ ul₀ uv₀ ll₀ lv₀ lf₀ st₀ p d outer
-        → (now : Slots) × (slotsRead b (node l b p) level source i d ≡ ok now) × ReadsSlot level b (base + i) (tabs w ul uv ll lv lf) st p now outer
-    slot-handed l e p d outer B =
-        let (now, read, holds) = t .says l e p d outer B in
-        let (ready, place) = B .steady i now read in
-        (now, read, record { holds = holds; lends = lends-kept p (B .lends); ready = λ m f. subst (λ (x : ℕ). Ready x b (now .state)) (same l m e f) ready; place = place })
-      where
-        same : (l m : ℕ) → level ≡ suc l → level ≡ suc m → l ≡ m
-        same l m e f = omega arith
+module _ {level : ℕ} {b : List ℕ} {source base entries : ℕ} {t₀ t : Tabs} {st₀ st : Progress.State} {i : ℕ}
+    (turn : Turn level b source base entries t₀ st₀ t st i) where
+  lends-kept : {p : Places} → Lends t₀ p → Lends t p
+  lends-kept l = record {
+    spans = l .spans ∙ ap (λ (k : ℕ). k / 4) (sym (turn .kept .work));
+    upper = l .upper ∙ ap (λ (k : ℕ). k / 32768) (sym (turn .kept .upperLinks));
+    lower = l .lower ∙ ap (λ (k : ℕ). k / 4096) (sym (turn .kept .lowerLinks));
+    leaf = l .leaf ∙ ap (λ (k : ℕ). k / 512) (sym (turn .kept .leafValues));
+  }
 
-    pub turn-more : (w' ul' : List ℕ) (uv' : List Float) (ll' : List ℕ) (lv' lf' : List Float) (r : Step.Step) (s : Progress.State) → i < entries → SlotOut level b source base i (tabs w ul uv ll lv lf) st (tabs w' ul' uv' ll' lv' lf') r → r ≡ Step.the-variants.Next s
-        → Kept (tabs w ul uv ll lv lf) (tabs w' ul' uv' ll' lv' lf') → Turn level b source base entries w₀ ul₀ uv₀ ll₀ lv₀ lf₀ st₀ w' ul' uv' ll' lv' lf' s (i + 1)
-    turn-more w' ul' uv' ll' lv' lf' r s h out is k = record {
+  -- what the next slot is handed
+  slot-handed : (l : ℕ) → level ≡ suc l → (p : Places) (d : State) (outer : List Entry) → Begins level l b source base t₀ st₀ p d outer
+      → (now : Slots) × (slotsRead b (node l b p) level source i d ≡ ok now) × ReadsSlot level b (base + i) t st p now outer
+  slot-handed l e p d outer B =
+      let (now, read, holds) = turn .says l e p d outer B in
+      let (ready, place) = B .steady i now read in (
+        now,
+        read,
+        record {
+          holds = holds;
+          lends = lends-kept (B .lends);
+          ready = λ m f. subst (λ (x : ℕ). Ready x b (now .state)) (same l m e f) ready;
+          place = place;
+        },
+      )
+    where
+      same : (l m : ℕ) → level ≡ suc l → level ≡ suc m → l ≡ m
+      same l m e f = omega arith
+
+  module _ {u : Tabs} {r : Step.Step} (out : SlotOut level b source base i t st u r) where
+    told-slot : {x : Step.Step} → r ≡ x → SlotSays level b source base i t st u x
+    told-slot is = subst (SlotSays level b source base i t st u) is (out .says)
+
+    pub turn-more : {s : Progress.State} → i < entries → r ≡ Step.the-variants.Next s → Kept t u
+        → Turn level b source base entries t₀ st₀ u s (i + 1)
+    turn-more h is k = record {
       turn = omega arith;
-      kept = record { work = k .work ∙ t .kept .work; upperLinks = k .upperLinks ∙ t .kept .upperLinks; upperValues = k .upperValues ∙ t .kept .upperValues; lowerLinks = k .lowerLinks ∙ t .kept .lowerLinks; lowerValues = k .lowerValues ∙ t .kept .lowerValues; leafValues = k .leafValues ∙ t .kept .leafValues };
-      fit = subst (λ (x : Step.Step). Rattle.decode.specs.Inner.Filled.SlotFit (length b) (tabs w' ul' uv' ll' lv' lf') x) is (out .fit);
+      kept = kept-on (turn .kept) k;
+      fit = subst (SlotFit (length b) u) is (out .fit);
       says = λ l e p d outer B.
           let (now, read, handed) = slot-handed l e p d outer B in
-          let (next, slot, holds) = subst (λ (x : Step.Step). Rattle.decode.specs.Inner.Filled.SlotSays level b source base i (tabs w ul uv ll lv lf) st (tabs w' ul' uv' ll' lv' lf') x) is (out .says) l e p now outer handed in
+          let (next, slot, holds) = told-slot is l e p now outer handed in
           (next, slots-more b (node l b p) level source d i now next read slot, holds);
     }
 
-    pub turn-stops : (w' ul' : List ℕ) (uv' : List Float) (ll' : List ℕ) (lv' lf' : List Float) (r : Step.Step) (n : ℕ) → SlotOut level b source base i (tabs w ul uv ll lv lf) st (tabs w' ul' uv' ll' lv' lf') r → r ≡ Step.the-variants.Stop n
-        → (l : ℕ) → level ≡ suc l → (p : Places) (d : State) (outer : List Entry) → Begins level l b source base w₀ ul₀ uv₀ ll₀ lv₀ lf₀ st₀ p d outer
+    pub turn-stops : {n : ℕ} → r ≡ Step.the-variants.Stop n → (l : ℕ) → level ≡ suc l → (p : Places) (d : State) (outer : List Entry)
+        → Begins level l b source base t₀ st₀ p d outer
         → (now : Slots) × (slotsRead b (node l b p) level source i d ≡ ok now) × (slotRead b (node l b p) level source i now ≡ refused n)
-    turn-stops w' ul' uv' ll' lv' lf' r n out is l e p d outer B =
+    turn-stops is l e p d outer B =
         let (now, read, handed) = slot-handed l e p d outer B in
-        (now, read, subst (λ (x : Step.Step). Rattle.decode.specs.Inner.Filled.SlotSays level b source base i (tabs w ul uv ll lv lf) st (tabs w' ul' uv' ll' lv' lf') x) is (out .says) l e p now outer handed)
+        (now, read, told-slot is l e p now outer handed)

@@ -6,8 +6,26 @@ use Rattle.float.specs.Literal.{zero-literal}
 use Rattle.decode.proofs.refused.Statement.{statement}
 use Rattle.decode.proofs.refused.Tie as tie
 
+-- the code's zero, along the path to the definition's
 returns : tie.Need-returns
-returns c = λ i. record { number = c .args .number; roots = 0; upper = 0; lower = 0; leaf = 0; background = zero-literal binary32 i; medium = record { low = record { x = zero-literal binary32 i; y = zero-literal binary32 i; z = zero-literal binary32 i }; high = record { x = zero-literal binary32 i; y = zero-literal binary32 i; z = zero-literal binary32 i }; indexLow = record { x = pos 0; y = pos 0; z = pos 0 }; indexHigh = record { x = pos 0; y = pos 0; z = pos 0 }; map = zero-literal binary32 i ∷ zero-literal binary32 i ∷ zero-literal binary32 i ∷ zero-literal binary32 i ∷ zero-literal binary32 i ∷ zero-literal binary32 i ∷ zero-literal binary32 i ∷ zero-literal binary32 i ∷ zero-literal binary32 i ∷ []; translation = record { x = zero-literal binary32 i; y = zero-literal binary32 i; z = zero-literal binary32 i } } }
+returns c = λ i.
+    let z = zero-literal binary32 i in
+    record {
+      number = c .args .number;
+      roots = 0;
+      upper = 0;
+      lower = 0;
+      leaf = 0;
+      background = z;
+      medium = record {
+        low = record { x = z; y = z; z = z };
+        high = record { x = z; y = z; z = z };
+        indexLow = record { x = pos 0; y = pos 0; z = pos 0 };
+        indexHigh = record { x = pos 0; y = pos 0; z = pos 0 };
+        map = z ∷ z ∷ z ∷ z ∷ z ∷ z ∷ z ∷ z ∷ z ∷ [];
+        translation = record { x = z; y = z; z = z };
+      };
+    }
 
 pub refused-spec : {M : Type 1} → statement M
 refused-spec = tie.close (tie.spec returns)

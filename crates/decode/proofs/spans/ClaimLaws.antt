@@ -9,13 +9,13 @@ use lib.Dec.{ltb}
 use borrow.Author.Tests.{lt-ltb, le-ltb, le-leb, lt-leb}
 use Rattle.nanovdb.specs.Nodes.{State, claim, withSpan}
 use Rattle.nanovdb.specs.Spans.{Span, overlaps, Seen, at, nowhere}
-use Rattle.refusals.specs.Results.{ok, refused}
+use Rattle.refusals.specs.Results.{Result, ok, refused}
 use Rattle.decode.specs.declared.spans.Spans.{Spans}
+use Rattle.decode.specs.declared.spans.Claimed.{Claimed}
 use Rattle.decode.specs.declared.spans.Found.{Found}
 use Rattle.decode.specs.declared.spans.Found.the-variants.{At, Nothing}
-use Rattle.decode.specs.declared.spans.Claimed.{Claimed}
-use Rattle.decode.specs.declared.spans.Claimed.the-variants.{Done, Refused}
-use Rattle.decode.specs.Inner.WorkTable.{Small, size, spanAt, nodes, spans, nodeSpan, Says, headerSpan, rootSpan, SaysRoot, Begun, Rep, seenOf, ClaimOut}
+use Rattle.decode.specs.Inner.WorkTable.{Small, size, spanAt, nodes, spans, nodeSpan, Says, headerSpan, rootSpan, SaysRoot, Begun, Rep}
+use Rattle.decode.specs.Inner.WorkTable.{seenOf, ClaimOut}
 use Rattle.decode.proofs.spans.Laws.{and-no}
 
 pub length-nodes : (w : List ℕ) (k : ℕ) → length (nodes w k) ≡ k
@@ -27,25 +27,60 @@ pub length-spans : (w : List ℕ) (k root limit : ℕ) → length (spans w k roo
 unfolding spans
 length-spans w k root limit = let h = length-nodes w k in omega arith
 
-module _ (len : ℕ) (w : List ℕ) (s : Spans) (start level number : ℕ) where
-  pub says-5 : len < start + size level → Says len w s (nodeSpan start level number) (λ (u : State). refused 5)
-  unfolding claim
-  says-5 l b p t e f g = rw (lt-leb (start + size level) (length b) (omega arith))
+-- a node that is claimed: the bytes' length, the words, and its span
+pub record Node : Type 0 where
+  pub len : ℕ
+  pub words : List ℕ
+  pub spans : Spans
+  pub start : ℕ
+  pub level : ℕ
+  pub number : ℕ
 
-  pub says-6 : start + size level ≤ len → overlaps (spans w (s .count) (s .root) (s .limit)) start (start + size level) ≡ true → Says len w s (nodeSpan start level number) (λ (u : State). refused 6)
-  unfolding claim
-  says-6 l o b p t e f g = rw (le-leb (start + size level) (length b) (omega arith), g, o)
+abbrev pub end : Node → ℕ
+end n = n .start + size (n .level)
 
-  pub says-9 : start + size level ≤ len → overlaps (spans w (s .count) (s .root) (s .limit)) start (start + size level) ≡ false → length w / 4 < s .count + 3 → Says len w s (nodeSpan start level number) (λ (u : State). refused 9)
-  unfolding claim
-  says-9 l o m b p t e f g = rw (le-leb (start + size level) (length b) (omega arith), g, o, length-spans w (s .count) (s .root) (s .limit), f, le-ltb (s .count + 2) (length w / 4) (omega arith))
+-- the spans that the words hold
+abbrev pub held : Node → List Span
+held n = spans (n .words) (n .spans .count) (n .spans .root) (n .spans .limit)
 
-  pub says-ok : start + size level ≤ len → overlaps (spans w (s .count) (s .root) (s .limit)) start (start + size level) ≡ false → s .count + 3 ≤ length w / 4 → Says len w s (nodeSpan start level number) (λ (u : State). ok (withSpan u (nodeSpan start level number)))
+-- what the definition's `claim` of it does
+abbrev pub Answers : Node → (State → Result State) → Type 0
+Answers n f = Says (n .len) (n .words) (n .spans) (nodeSpan (n .start) (n .level) (n .number)) f
+
+-- what the code's `claim` of it answered
+abbrev pub Outcome : Node → List ℕ → Claimed → Type 0
+Outcome n w r = ClaimOut (n .len) (n .words) w (n .spans) r (n .start) (n .level) (n .number)
+
+pub claim-is : (n : Node) (w : List ℕ) {r x : Claimed} → Outcome n w r → r ≡ x → Outcome n w x
+claim-is n w out is = subst (Outcome n w) is out
+
+module _ (n : Node) where
+  pub says-5 : n .len < end n → Answers n (λ (u : State). refused 5)
   unfolding claim
-  says-ok l o m b p t e f g =
-      let n : length (t .spans) ≡ s .count + 2 = ap length g ∙ length-spans w (s .count) (s .root) (s .limit) in
-      let o' : overlaps (t .spans) start (start + size level) ≡ false = ap (λ (x : List Span). overlaps x start (start + size level)) g ∙ o in
-      rw (le-leb (start + size level) (length b) (omega arith), o', n, f, lt-ltb (s .count + 2) (length w / 4) (omega arith))
+  says-5 l b p t e f g = rw (lt-leb (end n) (length b) (omega arith))
+
+  module _ (inside : end n ≤ n .len) where
+    pub says-6 : overlaps (held n) (n .start) (end n) ≡ true → Answers n (λ (u : State). refused 6)
+    unfolding claim
+    says-6 o b p t e f g = rw (le-leb (end n) (length b) (omega arith), g, o)
+
+    module _ (apart : overlaps (held n) (n .start) (end n) ≡ false) where
+      free : (t : State) → t .spans ≡ held n → overlaps (t .spans) (n .start) (end n) ≡ false
+      free t g = ap (λ (x : List Span). overlaps x (n .start) (end n)) g ∙ apart
+
+      many : (t : State) → t .spans ≡ held n → length (t .spans) ≡ n .spans .count + 2
+      many t g = ap length g ∙ length-spans (n .words) (n .spans .count) (n .spans .root) (n .spans .limit)
+
+      pub says-9 : length (n .words) / 4 < n .spans .count + 3 → Answers n (λ (u : State). refused 9)
+      unfolding claim
+      says-9 m b p t e f g =
+          rw (le-leb (end n) (length b) (omega arith), free t g, many t g, f, le-ltb (n .spans .count + 2) (length (n .words) / 4) (omega arith))
+
+      pub says-ok : n .spans .count + 3 ≤ length (n .words) / 4
+          → Answers n (λ (u : State). ok (withSpan u (nodeSpan (n .start) (n .level) (n .number))))
+      unfolding claim
+      says-ok m b p t e f g =
+          rw (le-leb (end n) (length b) (omega arith), free t g, many t g, f, lt-ltb (n .spans .count + 2) (length (n .words) / 4) (omega arith))
 
 -- ---- the root
 
@@ -80,24 +115,18 @@ module _ (len : ℕ) (w : List ℕ) (root limit : ℕ) (pos : root < limit) wher
       let o' : overlaps (t .spans) root limit ≡ false = ap (λ (x : List Span). overlaps x root limit) g ∙ header-not root limit o in
       rw (le-leb limit (length b) (omega arith), o', n, f, lt-ltb 1 (length w / 4) (omega arith))
 
-pub begun : (w w' : List ℕ) (root limit : ℕ) → Rep w' 0 → length w' ≡ length w → Begun w w' (record { count = 0; root = root; limit = limit }) root limit
+pub begun : {w w' : List ℕ} {root limit : ℕ} → Rep w' 0 → length w' ≡ length w
+    → Begun w w' (record { count = 0; root = root; limit = limit }) root limit
 unfolding spans nodes
-begun w w' root limit rep len = record { rep = rep; size-kept = len; list = refl }
+begun rep len = record { rep = rep; size-kept = len; list = refl }
 
 -- ---- what a match has told
 
-pub seen-again : (r : Found) (k : ℕ) (s : Seen) → seenOf r ≡ s → r ≡ At k → s ≡ at k
-seen-again r k s e q = sym e ∙ ap seenOf q
+pub seen-again : {r : Found} {k : ℕ} {s : Seen} → seenOf r ≡ s → r ≡ At k → s ≡ at k
+seen-again e q = sym e ∙ ap seenOf q
 
-pub small-again : (r : Found) (k : ℕ) → Small r → r ≡ At k → k < 4294967295
-small-again r k h q = subst Small q h
+pub small-again : {r : Found} {k : ℕ} → Small r → r ≡ At k → k < 4294967295
+small-again h q = subst Small q h
 
-pub seen-fresh : (r : Found) (s : Seen) → seenOf r ≡ s → r ≡ Nothing → s ≡ nowhere
-seen-fresh r s e q = sym e ∙ ap seenOf q
-
-module _ (len : ℕ) (w w' : List ℕ) (s : Spans) (start level number : ℕ) (r : Claimed) (o : ClaimOut len w w' s r start level number) where
-  pub claim-done : (t : Spans) → r ≡ Done t → ClaimOut len w w' s (Done t) start level number
-  claim-done t q = subst (λ (x : Claimed). ClaimOut len w w' s x start level number) q o
-
-  pub claim-refused : (e : ℕ) → r ≡ Refused e → ClaimOut len w w' s (Refused e) start level number
-  claim-refused e q = subst (λ (x : Claimed). ClaimOut len w w' s x start level number) q o
+pub seen-fresh : {r : Found} {s : Seen} → seenOf r ≡ s → r ≡ Nothing → s ≡ nowhere
+seen-fresh e q = sym e ∙ ap seenOf q

@@ -10,7 +10,9 @@ use lib.ListN.{length}
 use lib.Dec.{ltb, eqb}
 use borrow.Author.Tests.{lt-ltb, le-ltb, ltb-true, ltb-false, ne-eqb, eqb-true}
 use Rattle.nanovdb.specs.Spans.{Span, Seen, at, nowhere, overlaps, seen}
-use Rattle.decode.specs.Inner.WorkTable.{nodeStart, nodeLevel, nodeNumber, chainLink, chainHead, size, spanAt, nodes, headerSpan, rootSpan, spans, chainIn, chainOf, Rep, over, hits, MetIn, MetAt, FoundIn}
+use Rattle.decode.specs.Inner.WorkTable.{nodeStart, nodeLevel, nodeNumber, chainLink, chainHead, size, spanAt, nodes, headerSpan, rootSpan}
+use Rattle.decode.specs.Inner.WorkTable.{spans, chainIn, chainOf, Rep, over, hits, MetIn, MetAt, FoundIn}
+use Rattle.decode.specs.declared.spans.Spans.{Spans}
 
 -- ---- tests
 
@@ -70,9 +72,14 @@ pub over-some : (w : List ℕ) (k i s e : ℕ) → i < k → over w i s e ≡ tr
 over-some w zero i s e l t = absurd (omega arith)
 over-some w (suc k) i s e l t =
     let le : i ≤ k = omega arith in
-    nodes-over w k s e ∙ ⊎-elim (λ (q : i ≡ k). rw (sym q, t) (or-yes (overlaps (nodes w i) s e))) (λ (q : i < k). rw (over-some w k i s e q t)) (eq-or-lt-of-le le)
+    nodes-over w k s e
+    ∙ ⊎-elim
+    (λ (q : i ≡ k). rw (sym q, t) (or-yes (overlaps (nodes w i) s e)))
+    (λ (q : i < k). rw (over-some w k i s e q t))
+    (eq-or-lt-of-le le)
 
-pub overlaps-spans : (w : List ℕ) (count root limit s e : ℕ) → overlaps (spans w count root limit) s e ≡ (overlaps (headerSpan ∷ (rootSpan root limit ∷ [])) s e || overlaps (nodes w count) s e)
+pub overlaps-spans : (w : List ℕ) (count root limit s e : ℕ)
+    → overlaps (spans w count root limit) s e ≡ (overlaps (headerSpan ∷ (rootSpan root limit ∷ [])) s e || overlaps (nodes w count) s e)
 unfolding spans
 overlaps-spans w count root limit s e = overlaps-append (headerSpan ∷ (rootSpan root limit ∷ [])) (nodes w count) s e
 
@@ -104,12 +111,16 @@ unfolding nodes seen
 seen-none w zero s l f = refl
 seen-none w (suc k) s l f = nodes-seen w k s l ∙ rw (seen-none w k s l (λ i q. f i (omega arith)), f k (omega arith))
 
-pub seen-first : (w : List ℕ) (k i s l : ℕ) → i < k → hits w i s l ≡ true → ((j : ℕ) → j < i → hits w j s l ≡ false) → seen (nodes w k) s l ≡ at (nodeNumber w i)
+pub seen-first : (w : List ℕ) (k i s l : ℕ) → i < k → hits w i s l ≡ true → ((j : ℕ) → j < i → hits w j s l ≡ false)
+    → seen (nodes w k) s l ≡ at (nodeNumber w i)
 seen-first w zero i s l p t f = absurd (omega arith)
 seen-first w (suc k) i s l p t f =
     let le : i ≤ k = omega arith in
     nodes-seen w k s l
-    ∙ ⊎-elim (λ (q : i ≡ k). let g : (j : ℕ) → j < k → hits w j s l ≡ false = λ j m. f j (omega arith) in rw (seen-none w k s l g, sym q, t)) (λ (q : i < k). rw (seen-first w k i s l q t f)) (eq-or-lt-of-le le)
+    ∙ ⊎-elim
+    (λ (q : i ≡ k). let g : (j : ℕ) → j < k → hits w j s l ≡ false = λ j m. f j (omega arith) in rw (seen-none w k s l g, sym q, t))
+    (λ (q : i < k). rw (seen-first w k i s l q t f))
+    (eq-or-lt-of-le le)
 
 pub seen-spans : (w : List ℕ) (count root limit s l : ℕ) → l < 3 → seen (spans w count root limit) s l ≡ seen (nodes w count) s l
 unfolding spans seen
@@ -123,16 +134,17 @@ hits-parts w i s l t = let b = and-both _ _ t in (eqb-true _ _ (b .0), eqb-true 
 
 -- ---- what a search says of the list
 
-module _ (w : List ℕ) (count root limit s l : ℕ) (rep : Rep w count) (p : l < 3) where
-  pub seen-at : (r : ℕ) → 0 < r → FoundIn w count s l r → at (nodeNumber w (r - 1)) ≡ seen (spans w count root limit) s l
-  seen-at r q f =
-      let t = f .yes q in
+module _ {w : List ℕ} {count s l r : ℕ} (f : FoundIn w count s l r) (root limit : ℕ) where
+  pub seen-at : Rep w count → l < 3 → 0 < r → at (nodeNumber w (r - 1)) ≡ seen (spans w count root limit) s l
+  seen-at rep p q =
+      let t = hits-parts w (r - 1) s l (f .yes q) in
       let low : r - 1 < count = omega (arith, f .below) in
-      let alone : (j : ℕ) → j < r - 1 → hits w j s l ≡ false = λ j m. false-of _ (λ u. rep .apart j (r - 1) m low (hits-parts w j s l u .0 ∙ sym (hits-parts w (r - 1) s l t .0)) (hits-parts w j s l u .1 ∙ sym (hits-parts w (r - 1) s l t .1))) in
-      sym (seen-spans w count root limit s l p ∙ seen-first w count (r - 1) s l low t alone)
+      let alone : (j : ℕ) → j < r - 1 → hits w j s l ≡ false
+      = λ j m. false-of _ (λ u. let v = hits-parts w j s l u in rep .apart j (r - 1) m low (v .0 ∙ sym (t .0)) (v .1 ∙ sym (t .1))) in
+      sym (seen-spans w count root limit s l p ∙ seen-first w count (r - 1) s l low (f .yes q) alone)
 
-  pub seen-no : (r : ℕ) → r ≡ 0 → FoundIn w count s l r → nowhere ≡ seen (spans w count root limit) s l
-  seen-no r q f = sym (seen-spans w count root limit s l p ∙ seen-none w count s l (f .no q))
+  pub seen-no : l < 3 → r ≡ 0 → nowhere ≡ seen (spans w count root limit) s l
+  seen-no p q = sym (seen-spans w count root limit s l p ∙ seen-none w count s l (f .no q))
 
 -- ---- the walk of a chain
 
@@ -155,24 +167,38 @@ module _ {w : List ℕ} {count h : ℕ} {t : ℕ → Bool} where
       record {
         below = omega (arith, q .below);
         here = λ m. q .here m ∙ k .here p;
-        past = λ i a b e. ⊎-elim (λ (y : ltb i v ≡ true). ⊎-elim (λ (x : i ≡ v - 1). ap t x ∙ f) (λ (x : i < v - 1). absurd (q .none i a x (e ∙ sym (k .here p)))) (eq-or-lt-of-le (omega (arith, ltb-true i v y)))) (λ (y : ltb i v ≡ false). k .past i (ltb-false i v y) b e) (split (ltb i v));
+        past = λ i a b e.
+            ⊎-elim
+            (λ (y : ltb i v ≡ true).
+            ⊎-elim
+            (λ (x : i ≡ v - 1). ap t x ∙ f)
+            (λ (x : i < v - 1). absurd (q .none i a x (e ∙ sym (k .here p))))
+            (eq-or-lt-of-le (omega (arith, ltb-true i v y))))
+            (λ (y : ltb i v ≡ false). k .past i (ltb-false i v y) b e)
+            (split (ltb i v));
       }
 
 pub chain-hit : (w : List ℕ) (i s l : ℕ) → hits w i s l ≡ true → chainOf w i ≡ chainIn (length w / 4) l (s / size l)
 unfolding chainOf
 chain-hit w i s l t = let b = hits-parts w i s l t in rw (b .0, b .1)
 
-pub found-here : (w : List ℕ) (count h s l v : ℕ) → 0 < v → Walk w count h (λ (i : ℕ). hits w i s l) v → hits w (v - 1) s l ≡ true → FoundIn w count s l v
-found-here w count h s l v p k t = record { below = k .below; yes = λ _. t; no = λ e. absurd (omega arith) }
+module _ {w : List ℕ} {count s l : ℕ} {h v : ℕ} (k : Walk w count h (λ (i : ℕ). hits w i s l) v) where
+  pub found-here : 0 < v → hits w (v - 1) s l ≡ true → FoundIn w count s l v
+  found-here p t = record { below = k .below; yes = λ _. t; no = λ e. absurd (omega arith) }
 
-pub found-none : (w : List ℕ) (count h s l v : ℕ) → v ≤ 0 → h ≡ chainIn (length w / 4) l (s / size l) → Walk w count h (λ (i : ℕ). hits w i s l) v → FoundIn w count s l 0
-found-none w count h s l v p e k = record { below = omega arith; yes = λ q. absurd (omega arith); no = λ _ i m. false-of _ (λ u. not-both _ u (k .past i (omega arith) m (chain-hit w i s l u ∙ sym e))) }
+  pub found-none : v ≤ 0 → h ≡ chainIn (length w / 4) l (s / size l) → FoundIn w count s l 0
+  found-none p e = record {
+    below = omega arith;
+    yes = λ q. absurd (omega arith);
+    no = λ _ i m. false-of _ (λ u. not-both _ u (k .past i (omega arith) m (chain-hit w i s l u ∙ sym e)));
+  }
 
-pub met-here : (w : List ℕ) (count h s e v : ℕ) → 0 < v → Walk w count h (λ (i : ℕ). over w i s e) v → over w (v - 1) s e ≡ true → MetIn w count h s e true
-met-here w count h s e v p k t = record { yes = λ _. over-some w count (v - 1) s e (omega (arith, k .below)) t; no = λ f. not-both true refl f }
+module _ {w : List ℕ} {count h s e v : ℕ} (k : Walk w count h (λ (i : ℕ). over w i s e) v) where
+  pub met-here : 0 < v → over w (v - 1) s e ≡ true → MetIn w count h s e true
+  met-here p t = record { yes = λ _. over-some w count (v - 1) s e (omega (arith, k .below)) t; no = λ f. not-both true refl f }
 
-pub met-none : (w : List ℕ) (count h s e v : ℕ) → v ≤ 0 → Walk w count h (λ (i : ℕ). over w i s e) v → MetIn w count h s e false
-met-none w count h s e v p k = record { yes = λ f. not-both false f refl; no = λ _ i m c. k .past i (omega arith) m c }
+  pub met-none : v ≤ 0 → MetIn w count h s e false
+  met-none p = record { yes = λ f. not-both false f refl; no = λ _ i m c. k .past i (omega arith) m c }
 
 -- ---- the stretches of one level
 
@@ -187,9 +213,10 @@ module _ (w : List ℕ) (count level s e : ℕ) (pos : 0 < size level) where
       let c : s < nodeStart w i + size level = rw l at (b .1) in
       div-mono _ _ _ pos (omega arith)
 
-  pub from-next : (q h : ℕ) (r : Bool) → h ≡ chainIn (length w / 4) level q → r ≡ false → MetIn w count h s e r → From w count level s e q → From w count level s e (q + 1)
+  pub from-next : (q : ℕ) {h : ℕ} {r : Bool} → h ≡ chainIn (length w / 4) level q → r ≡ false → MetIn w count h s e r → From w count level s e q
+      → From w count level s e (q + 1)
   unfolding chainOf
-  from-next q h r c g k f i m l t =
+  from-next q c g k f i m l t =
       ⊎-elim
       (λ (x : q ≡ nodeStart w i / size level). not-both _ t (k .no g i m (rw (l, sym x) (sym c))))
       (λ (x : q < nodeStart w i / size level). omega arith)
@@ -198,11 +225,14 @@ module _ (w : List ℕ) (count level s e : ℕ) (pos : 0 < size level) where
   pub from-end : (q : ℕ) → (e - 1) / size level < q → From w count level s e q → MetAt w count level s e false
   from-end q g f = record {
     yes = λ x. not-both false x refl;
-    no = λ _ i m l. false-of _ (λ t. let b = over-parts w i s e t in let d : nodeStart w i / size level ≤ (e - 1) / size level = div-mono _ _ _ pos (omega (arith, b .0)) in omega (arith, f i m l t));
+    no = λ _ i m l. false-of _ (λ t.
+        let b = over-parts w i s e t in
+        let d : nodeStart w i / size level ≤ (e - 1) / size level = div-mono _ _ _ pos (omega (arith, b .0)) in
+        omega (arith, f i m l t));
   }
 
-pub met-at : (w : List ℕ) (count h level s e : ℕ) (r : Bool) → r ≡ true → MetIn w count h s e r → MetAt w count level s e true
-met-at w count h level s e r t k = record { yes = λ _. k .yes t; no = λ f. not-both true refl f }
+pub met-at : {w : List ℕ} {count h level s e : ℕ} {r : Bool} → r ≡ true → MetIn w count h s e r → MetAt w count level s e true
+met-at t k = record { yes = λ _. k .yes t; no = λ f. not-both true refl f }
 
 -- ---- the whole list
 
@@ -212,19 +242,24 @@ three (suc zero) p = inr (inl refl)
 three (suc (suc zero)) p = inr (inr refl)
 three (suc (suc (suc l))) p = absurd (omega arith)
 
-module _ (w : List ℕ) (count root limit s e : ℕ) where
-  pub whole-fixed : (r : Bool) → r ≡ overlaps (headerSpan ∷ (rootSpan root limit ∷ [])) s e → r ≡ true → true ≡ overlaps (spans w count root limit) s e
-  whole-fixed r q t = sym (overlaps-spans w count root limit s e ∙ rw (sym q, t))
+-- r says whether the header or the root is met
+module _ (w : List ℕ) (s : Spans) (start e : ℕ) {r : Bool} (fixed : r ≡ overlaps (headerSpan ∷ (rootSpan (s .root) (s .limit) ∷ [])) start e) where
+  pub whole-fixed : r ≡ true → true ≡ overlaps (spans w (s .count) (s .root) (s .limit)) start e
+  whole-fixed t = sym (overlaps-spans w (s .count) (s .root) (s .limit) start e ∙ rw (sym fixed, t))
 
-  pub whole-nodes : (r x : Bool) → r ≡ overlaps (headerSpan ∷ (rootSpan root limit ∷ [])) s e → r ≡ false → x ≡ overlaps (nodes w count) s e → x ≡ overlaps (spans w count root limit) s e
-  whole-nodes r x q t y = y ∙ sym (overlaps-spans w count root limit s e ∙ rw (sym q, t))
+  pub whole-nodes : r ≡ false → {x : Bool} → x ≡ overlaps (nodes w (s .count)) start e → x ≡ overlaps (spans w (s .count) (s .root) (s .limit)) start e
+  whole-nodes t y = y ∙ sym (overlaps-spans w (s .count) (s .root) (s .limit) start e ∙ rw (sym fixed, t))
 
-pub levels : (w : List ℕ) (count s e : ℕ) (a b c : Bool) → Rep w count → MetAt w count 0 s e a → a ≡ false → MetAt w count 1 s e b → b ≡ false → MetAt w count 2 s e c → c ≡ overlaps (nodes w count) s e
-levels w count s e a b c rep x p y q z =
-    ⊎-elim
-    (λ t. t ∙ sym (z .yes t))
-    (λ f. f ∙ sym (over-none w count s e (λ i m. ⊎-elim (λ g. x .no p i m g) (λ u. ⊎-elim (λ g. y .no q i m g) (λ g. z .no f i m g) u) (three (nodeLevel w i) (rep .level i m)))))
-    (split c)
+pub levels : {w : List ℕ} {count s e : ℕ} {a b c : Bool} → Rep w count → MetAt w count 0 s e a → a ≡ false → MetAt w count 1 s e b → b ≡ false
+    → MetAt w count 2 s e c → c ≡ overlaps (nodes w count) s e
+levels {w} {count} {s} {e} {c = c} rep x p y q z = ⊎-elim (λ t. t ∙ sym (z .yes t)) (λ f. f ∙ sym (over-none w count s e (none f))) (split c)
+  where
+    none : c ≡ false → (i : ℕ) → i < count → over w i s e ≡ false
+    none f i m =
+        ⊎-elim
+        (λ g. x .no p i m g)
+        (λ u. ⊎-elim (λ g. y .no q i m g) (λ g. z .no f i m g) u)
+        (three (nodeLevel w i) (rep .level i m))
 
 pub size-pos : (l : ℕ) → 0 < size l
 unfolding size
@@ -287,7 +322,7 @@ pub quot-small : (x k : ℕ) → x < 2 ^ 64 → 2144 ≤ k → x / k < 2 ^ 60
 quot-small x k p l = let q : 0 < k = omega arith in div-lt-iff-lt-mul q .1 (omega arith)
 
 -- `over` of the code, with z the size that was looked up
-module _ (a e s z word : ℕ) (q : z ≡ size (word % 4)) where
+module _ (a e s word : ℕ) {z : ℕ} (q : z ≡ size (word % 4)) where
   pub over-near : a < e → s < z → true ≡ (ltb a e && ltb s (a + size (word % 4)))
   over-near x y = both _ _ (lt-ltb a e x) (lt-ltb s (a + size (word % 4)) (omega arith))
 
@@ -300,30 +335,21 @@ module _ (a e s z word : ℕ) (q : z ≡ size (word % 4)) where
   pub over-before : e ≤ a → false ≡ (ltb a e && ltb s (a + size (word % 4)))
   over-before x = left-no _ _ (le-ltb a e x)
 
--- what holds below i and at i holds below i + 1
-pub more : (t : ℕ → Bool) (i : ℕ) → ((j : ℕ) → j < i → t j ≡ false) → t i ≡ false → (j : ℕ) → j < i + 1 → t j ≡ false
-more t i f e j l = ⊎-elim (λ (q : j ≡ i). ap t q ∙ e) (λ (q : j < i). f j q) (eq-or-lt-of-le (omega arith))
-
-pub scan-here : (w : List ℕ) (count s l i : ℕ) → i < count → hits w i s l ≡ true → FoundIn w count s l (i + 1)
-scan-here w count s l i p t = record { below = omega arith; yes = λ _. let e : i + 1 - 1 ≡ i = omega arith in rw e t; no = λ e. absurd (omega arith) }
-
-pub scan-none : (w : List ℕ) (count s l i : ℕ) → count ≤ i → ((j : ℕ) → j < i → hits w j s l ≡ false) → FoundIn w count s l 0
-scan-none w count s l i p f = record { below = omega arith; yes = λ e. absurd (omega arith); no = λ _ j m. f j (omega arith) }
-
-pub scan-clear : (w : List ℕ) (count s e i : ℕ) → count ≤ i → ((j : ℕ) → j < i → over w j s e ≡ false) → false ≡ overlaps (nodes w count) s e
-scan-clear w count s e i p f = sym (over-none w count s e (λ j m. f j (omega arith)))
-
 or-right : (p q : Bool) → (p || q) ≡ false → q ≡ false
 or-right true q e = not-both true refl e
 or-right false q e = e
 
 -- no node of the level starts where no span overlaps
-pub clear-of : (w : List ℕ) (k root limit s l i : ℕ) → overlaps (spans w k root limit) s (s + size l) ≡ false → i < k → nodeStart w i ≡ s → nodeLevel w i ≡ l → ⊥
+pub clear-of : (w : List ℕ) (k root limit s l i : ℕ) → overlaps (spans w k root limit) s (s + size l) ≡ false → i < k → nodeStart w i ≡ s
+    → nodeLevel w i ≡ l → ⊥
 unfolding over
 clear-of w k root limit s l i f m a b =
     let z = size-pos l in
-    let t : over w i s (s + size l) ≡ true = sym (both _ _ (lt-ltb (nodeStart w i) (s + size l) (omega arith)) (lt-ltb s (nodeStart w i + size (nodeLevel w i)) (rw b (omega arith)))) in
-    not-both _ (over-some w k i s (s + size l) m t) (or-right (overlaps (headerSpan ∷ (rootSpan root limit ∷ [])) s (s + size l)) _ (sym (overlaps-spans w k root limit s (s + size l)) ∙ f))
+    let begins = lt-ltb (nodeStart w i) (s + size l) (omega arith) in
+    let ends = lt-ltb s (nodeStart w i + size (nodeLevel w i)) (rw b (omega arith)) in
+    let t : over w i s (s + size l) ≡ true = sym (both _ _ begins ends) in
+    not-both _ (over-some w k i s (s + size l) m t)
+    (or-right (overlaps (headerSpan ∷ (rootSpan root limit ∷ [])) s (s + size l)) _ (sym (overlaps-spans w k root limit s (s + size l)) ∙ f))
 
-pub number-small : (w : List ℕ) (count s l r : ℕ) → Rep w count → 0 < r → FoundIn w count s l r → nodeNumber w (r - 1) < 4294967295
-number-small w count s l r rep p f = rep .number (r - 1) (omega (arith, f .below))
+pub number-small : {w : List ℕ} {count s l r : ℕ} → Rep w count → 0 < r → FoundIn w count s l r → nodeNumber w (r - 1) < 4294967295
+number-small {r = r} rep p f = rep .number (r - 1) (omega (arith, f .below))

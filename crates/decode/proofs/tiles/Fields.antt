@@ -33,7 +33,9 @@ module _ (k : ℕ) (h : k < 2147483648) where
   less-is = toZ-ofZ less-fits ∙ less
 
 pub field-high : (bits : ℕ) → bits < 1048576 → 524288 ≤ bits → toZ w32 (ofZ w32 (negsuc 0 -ℤ toZ w32 (1048575 - bits))) ≡ signed 20 bits
-field-high bits s h = let e : 1048575 - bits ≡ 1048576 - (bits + 1) = omega arith in less-is (1048575 - bits) (omega arith) ∙ ap negsuc e ∙ sym (signed-high 20 bits h)
+field-high bits s h =
+    let e : 1048575 - bits ≡ 1048576 - (bits + 1) = omega arith in
+    less-is (1048575 - bits) (omega arith) ∙ ap negsuc e ∙ sym (signed-high 20 bits h)
 
 -- an i32 that a local holds as bits
 pub i32-seen : (z v : ℤ) → mag z < 2 ^ 31 → z ≡ v → toZ w32 (ofZ w32 z) ≡ v

@@ -63,7 +63,14 @@ pub record Tabs : Type 0 where
   pub leafValues : List Float
 
 abbrev pub tabs : List ℕ → List ℕ → List Float → List ℕ → List Float → List Float → Tabs
-tabs work upperLinks upperValues lowerLinks lowerValues leafValues = record { work = work; upperLinks = upperLinks; upperValues = upperValues; lowerLinks = lowerLinks; lowerValues = lowerValues; leafValues = leafValues }
+tabs work upperLinks upperValues lowerLinks lowerValues leafValues = record {
+  work = work;
+  upperLinks = upperLinks;
+  upperValues = upperValues;
+  lowerLinks = lowerLinks;
+  lowerValues = lowerValues;
+  leafValues = leafValues;
+}
 
 -- what the code needs to stay inside its tables: whole chains, few nodes, paired tables
 pub record Fit (len : ℕ) (t : Tabs) (s : Progress.State) : Type 0 where
@@ -122,7 +129,8 @@ pub record Reads (level : ℕ) (b : List ℕ) (t : Tabs) (s : Progress.State) (p
 abbrev pub NodeSays : ℕ → List ℕ → ℕ → Tabs → Progress.State → Tabs → Placed.Placed → Type 0
 NodeSays level b source t s u (Placed.the-variants.Node k v) = (p : Places) (d : State) (lower upper : List Entry) → Reads level b t s p d lower upper
     → (e : State) × (node level b p source d ≡ ok (record { number = k; state = e })) × Holds u v e lower upper
-NodeSays level b source t s u (Placed.the-variants.Refused n) = (p : Places) (d : State) (lower upper : List Entry) → Reads level b t s p d lower upper → node level b p source d ≡ refused n
+NodeSays level b source t s u (Placed.the-variants.Refused n) = (p : Places) (d : State) (lower upper : List Entry) → Reads level b t s p d lower upper
+    → node level b p source d ≡ refused n
 
 abbrev pub NodeFit : ℕ → Tabs → Placed.Placed → Type 0
 NodeFit len u (Placed.the-variants.Node k v) = Fit len u v × (k < 4294967295)
@@ -152,9 +160,12 @@ pub record ReadsSlot (level : ℕ) (b : List ℕ) (at : ℕ) (t : Tabs) (s : Pro
   pub place : before level (now .state) (now .entries) ≡ at
 
 abbrev pub SlotSays : ℕ → List ℕ → ℕ → ℕ → ℕ → Tabs → Progress.State → Tabs → Step.Step → Type 0
-SlotSays level b source base i t s u (Step.the-variants.Next v) = (l : ℕ) → level ≡ suc l → (p : Places) (now : Slots) (outer : List Entry) → ReadsSlot level b (base + i) t s p now outer
-    → (next : Slots) × (slotRead b (node l b p) level source i now ≡ ok next) × Holds u v (next .state) (lowerOpen level (next .entries)) (upperOpen level (next .entries) outer)
-SlotSays level b source base i t s u (Step.the-variants.Stop n) = (l : ℕ) → level ≡ suc l → (p : Places) (now : Slots) (outer : List Entry) → ReadsSlot level b (base + i) t s p now outer → slotRead b (node l b p) level source i now ≡ refused n
+SlotSays level b source base i t s u (Step.the-variants.Next v) = (l : ℕ) → level ≡ suc l → (p : Places) (now : Slots) (outer : List Entry)
+    → ReadsSlot level b (base + i) t s p now outer
+    → (next : Slots) × (slotRead b (node l b p) level source i now ≡ ok next)
+    × Holds u v (next .state) (lowerOpen level (next .entries)) (upperOpen level (next .entries) outer)
+SlotSays level b source base i t s u (Step.the-variants.Stop n) = (l : ℕ) → level ≡ suc l → (p : Places) (now : Slots) (outer : List Entry)
+    → ReadsSlot level b (base + i) t s p now outer → slotRead b (node l b p) level source i now ≡ refused n
 
 abbrev pub SlotFit : ℕ → Tabs → Step.Step → Type 0
 SlotFit len u (Step.the-variants.Next v) = Fit len u v

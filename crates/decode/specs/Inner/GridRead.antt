@@ -35,7 +35,17 @@ gridFault density t = treeFault t then densityOf density (densityFault (t .grid)
 
 -- the lengths that 18 looks at
 abbrev pub lent : ℕ → ℕ → ℕ → ℕ → ℕ → ℕ → ℕ → Lent
-lent blocks rootLinks rootValues upperLinks upperValues lowerLinks lowerValues = record { blocks = blocks; rootLinks = rootLinks; rootValues = rootValues; upperLinks = upperLinks; upperValues = upperValues; lowerLinks = lowerLinks; lowerValues = lowerValues; leafValues = 0; work = 0 }
+lent blocks rootLinks rootValues upperLinks upperValues lowerLinks lowerValues = record {
+  blocks = blocks;
+  rootLinks = rootLinks;
+  rootValues = rootValues;
+  upperLinks = upperLinks;
+  upperValues = upperValues;
+  lowerLinks = lowerLinks;
+  lowerValues = lowerValues;
+  leafValues = 0;
+  work = 0;
+}
 
 -- ---- the used parts of the tables
 
@@ -66,10 +76,20 @@ allTables t q = tables (q .blocks) (q .links) (q .values) (t .upperLinks) (t .up
 
 -- the same with an empty work table
 abbrev pub workless : Tables → Tables
-workless t = tables (t .blocks) (t .rootLinks) (t .rootValues) (t .upperLinks) (t .upperValues) (t .lowerLinks) (t .lowerValues) (t .leafValues) (replicate (length (t .work)) 0)
+workless t =
+    tables (t .blocks) (t .rootLinks) (t .rootValues) (t .upperLinks) (t .upperValues) (t .lowerLinks) (t .lowerValues) (t .leafValues)
+    (replicate (length (t .work)) 0)
 
 abbrev pub answerIn : List ℕ → Code.TreeRead → Answer
-answerIn b (Code.the-variants.Read x) = record { number = 0; roots = x .roots; upper = x .nodes .uppers; lower = x .nodes .lowers; leaf = x .nodes .leaves; background = f32At b (x .root + 28); medium = mediumAt b (x .root) }
+answerIn b (Code.the-variants.Read x) = record {
+  number = 0;
+  roots = x .roots;
+  upper = x .nodes .uppers;
+  lower = x .nodes .lowers;
+  leaf = x .nodes .leaves;
+  background = f32At b (x .root + 28);
+  medium = mediumAt b (x .root);
+}
 answerIn b (Code.the-variants.Refused n) = answerOf (refused n)
 
 -- what is left once the work table is emptied and, after a refusal, every other table

@@ -31,19 +31,25 @@ and-turned true false = refl
 and-turned false true = refl
 and-turned false false = refl
 
-overlaps-last : (l : List Span) (s : Span) (from to : ℕ) → overlaps l from to ≡ false → (ltb (s .start) to && ltb from (s .end)) ≡ false → overlaps (l ++ (s ∷ [])) from to ≡ false
+overlaps-last : (l : List Span) (s : Span) (from to : ℕ) → overlaps l from to ≡ false → (ltb (s .start) to && ltb from (s .end)) ≡ false
+    → overlaps (l ++ (s ∷ [])) from to ≡ false
 unfolding overlaps
 overlaps-last [] s from to e f = rw f
 overlaps-last (r ∷ l) s from to e f =
     let (a, b) = no-either (ltb (r .start) to && ltb from (r .end)) (overlaps l from to) e in
     rw (a, overlaps-last l s from to b f)
 
-pub packed-more : (len : ℕ) (l : List Span) (s : Span) → Packed len l → s .start + 2144 ≤ s .end → s .end ≤ len → overlaps l (s .start) (s .end) ≡ false → Packed len (l ++ (s ∷ []))
+pub packed-more : (len : ℕ) (l : List Span) (s : Span) → Packed len l → s .start + 2144 ≤ s .end → s .end ≤ len
+    → overlaps l (s .start) (s .end) ≡ false → Packed len (l ++ (s ∷ []))
 unfolding Packed overlaps
 packed-more len [] s p wide inside apart = (wide, inside, refl, tt)
 packed-more len (r ∷ l) s p wide inside apart =
-    let (a, b) = no-either (ltb (r .start) (s .end) && ltb (s .start) (r .end)) (overlaps l (s .start) (s .end)) apart in
-    (p .0, p .1, overlaps-last l s (r .start) (r .end) (p .2) (and-turned (ltb (s .start) (r .end)) (ltb (r .start) (s .end)) ∙ a), packed-more len l s (p .3) wide inside b)
+    let (a, b) = no-either (ltb (r .start) (s .end) && ltb (s .start) (r .end)) (overlaps l (s .start) (s .end)) apart in (
+      p .0,
+      p .1,
+      overlaps-last l s (r .start) (r .end) (p .2) (and-turned (ltb (s .start) (r .end)) (ltb (r .start) (s .end)) ∙ a),
+      packed-more len l s (p .3) wide inside b,
+    )
 
 -- ---- how many spans start in stretch q
 
@@ -75,7 +81,10 @@ unfolding Packed starts
 starts-most len [] p q = omega arith
 starts-most len (s ∷ l) p q =
     split-eq (s .start / 2144) q
-    (λ e. let n = starts-none len l (s .start) (s .end) (p .3) (p .0) (p .2) in let h : starts l q ≡ 0 = ap (starts l) (sym e) ∙ n in omega (arith, bit-most (eqb (s .start / 2144) q)))
+    (λ e.
+    let n = starts-none len l (s .start) (s .end) (p .3) (p .0) (p .2) in
+    let h : starts l q ≡ 0 = ap (starts l) (sym e) ∙ n in
+    omega (arith, bit-most (eqb (s .start / 2144) q)))
     (λ d. let h = starts-most len l (p .3) q in let b : bit (eqb (s .start / 2144) q) ≡ 0 = ap bit (ne-eqb _ _ d) in omega arith)
   where
     bit-most : (b : Bool) → bit b ≤ 1

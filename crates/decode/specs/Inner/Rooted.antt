@@ -39,9 +39,11 @@ pub record RootPut (i key link : ℕ) (value : Float) (t u : RootTabs) : Type 0 
 
 -- what one tile answers is what the definition's `tileRead` does, and the tables then hold its roots and its state
 abbrev pub TileSays : List ℕ → ℕ → ℕ → Tabs → RootTabs → Progress.State → Tabs → RootTabs → Step.Step → Type 0
-TileSays b root i t q s u v (Step.the-variants.Next w) = (p : Places) (r : Roots) → Reads 2 b t s p (r .state) [] [] → RootsHeld q (r .roots) → length (r .roots) ≡ i
+TileSays b root i t q s u v (Step.the-variants.Next w) = (p : Places) (r : Roots) → Reads 2 b t s p (r .state) [] [] → RootsHeld q (r .roots)
+    → length (r .roots) ≡ i
     → (n : Roots) × (tileRead b p root i r ≡ ok n) × Holds u w (n .state) [] [] × RootsHeld v (n .roots)
-TileSays b root i t q s u v (Step.the-variants.Stop n) = (p : Places) (r : Roots) → Reads 2 b t s p (r .state) [] [] → RootsHeld q (r .roots) → length (r .roots) ≡ i → tileRead b p root i r ≡ refused n
+TileSays b root i t q s u v (Step.the-variants.Stop n) = (p : Places) (r : Roots) → Reads 2 b t s p (r .state) [] [] → RootsHeld q (r .roots)
+    → length (r .roots) ≡ i → tileRead b p root i r ≡ refused n
 
 pub record TileOut (b : List ℕ) (root i : ℕ) (t : Tabs) (q : RootTabs) (s : Progress.State) (u : Tabs) (v : RootTabs) (r : Step.Step) : Type 0 where
   pub fit : SlotFit (length b) u r
@@ -51,7 +53,8 @@ pub record TileOut (b : List ℕ) (root i : ℕ) (t : Tabs) (q : RootTabs) (s : 
 abbrev pub TilesSay : List ℕ → ℕ → ℕ → Tabs → RootTabs → Progress.State → Tabs → RootTabs → Step.Step → Type 0
 TilesSay b root count t q s u v (Step.the-variants.Next w) = (p : Places) (d : State) → Reads 2 b t s p d [] [] → RootsHeld q []
     → (n : Roots) × (tilesRead b p root count d ≡ ok n) × Holds u w (n .state) [] [] × RootsHeld v (n .roots)
-TilesSay b root count t q s u v (Step.the-variants.Stop n) = (p : Places) (d : State) → Reads 2 b t s p d [] [] → RootsHeld q [] → tilesRead b p root count d ≡ refused n
+TilesSay b root count t q s u v (Step.the-variants.Stop n) = (p : Places) (d : State) → Reads 2 b t s p d [] [] → RootsHeld q []
+    → tilesRead b p root count d ≡ refused n
 
 pub record TilesOut (b : List ℕ) (root count : ℕ) (t : Tabs) (q : RootTabs) (s : Progress.State) (u : Tabs) (v : RootTabs) (r : Step.Step) : Type 0 where
   pub fit : SlotFit (length b) u r

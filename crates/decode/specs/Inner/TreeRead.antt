@@ -31,5 +31,6 @@ pub record LendsAll (t : Tabs) (q : RootTabs) (p : Places) : Type 0 where
 
 abbrev pub TreeOut : List ℕ → Tabs → RootTabs → Tabs → RootTabs → Code.TreeRead → Type 0
 TreeOut b t q u v (Code.the-variants.Read x) = (p : Places) → LendsAll t q p → Zeroed t q
-    → (r : Roots) × (tree b p ≡ ok r) × Holds u (x .nodes) (r .state) [] [] × RootsHeld v (r .roots) × (x .root ≡ rootPlace b) × (x .root + 28 ≤ length b) × (length (r .roots) ≡ x .roots)
+    → (r : Roots) × (tree b p ≡ ok r) × Holds u (x .nodes) (r .state) [] [] × RootsHeld v (r .roots)
+    × (x .root ≡ rootPlace b) × (x .root + 28 ≤ length b) × (length (r .roots) ≡ x .roots)
 TreeOut b t q u v (Code.the-variants.Refused n) = (p : Places) → LendsAll t q p → Zeroed t q → tree b p ≡ refused n

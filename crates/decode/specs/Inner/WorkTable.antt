@@ -49,7 +49,7 @@ headerSpan = record { start = 0; end = 736; level = 3; number = 0 }
 abbrev pub rootSpan : ℕ → ℕ → Span
 rootSpan root end = record { start = root; end = end; level = 3; number = 0 }
 
--- what the words hold: the headerSpan, the root and the nodes
+-- what the words hold: the spans of the header, the root and the nodes
 unfoldable pub spans : List ℕ → ℕ → ℕ → ℕ → List Span
 spans w count root rootEnd = headerSpan ∷ (rootSpan root rootEnd ∷ nodes w count)
 
@@ -114,22 +114,26 @@ pub record Pushed (w w' : List ℕ) (s t : Spans) (start level number : ℕ) : T
   pub rep : Rep w' (t .count)
   pub size-kept : length w' ≡ length w
   pub count : t .count ≡ s .count + 1
-  pub list : spans w' (t .count) (t .root) (t .limit) ≡ spans w (s .count) (s .root) (s .limit) ++ (record { start = start; end = start + size level; level = level; number = number } ∷ [])
+  pub list : spans w' (t .count) (t .root) (t .limit)
+      ≡ spans w (s .count) (s .root) (s .limit) ++ (record { start = start; end = start + size level; level = level; number = number } ∷ [])
 
 abbrev pub nodeSpan : ℕ → ℕ → ℕ → Span
 nodeSpan start level number = record { start = start; end = start + size level; level = level; number = number }
 
 -- what `claim` says of bytes, places and a state that have the length, the room and the spans of the words
 abbrev pub Says : ℕ → List ℕ → Spans → Span → (State → Result State) → Type 0
-Says len w s n f = (b : List ℕ) (p : Places) (t : State) → length b ≡ len → p .spans ≡ length w / 4 → t .spans ≡ spans w (s .count) (s .root) (s .limit) → claim b p t n ≡ f t
+Says len w s n f = (b : List ℕ) (p : Places) (t : State) → length b ≡ len → p .spans ≡ length w / 4
+    → t .spans ≡ spans w (s .count) (s .root) (s .limit) → claim b p t n ≡ f t
 
 abbrev pub ClaimOut : ℕ → List ℕ → List ℕ → Spans → Claimed → ℕ → ℕ → ℕ → Type 0
-ClaimOut len w w' s (Done t) start level number = Pushed w w' s t start level number × Says len w s (nodeSpan start level number) (λ (u : State). ok (withSpan u (nodeSpan start level number)))
+ClaimOut len w w' s (Done t) start level number = Pushed w w' s t start level number
+    × Says len w s (nodeSpan start level number) (λ (u : State). ok (withSpan u (nodeSpan start level number)))
 ClaimOut len w w' s (Refused e) start level number = (w' ≡ w) × Says len w s (nodeSpan start level number) (λ (u : State). refused e)
 
--- what `claim` says of the root, where only the headerSpan has been claimed
+-- what `claim` says of the root, where only the header's span has been claimed
 abbrev pub SaysRoot : ℕ → List ℕ → ℕ → ℕ → (State → Result State) → Type 0
-SaysRoot len w root limit f = (b : List ℕ) (p : Places) (t : State) → length b ≡ len → p .spans ≡ length w / 4 → t .spans ≡ headerSpan ∷ [] → claim b p t (rootSpan root limit) ≡ f t
+SaysRoot len w root limit f = (b : List ℕ) (p : Places) (t : State) → length b ≡ len → p .spans ≡ length w / 4 → t .spans ≡ headerSpan ∷ []
+    → claim b p t (rootSpan root limit) ≡ f t
 
 pub record Begun (w w' : List ℕ) (s : Spans) (root limit : ℕ) : Type 0 where
   pub rep : Rep w' (s .count)
@@ -143,5 +147,7 @@ RootOut len w w' (Refused e) root limit = (w' ≡ w) × SaysRoot len w root limi
 -- a node that has been read is used again, and any other is claimed
 abbrev pub EnterOut : ℕ → List ℕ → List ℕ → Spans → Entered → ℕ → ℕ → ℕ → Type 0
 EnterOut len w w' s (Again k) start level number = (w' ≡ w) × ((seen (spans w (s .count) (s .root) (s .limit)) start level ≡ at k) × (k < 4294967295))
-EnterOut len w w' s (Fresh t) start level number = (seen (spans w (s .count) (s .root) (s .limit)) start level ≡ nowhere) × ClaimOut len w w' s (Done t) start level number
-EnterOut len w w' s (Stop e) start level number = (seen (spans w (s .count) (s .root) (s .limit)) start level ≡ nowhere) × ClaimOut len w w' s (Refused e) start level number
+EnterOut len w w' s (Fresh t) start level number = (seen (spans w (s .count) (s .root) (s .limit)) start level ≡ nowhere)
+    × ClaimOut len w w' s (Done t) start level number
+EnterOut len w w' s (Stop e) start level number = (seen (spans w (s .count) (s .root) (s .limit)) start level ≡ nowhere)
+    × ClaimOut len w w' s (Refused e) start level number

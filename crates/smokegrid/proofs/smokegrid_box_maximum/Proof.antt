@@ -1,10 +1,11 @@
 -- `smokegrid::smokegrid_box_maximum` meets its contract: the answer of `box_maximum`, as C takes it. Assumes nothing.
-use mathlib.Core.Path.{ap, _∙_}
+use mathlib.Core.Path.{_≡_, ap, _∙_}
 use mir.Facts.{toZ-ofZ}
-use Rattle.refusals.specs.Results.{numberOf, valueOr}
+use Rattle.refusals.specs.Results.{numberOf, valueOr, said}
 use Rattle.refusals.specs.ResultLaws.{said-same}
 use Rattle.float.specs.Zero.{+0}
 use Rattle.sparse_grid.specs.Tables.{Grid, gridOf}
+use Rattle.sparse_grid.specs.Answers.{outcome}
 use Rattle.majorant.specs.Build.{publicMaximum}
 use Rattle.majorant.specs.Boxes.{between}
 use borrow.Author.Needs.{needs}
@@ -24,11 +25,13 @@ grid c =
 returns : tie.Need-returns
 returns c =
     let m = c .before .before in
-    let f = at-start m .fits in
-    let e =
-    said-same +0 _ _ (m .box-maximum .ensures)
-    ∙ (λ t. publicMaximum (grid (at-start m)) (between (toZ-ofZ (f .lx) t) (toZ-ofZ (f .ly) t) (toZ-ofZ (f .lz) t)
-    (toZ-ofZ (f .hx) t) (toZ-ofZ (f .hy) t) (toZ-ofZ (f .hz) t))) in
+    let s = at-start m in
+    let a = s .args in
+    let f = s .fits in
+    let e : outcome (m .box-maximum .result) ≡ publicMaximum (grid s) (between (a .lx) (a .ly) (a .lz) (a .hx) (a .hy) (a .hz)) =
+    said-same +0 _ _ (m .box-maximum .ensures
+    ∙ (λ t. said +0 (publicMaximum (grid s) (between (toZ-ofZ (f .lx) t) (toZ-ofZ (f .ly) t) (toZ-ofZ (f .lz) t)
+    (toZ-ofZ (f .hx) t) (toZ-ofZ (f .hy) t) (toZ-ofZ (f .hz) t))))) in
     record { number-is = c .give .ensures .0 ∙ ap numberOf e; value-is = c .give .ensures .1 ∙ ap (valueOr +0) e }
 
 pub smokegrid-box-maximum-spec : {M : Type 1} → statement M

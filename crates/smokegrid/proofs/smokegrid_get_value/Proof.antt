@@ -1,13 +1,13 @@
 -- `smokegrid::smokegrid_get_value` meets its contract: the answer of `get_value`, as C takes it. Assumes nothing.
-use mathlib.Core.Path.{ap, _∙_}
+use mathlib.Core.Path.{_≡_, ap, _∙_}
 use borrow.Author.Needs.{needs}
 use mir.Facts.{toZ-ofZ}
-use Rattle.refusals.specs.Results.{numberOf, valueOr}
+use Rattle.refusals.specs.Results.{numberOf, valueOr, said}
 use Rattle.refusals.specs.ResultLaws.{said-same}
 use Rattle.float.specs.Zero.{+0}
 use Rattle.sparse_grid.specs.Tables.{Grid, gridOf}
 use Rattle.sparse_grid.specs.Lookup.{lookup}
-use Rattle.sparse_grid.specs.Answers.{valueOnly, at}
+use Rattle.sparse_grid.specs.Answers.{valueOnly, outcome, at}
 use Rattle.smokegrid.proofs.smokegrid_get_value.Statement.{statement}
 use Rattle.smokegrid.proofs.smokegrid_get_value.Tie as tie
 
@@ -24,9 +24,11 @@ grid c =
 returns : tie.Need-returns
 returns c =
     let g = c .before .before in
-    let f = at-start g .fits in
-    let e = said-same +0 _ _ (g .get-value .ensures)
-    ∙ (λ t. valueOnly (lookup (grid (at-start g)) (at (toZ-ofZ (f .x) t) (toZ-ofZ (f .y) t) (toZ-ofZ (f .z) t)))) in
+    let s = at-start g in
+    let f = s .fits in
+    let e : outcome (g .get-value .result) ≡ valueOnly (lookup (grid s) (at (s .args .x) (s .args .y) (s .args .z))) =
+    said-same +0 _ _ (g .get-value .ensures
+    ∙ (λ t. said +0 (valueOnly (lookup (grid s) (at (toZ-ofZ (f .x) t) (toZ-ofZ (f .y) t) (toZ-ofZ (f .z) t)))))) in
     record { number-is = c .give .ensures .0 ∙ ap numberOf e; value-is = c .give .ensures .1 ∙ ap (valueOr +0) e }
 
 pub smokegrid-get-value-spec : {M : Type 1} → statement M

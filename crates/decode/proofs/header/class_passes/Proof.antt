@@ -1,3 +1,4 @@
+-- `decode::header::class_passes` meets its contract: one class or the other. Assumes nothing.
 use mathlib.Core.Path.{sym}
 use borrow.Author.Tests.{eq-eqb, ne-eqb}
 use Rattle.decode.proofs.header.class_passes.Statement.{statement}

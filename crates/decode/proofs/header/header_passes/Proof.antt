@@ -1,80 +1,69 @@
+-- `decode::header::header_passes` meets its contract: seven tests, joined one after the other. Assumes nothing.
 use mathlib.Core.Path.{ap, _∙_}
-use Rattle.refusals.specs.TestLaws.{and-same}
-use Rattle.nanovdb.specs.Decode.{markPasses, headerPasses}
+use mathlib.Core.Bool.{_||_}
 use Prim.Native.Nat.{ℕ, _/_}
 use lib.Dec.{eqb, ltb}
 use lib.ListN.{length}
-use mathlib.Core.Bool.{_||_}
 use borrow.Author.Needs.{needs}
+use Rattle.refusals.specs.TestLaws.{and-same}
+use Rattle.nanovdb.specs.Decode.{markPasses, headerPasses}
 use Rattle.decode.proofs.header.header_passes.Statement.{statement}
 use Rattle.decode.proofs.header.header_passes.Tie as tie
 
-u64-at-requires : tie.Need-u64-at-requires
-u64-at-requires c κs = search needs
+-- ---- from each field to the one before it: the count, the class, the kind, the size, the version
+abbrev at-count : tie.After-both6 → tie.After-u32-at4
+at-count c = c .before .before .before
 
-mark-passes-requires : tie.Need-mark-passes-requires
-mark-passes-requires c κs = search needs
+abbrev at-class : tie.After-u32-at4 → tie.After-u32-at3
+at-class c = c .before .before .before
 
-u32-at-requires : tie.Need-u32-at-requires
-u32-at-requires c κs = search needs
+abbrev at-kind : tie.After-u32-at3 → tie.After-u32-at2
+at-kind c = c .before .before
 
-both-requires : tie.Need-both-requires
-both-requires c κs = search needs
+abbrev at-size : tie.After-u32-at2 → tie.After-u64-at2
+at-size c = c .before .before
 
-u64-at-requires-2 : tie.Need-u64-at-requires-2
-u64-at-requires-2 c κs = search needs
+abbrev at-version : tie.After-u64-at2 → tie.After-u32-at
+at-version c = c .before .before
 
-both-requires-2 : tie.Need-both-requires-2
-both-requires-2 c κs = search needs
-
-u32-at-requires-2 : tie.Need-u32-at-requires-2
-u32-at-requires-2 c κs = search needs
-
-both-requires-3 : tie.Need-both-requires-3
-both-requires-3 c κs = search needs
-
-u32-at-requires-3 : tie.Need-u32-at-requires-3
-u32-at-requires-3 c κs = search needs
-
-class-passes-requires : tie.Need-class-passes-requires
-class-passes-requires c κs = search needs
-
-both-requires-4 : tie.Need-both-requires-4
-both-requires-4 c κs = search needs
-
-u32-at-requires-4 : tie.Need-u32-at-requires-4
-u32-at-requires-4 c κs = search needs
-
-u32-at-requires-5 : tie.Need-u32-at-requires-5
-u32-at-requires-5 c κs = search needs
-
-both-requires-5 : tie.Need-both-requires-5
-both-requires-5 c κs = search needs
-
-both-requires-6 : tie.Need-both-requires-6
-both-requires-6 c κs = search needs
+abbrev at-start : tie.After-u32-at → tie.Start
+at-start c = c .before .before .before .before
 
 returns : tie.Need-returns
 unfolding headerPasses
-returns c = (c .both6 .ensures ∙ and-same (c .before .both5 .ensures ∙ and-same (c .before .before .before .before .both4 .ensures ∙ and-same (c .before .before .before .before .before .before .before .both3 .ensures ∙ and-same (c .before .before .before .before .before .before .before .before .before .both2 .ensures ∙ and-same (c .before .before .before .before .before .before .before .before .before .before .before .both .ensures ∙ and-same (c .before .before .before .before .before .before .before .before .before .before .before .before .before .mark-passes .ensures ∙ ap markPasses (c .before .before .before .before .before .before .before .before .before .before .before .before .before .before .u64-at .ensures)) (ap (λ (k : ℕ). eqb (k / 2097152) 32) (c .before .before .before .before .before .before .before .before .before .before .before .before .u32-at .ensures))) (ap (λ (k : ℕ). eqb k (length (c .before .before .before .before .before .before .before .before .before .before .before .before .before .before .before .before .args .bytes .now))) (c .before .before .before .before .before .before .before .before .before .before .u64-at2 .ensures))) (ap (λ (k : ℕ). eqb k 1) (c .before .before .before .before .before .before .before .before .u32-at2 .ensures))) (c .before .before .before .before .before .class-passes .ensures ∙ ap (λ (k : ℕ). eqb k 0 || eqb k 2) (c .before .before .before .before .before .before .u32-at3 .ensures))) (ap (λ (k : ℕ). ltb 0 k) (c .before .before .before .u32-at4 .ensures))) (λ i. ltb (c .before .before .u32-at5 .ensures i) (c .before .before .before .u32-at4 .ensures i)))
+returns c =
+    let count = at-count c in let class = at-class count in let kind = at-kind class in let size = at-size kind in let version = at-version size in
+    c .both6 .ensures ∙ and-same
+    (c .before .both5 .ensures ∙ and-same
+    (count .before .both4 .ensures ∙ and-same
+    (class .before .both3 .ensures ∙ and-same
+    (kind .before .both2 .ensures ∙ and-same
+    (size .before .both .ensures ∙ and-same
+    (version .before .mark-passes .ensures ∙ ap markPasses (version .before .before .u64-at .ensures))
+    (ap (λ (k : ℕ). eqb (k / 2097152) 32) (version .u32-at .ensures)))
+    (ap (λ (k : ℕ). eqb k (length (at-start version .args .bytes .now))) (size .u64-at2 .ensures)))
+    (ap (λ (k : ℕ). eqb k 1) (kind .u32-at2 .ensures)))
+    (count .before .before .class-passes .ensures ∙ ap (λ (k : ℕ). eqb k 0 || eqb k 2) (class .u32-at3 .ensures)))
+    (ap (λ (k : ℕ). ltb 0 k) (count .u32-at4 .ensures)))
+    (λ i. ltb (c .before .before .u32-at5 .ensures i) (count .u32-at4 .ensures i))
 
 pub header-passes-spec : {M : Type 1} → statement M
 header-passes-spec =
     tie.close
     (tie.spec
-    u64-at-requires
-    mark-passes-requires
-    u32-at-requires
-    both-requires
-    u64-at-requires-2
-    both-requires-2
-    u32-at-requires-2
-    both-requires-3
-    u32-at-requires-3
-    class-passes-requires
-    both-requires-4
-    u32-at-requires-4
-    u32-at-requires-5
-    both-requires-5
-    both-requires-6
+    (λ c κs. search needs)
+    (λ c κs. search needs)
+    (λ c κs. search needs)
+    (λ c κs. search needs)
+    (λ c κs. search needs)
+    (λ c κs. search needs)
+    (λ c κs. search needs)
+    (λ c κs. search needs)
+    (λ c κs. search needs)
+    (λ c κs. search needs)
+    (λ c κs. search needs)
+    (λ c κs. search needs)
+    (λ c κs. search needs)
+    (λ c κs. search needs)
+    (λ c κs. search needs)
     returns)

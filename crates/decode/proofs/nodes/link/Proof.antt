@@ -1,43 +1,38 @@
+-- `decode::nodes::link` meets its contract: the store goes to the table of the level. Assumes nothing.
 use native.Mathlib.Omega.{arith}
-use Rattle.decode.proofs.nodes.Levels.{at-lower, at-upper, room-none}
+use mathlib.Core.Path.{_≡_}
 use lib.ListN.{length}
 use borrow.Author.Needs.{needs}
+use Rattle.decode.specs.Inner.Filled.{roomIn}
+use Rattle.decode.proofs.nodes.Levels.{at-lower, at-upper, room-none}
 use Rattle.decode.proofs.nodes.link.Statement.{statement}
 use Rattle.decode.proofs.nodes.link.Tie as tie
 
-mul-ll : tie.Need-mul-ll
-mul-ll c = omega (arith, at-lower _ 0 (length (c .before .args .ll .now)) (length (c .before .args .ul .now)) (c .if1 .taken))
+-- the room is that of the table of the level, which is no leaf's
+no-leaf : (c : tie.Start) → c .args .level ≡ 0 → ⊥
+no-leaf c e = room-none _ _ (c .pre) e
 
-slice-write-ll : tie.Need-slice-write-ll
-slice-write-ll c = omega (arith, at-lower _ 0 (length (c .before .args .ll .now)) (length (c .before .args .ul .now)) (c .if1 .taken))
+lower-room : (c : tie.Then1) → let a = c .before .args in length (a .ll .now) ≡ roomIn (a .level) (length (a .ul .now)) (length (a .ll .now))
+lower-room c = at-lower _ _ (c .if1 .taken)
 
-mul-ul : tie.Need-mul-ul
-mul-ul c = omega (arith, at-upper _ 0 (length (c .before .args .ll .now)) (length (c .before .args .ul .now)) (λ e. room-none _ _ _ _ (c .before .pre) e) (c .if1 .left))
-
-slice-write-ul : tie.Need-slice-write-ul
-slice-write-ul c = omega (arith, at-upper _ 0 (length (c .before .args .ll .now)) (length (c .before .args .ul .now)) (λ e. room-none _ _ _ _ (c .before .pre) e) (c .if1 .left))
-
-same-length : tie.Need-same-length
-same-length c = search needs
+upper-room : (c : tie.Else1) → let a = c .before .args in length (a .ul .now) ≡ roomIn (a .level) (length (a .ul .now)) (length (a .ll .now))
+upper-room c = at-upper _ _ (no-leaf (c .before)) (c .if1 .left)
 
 returns : tie.Need-returns
-returns c = (at-lower _ _ _ _ (c .if1 .taken), at-lower _ _ _ _ (c .if1 .taken))
-
-same-length-2 : tie.Need-same-length-2
-same-length-2 c = search needs
+returns c = (at-lower _ _ (c .if1 .taken), at-lower _ _ (c .if1 .taken))
 
 returns-2 : tie.Need-returns-2
-returns-2 c = (at-upper _ _ _ _ (λ e. room-none _ _ _ _ (c .before .pre) e) (c .if1 .left), at-upper _ _ _ _ (λ e. room-none _ _ _ _ (c .before .pre) e) (c .if1 .left))
+returns-2 c = (at-upper _ _ (no-leaf (c .before)) (c .if1 .left), at-upper _ _ (no-leaf (c .before)) (c .if1 .left))
 
 pub link-spec : {M : Type 1} → statement M
 link-spec =
     tie.close
     (tie.spec
-    mul-ll
-    slice-write-ll
-    mul-ul
-    slice-write-ul
-    same-length
+    (λ c. omega (arith, lower-room c))
+    (λ c. omega (arith, lower-room c))
+    (λ c. omega (arith, upper-room c))
+    (λ c. omega (arith, upper-room c))
+    (λ c. search needs)
     returns
-    same-length-2
+    (λ c. search needs)
     returns-2)

@@ -1,3 +1,4 @@
+-- `decode::nodes::mask_at` meets its contract: the mask by the level. Assumes nothing.
 use native.Mathlib.Omega.{arith}
 use Rattle.decode.proofs.nodes.Levels.{at-lower, at-upper}
 use mathlib.Core.Path.{ap}
@@ -5,17 +6,17 @@ use Prim.Native.Nat.{ℕ, _+_}
 use Rattle.decode.proofs.nodes.mask_at.Statement.{statement}
 use Rattle.decode.proofs.nodes.mask_at.Tie as tie
 
-add-result : tie.Need-add-result
-add-result c = omega arith
-
-add-result-2 : tie.Need-add-result-2
-add-result-2 c = omega arith
-
 returns : tie.Need-returns
-returns c = ap (λ (k : ℕ). c .before .args .source + k) (at-lower _ 0 544 4128 (c .if1 .taken))
+returns c = ap (λ (k : ℕ). c .before .args .source + k) (at-lower 0 4128 (c .if1 .taken))
 
 returns-2 : tie.Need-returns-2
-returns-2 c = ap (λ (k : ℕ). c .before .args .source + k) (at-upper _ 0 544 4128 (λ e. omega arith) (c .if1 .left))
+returns-2 c = ap (λ (k : ℕ). c .before .args .source + k) (at-upper 0 544 (λ e. omega arith) (c .if1 .left))
 
 pub mask-at-spec : {M : Type 1} → statement M
-mask-at-spec = tie.close (tie.spec add-result add-result-2 returns returns-2)
+mask-at-spec =
+    tie.close
+    (tie.spec
+    (λ c. omega arith)
+    (λ c. omega arith)
+    returns
+    returns-2)

@@ -1,3 +1,4 @@
+-- `decode::spans::clear` meets its contract: every head is 0; the loop's invariant: those below h are. Assumes nothing.
 use native.Mathlib.Omega.{arith}
 use Rattle.decode.proofs.spans.PutLaws.{clear-next, clear-rep}
 use Rattle.decode.specs.Inner.WorkTable.{chainHead}
@@ -16,24 +17,6 @@ abbrev μ-loop : tie.MeasureT-loop
 loop-holds : tie.Need-loop-holds Inv-loop μ-loop
 loop-holds c = (omega arith, (refl, λ j l. absurd (omega arith)))
 
-mul-work : tie.Need-mul-work Inv-loop μ-loop
-mul-work c = omega arith
-
-add-work : tie.Need-add-work Inv-loop μ-loop
-add-work c = omega arith
-
-mul-work-2 : tie.Need-mul-work-2 Inv-loop μ-loop
-mul-work-2 c = omega arith
-
-slice-write-work : tie.Need-slice-write-work Inv-loop μ-loop
-slice-write-work c = omega arith
-
-add-h : tie.Need-add-h Inv-loop μ-loop
-add-h c = omega arith
-
-loop-less : tie.Need-loop-less Inv-loop μ-loop
-loop-less c = omega arith
-
 loop-again : tie.Need-loop-again Inv-loop μ-loop
 loop-again c = (omega arith, (simp length-set (c .before .loop .inv .1 .0), clear-next _ _ (omega arith) (c .before .loop .inv .1 .1)))
 
@@ -50,12 +33,12 @@ clear-spec =
     Inv-loop
     μ-loop
     loop-holds
-    mul-work
-    add-work
-    mul-work-2
-    slice-write-work
-    add-h
-    loop-less
+    (λ c. omega arith)
+    (λ c. omega arith)
+    (λ c. omega arith)
+    (λ c. omega arith)
+    (λ c. omega arith)
+    (λ c. omega arith)
     loop-again
     same-length
     returns)

@@ -1,58 +1,72 @@
-use Rattle.decode.proofs.spans.ClaimLaws.{small-again, seen-again, seen-fresh, claim-done, claim-refused}
+-- `decode::spans::enter` meets its contract: what `find` or `claim` answered. Assumes nothing.
 use mathlib.Core.Path.{refl}
+use mathlib.Core.List.{List}
+use Prim.Native.Nat.{ℕ}
 use borrow.Author.Needs.{needs}
+use Rattle.decode.proofs.spans.ClaimLaws.{Node, claim-is, small-again, seen-again, seen-fresh}
 use Rattle.decode.proofs.spans.enter.Statement.{statement}
 use Rattle.decode.proofs.spans.enter.Tie as tie
 
-find-requires : tie.Need-find-requires
-find-requires c κs = search needs
+-- ---- places on the way to a place: `find`, and the two answers of `claim`
+abbrev at-find : tie.After-enum-told → tie.After-find
+at-find c = c .before .before
 
-enum-known-f : tie.Need-enum-known-f
-enum-known-f c = search needs
+abbrev at-again : tie.After-f → tie.After-find
+at-again c = c .before .before
 
-same-length : tie.Need-same-length
-same-length c = search needs
+abbrev at-done : tie.After-c → tie.After-claim
+at-done c = c .before .before .before .before
 
+abbrev at-refused : tie.After-c2 → tie.After-claim
+at-refused c = c .before .before .before .before
+
+abbrev start : tie.After-claim → tie.Start
+start c = at-find (c .before .before) .before .before .before
+
+-- ---- what is claimed, and the words behind `claim`
+abbrev node : tie.Start → Node
+node c =
+    let a = c .args in
+    record { len = a .len; words = a .work .now; spans = a .st; start = a .start; level = a .level; number = a .number }
+
+abbrev words : tie.After-claim → List ℕ
+words c = c .claim .last .1 .0
+
+-- ---- the ways out: a node that was claimed before, a new one, and a refusal
 returns : tie.Need-returns
-returns c = (refl, (seen-again _ _ _ (c .before .before .before .find .ensures .0) (c .before .f .given .1), small-again _ _ (c .before .before .before .find .ensures .1) (c .before .f .given .1)))
-
-enum-told : tie.Need-enum-told
-enum-told c = search needs
-
-claim-requires : tie.Need-claim-requires
-claim-requires c κs = search needs
-
-enum-known-c : tie.Need-enum-known-c
-enum-known-c c = search needs
-
-enum-known-c-2 : tie.Need-enum-known-c-2
-enum-known-c-2 c = search needs
-
-same-length-2 : tie.Need-same-length-2
-same-length-2 c = search needs
+returns c = (
+  refl,
+  (
+    seen-again (at-again (c .before) .find .ensures .0) (c .before .f .given .1),
+    small-again (at-again (c .before) .find .ensures .1) (c .before .f .given .1),
+  ),
+)
 
 returns-2 : tie.Need-returns-2
-returns-2 c = (seen-fresh _ _ (c .before .before .before .before .before .before .before .before .before .find .ensures .0) (c .before .before .before .before .before .before .before .enum-told .given .1), claim-done _ _ _ _ _ _ _ _ (c .before .before .before .before .before .claim .ensures) _ (c .before .c .given .1))
-
-same-length-3 : tie.Need-same-length-3
-same-length-3 c = search needs
+returns-2 c = (
+  seen-fresh (at-find (at-done (c .before) .before .before) .find .ensures .0) (at-done (c .before) .before .before .enum-told .given .1),
+  claim-is (node (start (at-done (c .before)))) (words (at-done (c .before))) (at-done (c .before) .claim .ensures) (c .before .c .given .1),
+)
 
 returns-3 : tie.Need-returns-3
-returns-3 c = (seen-fresh _ _ (c .before .before .before .before .before .before .before .before .before .find .ensures .0) (c .before .before .before .before .before .before .before .enum-told .given .1), claim-refused _ _ _ _ _ _ _ _ (c .before .before .before .before .before .claim .ensures) _ (c .before .c2 .given .1))
+returns-3 c = (
+  seen-fresh (at-find (at-refused (c .before) .before .before) .find .ensures .0) (at-refused (c .before) .before .before .enum-told .given .1),
+  claim-is (node (start (at-refused (c .before)))) (words (at-refused (c .before))) (at-refused (c .before) .claim .ensures) (c .before .c2 .given .1),
+)
 
 pub enter-spec : {M : Type 1} → statement M
 enter-spec =
     tie.close
     (tie.spec
-    find-requires
-    enum-known-f
-    same-length
+    (λ c κs. search needs)
+    (λ c. search needs)
+    (λ c. search needs)
     returns
-    enum-told
-    claim-requires
-    enum-known-c
-    enum-known-c-2
-    same-length-2
+    (λ c. search needs)
+    (λ c κs. search needs)
+    (λ c. search needs)
+    (λ c. search needs)
+    (λ c. search needs)
     returns-2
-    same-length-3
+    (λ c. search needs)
     returns-3)

@@ -1,9 +1,10 @@
+-- `decode::spans::find_in` meets its contract. The loop's invariant: no node past v in the chain is the one looked for. Assumes nothing.
 use native.Mathlib.Omega.{arith}
+use mathlib.Core.Path.{_≡_, sym, _∙_}
+use Prim.Native.Nat.{ℕ, _-_}
 use borrow.Author.Needs.{needs}
-use Rattle.decode.proofs.spans.Laws.{Walk, walk-start, walk-less, walk-next, found-here, found-none}
 use Rattle.decode.specs.Inner.WorkTable.{hits, nodeStart, nodeLevel, chainLink, chainHead}
-use Prim.Native.Nat.{ℕ}
-use mathlib.Core.Path.{sym, _∙_}
+use Rattle.decode.proofs.spans.Laws.{Walk, walk-start, walk-less, walk-next, found-here, found-none}
 use Rattle.decode.proofs.spans.find_in.Statement.{statement}
 use Rattle.decode.proofs.spans.find_in.Tie as tie
 
@@ -13,75 +14,42 @@ Inv-loop work count h start level v₀ v = Walk work count h (λ (i : ℕ). hits
 abbrev μ-loop : tie.MeasureT-loop
 μ-loop work count h start level v₀ v = v
 
-mul-v : tie.Need-mul-v Inv-loop μ-loop
-mul-v c = omega arith
+-- ---- places on the way to a place: the turn of the loop, and the start
+abbrev at-turn : tie.After-hit Inv-loop μ-loop → tie.In-loop Inv-loop μ-loop
+at-turn c = c .before .before .before
 
-add-v : tie.Need-add-v Inv-loop μ-loop
-add-v c = omega arith
+abbrev at-start : tie.At-loop Inv-loop μ-loop → tie.Start Inv-loop μ-loop
+at-start c = c .before .before .before
 
-mul-v-2 : tie.Need-mul-v-2 Inv-loop μ-loop
-mul-v-2 c = omega arith
-
-shared-slice-read-v : tie.Need-shared-slice-read-v Inv-loop μ-loop
-shared-slice-read-v c = omega arith
+-- what `hit` answers of the node before v
+tested : (c : tie.After-hit Inv-loop μ-loop) → let l = at-turn c .before in let a = at-start l .args in
+    c .hit .result ≡ hits (a .work .now) (l .loop .v - 1) (a .start) (a .level)
+unfolding hits nodeStart nodeLevel
+tested c = c .hit .ensures
 
 loop-holds : tie.Need-loop-holds Inv-loop μ-loop
 unfolding chainHead
-loop-holds c = walk-start (c .before .before .pre .0) (c .before .before .pre .1 .0)
-
-sub-j : tie.Need-sub-j Inv-loop μ-loop
-sub-j c = omega arith
-
-mul-hit : tie.Need-mul-hit Inv-loop μ-loop
-mul-hit c = omega arith
-
-mul-hit-2 : tie.Need-mul-hit-2 Inv-loop μ-loop
-mul-hit-2 c = omega arith
-
-shared-slice-read-hit : tie.Need-shared-slice-read-hit Inv-loop μ-loop
-shared-slice-read-hit c = omega arith
-
-mul-hit-3 : tie.Need-mul-hit-3 Inv-loop μ-loop
-mul-hit-3 c = omega arith
-
-add-hit : tie.Need-add-hit Inv-loop μ-loop
-add-hit c = omega arith
-
-mul-hit-4 : tie.Need-mul-hit-4 Inv-loop μ-loop
-mul-hit-4 c = omega arith
-
-shared-slice-read-hit-2 : tie.Need-shared-slice-read-hit-2 Inv-loop μ-loop
-shared-slice-read-hit-2 c = omega arith
-
-hit-requires : tie.Need-hit-requires Inv-loop μ-loop
-hit-requires c κs = search needs
-
-returns : tie.Need-returns Inv-loop μ-loop
-unfolding hits nodeStart nodeLevel
-returns c = found-here _ _ _ _ _ _ (c .before .before .before .before .loop-test .taken) (c .before .before .before .before .before .loop .inv) (sym (c .before .hit .ensures) ∙ c .if1 .taken)
-
-mul-v-3 : tie.Need-mul-v-3 Inv-loop μ-loop
-mul-v-3 c = omega arith
-
-add-v-2 : tie.Need-add-v-2 Inv-loop μ-loop
-add-v-2 c = omega arith
-
-mul-v-4 : tie.Need-mul-v-4 Inv-loop μ-loop
-mul-v-4 c = omega arith
-
-shared-slice-read-v-2 : tie.Need-shared-slice-read-v-2 Inv-loop μ-loop
-shared-slice-read-v-2 c = omega arith
+loop-holds c = let s = c .before .before in walk-start (s .pre .0) (s .pre .1 .0)
 
 loop-less : tie.Need-loop-less Inv-loop μ-loop
 unfolding chainLink
-loop-less c = walk-less (c .before .before .before .before .before .before .before .before .before .pre .0) (c .before .before .before .before .before .loop-test .taken) (c .before .before .before .before .before .before .loop .inv)
+loop-less c =
+    let l = at-turn (c .before .before) in
+    walk-less (at-start (l .before) .pre .0) (l .loop-test .taken) (l .before .loop .inv)
 
 loop-again : tie.Need-loop-again Inv-loop μ-loop
-unfolding hits nodeStart nodeLevel chainLink
-loop-again c = walk-next (c .before .before .before .before .before .before .before .before .before .pre .0) (c .before .before .before .before .before .loop-test .taken) (c .before .before .before .before .before .before .loop .inv) (sym (c .before .before .hit .ensures) ∙ c .before .if1 .left)
+unfolding chainLink
+loop-again c =
+    let l = at-turn (c .before .before) in
+    walk-next (at-start (l .before) .pre .0) (l .loop-test .taken) (l .before .loop .inv) (sym (tested (c .before .before)) ∙ c .before .if1 .left)
+
+returns : tie.Need-returns Inv-loop μ-loop
+returns c =
+    let l = at-turn (c .before) in
+    found-here (l .before .loop .inv) (l .loop-test .taken) (sym (tested (c .before)) ∙ c .if1 .taken)
 
 returns-2 : tie.Need-returns-2 Inv-loop μ-loop
-returns-2 c = found-none _ _ _ _ _ _ (c .loop-test .left) (c .before .before .before .before .pre .1 .1) (c .before .loop .inv)
+returns-2 c = found-none (c .before .loop .inv) (c .loop-test .left) (at-start (c .before) .pre .1 .1)
 
 pub find-in-spec : {M : Type 1} → statement M
 find-in-spec =
@@ -89,25 +57,25 @@ find-in-spec =
     (tie.spec
     Inv-loop
     μ-loop
-    mul-v
-    add-v
-    mul-v-2
-    shared-slice-read-v
+    (λ c. omega arith)
+    (λ c. omega arith)
+    (λ c. omega arith)
+    (λ c. omega arith)
     loop-holds
-    sub-j
-    mul-hit
-    mul-hit-2
-    shared-slice-read-hit
-    mul-hit-3
-    add-hit
-    mul-hit-4
-    shared-slice-read-hit-2
-    hit-requires
+    (λ c. omega arith)
+    (λ c. omega arith)
+    (λ c. omega arith)
+    (λ c. omega arith)
+    (λ c. omega arith)
+    (λ c. omega arith)
+    (λ c. omega arith)
+    (λ c. omega arith)
+    (λ c κs. search needs)
     returns
-    mul-v-3
-    add-v-2
-    mul-v-4
-    shared-slice-read-v-2
+    (λ c. omega arith)
+    (λ c. omega arith)
+    (λ c. omega arith)
+    (λ c. omega arith)
     loop-less
     loop-again
     returns-2)

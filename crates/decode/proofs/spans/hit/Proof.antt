@@ -1,3 +1,4 @@
+-- `decode::spans::hit` meets its contract: two tests. Assumes nothing.
 use borrow.Author.Tests.{eq-eqb, ne-eqb}
 use Rattle.decode.proofs.spans.hit.Statement.{statement}
 use Rattle.decode.proofs.spans.hit.Tie as tie

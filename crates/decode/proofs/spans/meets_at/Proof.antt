@@ -1,8 +1,9 @@
+-- `decode::spans::meets_at` meets its contract. The loop's invariant: each node of the level that is met stands in stretch q or behind it. Assumes nothing.
 use native.Mathlib.Omega.{arith}
+use Prim.Native.Nat.{_+_, _-_, _/_, _<_, _^_}
 use borrow.Author.Needs.{needs}
-use Rattle.decode.proofs.spans.Laws.{From, from-start, from-next, from-end, met-at, size-pos, quot-small}
 use Rattle.decode.specs.Inner.WorkTable.{size}
-use Prim.Native.Nat.{_+_, _-_}
+use Rattle.decode.proofs.spans.Laws.{From, from-start, from-next, from-end, met-at, size-pos, quot-small}
 use Rattle.decode.proofs.spans.meets_at.Statement.{statement}
 use Rattle.decode.proofs.spans.meets_at.Tie as tie
 
@@ -12,41 +13,40 @@ Inv-loop work count level start end n size last q₀ q = From work count level s
 abbrev μ-loop : tie.MeasureT-loop
 μ-loop work count level start end n size last q₀ q = last + 1 - q
 
-size-of-requires : tie.Need-size-of-requires Inv-loop μ-loop
-size-of-requires c κs = search needs
+-- ---- places on the way to a place: the start, and the loop
+abbrev at-start : tie.At-loop Inv-loop μ-loop → tie.Start Inv-loop μ-loop
+at-start c = c .before .before .before .before
 
-sub-last : tie.Need-sub-last Inv-loop μ-loop
-sub-last c = omega arith
+abbrev at-loop : tie.Else1 Inv-loop μ-loop → tie.At-loop Inv-loop μ-loop
+at-loop c = c .before .before .before .before
 
-div-last : tie.Need-div-last Inv-loop μ-loop
-div-last c = omega arith
-
-first-requires : tie.Need-first-requires Inv-loop μ-loop
-first-requires c κs = omega (arith, c .size-of .ensures .1)
-
-loop-holds : tie.Need-loop-holds Inv-loop μ-loop
-loop-holds c = rw (c .first .ensures, c .before .size-of .ensures .0) (from-start _ _ _ _ _ (size-pos _))
+-- the last stretch is small
+last : (c : tie.At-loop Inv-loop μ-loop) → (at-start c .args .end - 1) / c .before .before .size-of .result < 2 ^ 60
+last c = let z = c .before .before in quot-small (at-start c .args .end - 1) (z .size-of .result) (omega arith) (z .size-of .ensures .1 .0)
 
 chain-requires : tie.Need-chain-requires Inv-loop μ-loop
-chain-requires c κs = (omega (arith, c .before .before .before .before .before .pre .0 .room), (omega (arith, quot-small (c .before .before .before .before .before .args .end - 1) (c .before .before .before .size-of .result) (omega arith) (c .before .before .before .size-of .ensures .1 .0)), c .before .before .before .before .before .pre .1 .0))
+chain-requires c κs = let s = at-start (c .before) in (omega (arith, s .pre .0 .room), (omega (arith, last (c .before)), s .pre .1 .0))
 
-meets-in-requires : tie.Need-meets-in-requires Inv-loop μ-loop
-meets-in-requires c κs = (c .before .before .before .before .before .before .pre .0, c .chain .ensures .1)
-
-returns : tie.Need-returns Inv-loop μ-loop
-returns c = met-at _ _ _ _ _ _ _ (c .if1 .taken) (c .before .meets-in .ensures)
-
-add-q : tie.Need-add-q Inv-loop μ-loop
-add-q c = omega (arith, quot-small (c .before .before .before .before .before .before .before .before .args .end - 1) (c .before .before .before .before .before .before .size-of .result) (omega arith) (c .before .before .before .before .before .before .size-of .ensures .1 .0))
-
-loop-less : tie.Need-loop-less Inv-loop μ-loop
-loop-less c = omega arith
+loop-holds : tie.Need-loop-holds Inv-loop μ-loop
+loop-holds c =
+    let a = c .before .before .before .args in
+    rw (c .first .ensures, c .before .size-of .ensures .0)
+    (from-start (a .work .now) (a .count) (a .level) (a .start) (a .end) (size-pos (a .level)))
 
 loop-again : tie.Need-loop-again Inv-loop μ-loop
-loop-again c = from-next _ _ _ _ _ (size-pos _) _ _ _ (c .before .before .chain .ensures .0) (c .if1 .left) (c .before .meets-in .ensures) (c .before .before .before .before .loop .inv)
+loop-again c =
+    let m = c .before in let l = at-loop c in let a = at-start l .args in
+    from-next (a .work .now) (a .count) (a .level) (a .start) (a .end) (size-pos (a .level)) (l .loop .q) (m .before .chain .ensures .0) (c .if1 .left)
+    (m .meets-in .ensures) (l .loop .inv)
+
+returns : tie.Need-returns Inv-loop μ-loop
+returns c = met-at (c .if1 .taken) (c .before .meets-in .ensures)
 
 returns-2 : tie.Need-returns-2 Inv-loop μ-loop
-returns-2 c = from-end _ _ _ _ _ (size-pos _) _ (rw (c .before .before .before .size-of .ensures .0) at (c .loop-test .left)) (c .before .loop .inv)
+returns-2 c =
+    let l = c .before in let a = at-start l .args in
+    from-end (a .work .now) (a .count) (a .level) (a .start) (a .end) (size-pos (a .level)) (l .loop .q)
+    (rw (l .before .before .size-of .ensures .0) at (c .loop-test .left)) (l .loop .inv)
 
 pub meets-at-spec : {M : Type 1} → statement M
 meets-at-spec =
@@ -54,15 +54,15 @@ meets-at-spec =
     (tie.spec
     Inv-loop
     μ-loop
-    size-of-requires
-    sub-last
-    div-last
-    first-requires
+    (λ c κs. search needs)
+    (λ c. omega arith)
+    (λ c. omega arith)
+    (λ c κs. omega (arith, c .size-of .ensures .1))
     loop-holds
     chain-requires
-    meets-in-requires
+    (λ c κs. (at-start (c .before .before) .pre .0, c .chain .ensures .1))
     returns
-    add-q
-    loop-less
+    (λ c. omega (arith, last (at-loop c)))
+    (λ c. omega arith)
     loop-again
     returns-2)

@@ -1,9 +1,10 @@
+-- `decode::spans::meets_in` meets its contract. The loop's invariant: no node past v in the chain overlaps. Assumes nothing.
 use native.Mathlib.Omega.{arith}
+use mathlib.Core.Path.{_≡_, sym, _∙_}
+use Prim.Native.Nat.{ℕ, _-_}
 use borrow.Author.Needs.{needs}
-use Rattle.decode.proofs.spans.Laws.{Walk, walk-start, walk-less, walk-next, met-here, met-none}
 use Rattle.decode.specs.Inner.WorkTable.{over, nodeStart, nodeLevel, chainLink, chainHead}
-use Prim.Native.Nat.{ℕ}
-use mathlib.Core.Path.{sym, _∙_}
+use Rattle.decode.proofs.spans.Laws.{Walk, walk-start, walk-less, walk-next, met-here, met-none}
 use Rattle.decode.proofs.spans.meets_in.Statement.{statement}
 use Rattle.decode.proofs.spans.meets_in.Tie as tie
 
@@ -13,75 +14,42 @@ Inv-loop work count h start end v₀ v = Walk work count h (λ (i : ℕ). over w
 abbrev μ-loop : tie.MeasureT-loop
 μ-loop work count h start end v₀ v = v
 
-mul-v : tie.Need-mul-v Inv-loop μ-loop
-mul-v c = omega arith
+-- ---- places on the way to a place: the turn of the loop, and the start
+abbrev at-turn : tie.After-over Inv-loop μ-loop → tie.In-loop Inv-loop μ-loop
+at-turn c = c .before .before .before
 
-add-v : tie.Need-add-v Inv-loop μ-loop
-add-v c = omega arith
+abbrev at-start : tie.At-loop Inv-loop μ-loop → tie.Start Inv-loop μ-loop
+at-start c = c .before .before .before
 
-mul-v-2 : tie.Need-mul-v-2 Inv-loop μ-loop
-mul-v-2 c = omega arith
-
-shared-slice-read-v : tie.Need-shared-slice-read-v Inv-loop μ-loop
-shared-slice-read-v c = omega arith
+-- what `over` answers of the node before v
+tested : (c : tie.After-over Inv-loop μ-loop) → let l = at-turn c .before in let a = at-start l .args in
+    c .over .result ≡ over (a .work .now) (l .loop .v - 1) (a .start) (a .end)
+unfolding over nodeStart nodeLevel
+tested c = c .over .ensures
 
 loop-holds : tie.Need-loop-holds Inv-loop μ-loop
 unfolding chainHead
-loop-holds c = walk-start (c .before .before .pre .0) (c .before .before .pre .1)
-
-sub-j : tie.Need-sub-j Inv-loop μ-loop
-sub-j c = omega arith
-
-mul-over : tie.Need-mul-over Inv-loop μ-loop
-mul-over c = omega arith
-
-mul-over-2 : tie.Need-mul-over-2 Inv-loop μ-loop
-mul-over-2 c = omega arith
-
-shared-slice-read-over : tie.Need-shared-slice-read-over Inv-loop μ-loop
-shared-slice-read-over c = omega arith
-
-mul-over-3 : tie.Need-mul-over-3 Inv-loop μ-loop
-mul-over-3 c = omega arith
-
-add-over : tie.Need-add-over Inv-loop μ-loop
-add-over c = omega arith
-
-mul-over-4 : tie.Need-mul-over-4 Inv-loop μ-loop
-mul-over-4 c = omega arith
-
-shared-slice-read-over-2 : tie.Need-shared-slice-read-over-2 Inv-loop μ-loop
-shared-slice-read-over-2 c = omega arith
-
-over-requires : tie.Need-over-requires Inv-loop μ-loop
-over-requires c κs = search needs
-
-returns : tie.Need-returns Inv-loop μ-loop
-unfolding over nodeStart nodeLevel
-returns c = met-here _ _ _ _ _ _ (c .before .before .before .before .loop-test .taken) (c .before .before .before .before .before .loop .inv) (sym (c .before .over .ensures) ∙ c .if1 .taken)
-
-mul-v-3 : tie.Need-mul-v-3 Inv-loop μ-loop
-mul-v-3 c = omega arith
-
-add-v-2 : tie.Need-add-v-2 Inv-loop μ-loop
-add-v-2 c = omega arith
-
-mul-v-4 : tie.Need-mul-v-4 Inv-loop μ-loop
-mul-v-4 c = omega arith
-
-shared-slice-read-v-2 : tie.Need-shared-slice-read-v-2 Inv-loop μ-loop
-shared-slice-read-v-2 c = omega arith
+loop-holds c = let s = c .before .before in walk-start (s .pre .0) (s .pre .1)
 
 loop-less : tie.Need-loop-less Inv-loop μ-loop
 unfolding chainLink
-loop-less c = walk-less (c .before .before .before .before .before .before .before .before .before .pre .0) (c .before .before .before .before .before .loop-test .taken) (c .before .before .before .before .before .before .loop .inv)
+loop-less c =
+    let l = at-turn (c .before .before) in
+    walk-less (at-start (l .before) .pre .0) (l .loop-test .taken) (l .before .loop .inv)
 
 loop-again : tie.Need-loop-again Inv-loop μ-loop
-unfolding over nodeStart nodeLevel chainLink
-loop-again c = walk-next (c .before .before .before .before .before .before .before .before .before .pre .0) (c .before .before .before .before .before .loop-test .taken) (c .before .before .before .before .before .before .loop .inv) (sym (c .before .before .over .ensures) ∙ c .before .if1 .left)
+unfolding chainLink
+loop-again c =
+    let l = at-turn (c .before .before) in
+    walk-next (at-start (l .before) .pre .0) (l .loop-test .taken) (l .before .loop .inv) (sym (tested (c .before .before)) ∙ c .before .if1 .left)
+
+returns : tie.Need-returns Inv-loop μ-loop
+returns c =
+    let l = at-turn (c .before) in
+    met-here (l .before .loop .inv) (l .loop-test .taken) (sym (tested (c .before)) ∙ c .if1 .taken)
 
 returns-2 : tie.Need-returns-2 Inv-loop μ-loop
-returns-2 c = met-none _ _ _ _ _ _ (c .loop-test .left) (c .before .loop .inv)
+returns-2 c = met-none (c .before .loop .inv) (c .loop-test .left)
 
 pub meets-in-spec : {M : Type 1} → statement M
 meets-in-spec =
@@ -89,25 +57,25 @@ meets-in-spec =
     (tie.spec
     Inv-loop
     μ-loop
-    mul-v
-    add-v
-    mul-v-2
-    shared-slice-read-v
+    (λ c. omega arith)
+    (λ c. omega arith)
+    (λ c. omega arith)
+    (λ c. omega arith)
     loop-holds
-    sub-j
-    mul-over
-    mul-over-2
-    shared-slice-read-over
-    mul-over-3
-    add-over
-    mul-over-4
-    shared-slice-read-over-2
-    over-requires
+    (λ c. omega arith)
+    (λ c. omega arith)
+    (λ c. omega arith)
+    (λ c. omega arith)
+    (λ c. omega arith)
+    (λ c. omega arith)
+    (λ c. omega arith)
+    (λ c. omega arith)
+    (λ c κs. search needs)
     returns
-    mul-v-3
-    add-v-2
-    mul-v-4
-    shared-slice-read-v-2
+    (λ c. omega arith)
+    (λ c. omega arith)
+    (λ c. omega arith)
+    (λ c. omega arith)
     loop-less
     loop-again
     returns-2)

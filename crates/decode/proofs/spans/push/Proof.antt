@@ -1,47 +1,34 @@
+-- `decode::spans::push` meets its contract: the words after `put` hold one span more. Assumes nothing.
 use native.Mathlib.Omega.{arith}
+use borrow.Author.Needs.{needs}
 use Rattle.decode.proofs.spans.PutLaws.{pushed}
 use Rattle.decode.proofs.spans.Laws.{quot-small}
-use borrow.Author.Needs.{needs}
 use Rattle.decode.proofs.spans.push.Statement.{statement}
 use Rattle.decode.proofs.spans.push.Tie as tie
 
-size-of-requires : tie.Need-size-of-requires
-size-of-requires c κs = search needs
-
-div-chain : tie.Need-div-chain
-div-chain c = omega (arith, c .size-of .ensures .1)
+abbrev at-start : tie.After-chain → tie.Start
+at-start c = c .before .before .before
 
 chain-requires : tie.Need-chain-requires
-chain-requires c κs = (omega (arith, c .before .before .pre .0 .0 .room), (quot-small (c .before .before .args .start) (c .size-of .result) (omega arith) (c .size-of .ensures .1 .0), c .before .before .pre .1 .0))
-
-mul-put : tie.Need-mul-put
-mul-put c = omega arith
-
-add-put : tie.Need-add-put
-add-put c = omega arith
-
-put-requires : tie.Need-put-requires
-put-requires c κs = (omega arith, c .before .chain .ensures .1)
-
-add-t10 : tie.Need-add-t10
-add-t10 c = omega arith
-
-same-length : tie.Need-same-length
-same-length c = search needs
+chain-requires c κs =
+    let s = c .before .before in
+    (omega (arith, s .pre .0 .0 .room), (quot-small (s .args .start) (c .size-of .result) (omega arith) (c .size-of .ensures .1 .0), s .pre .1 .0))
 
 returns : tie.Need-returns
-returns c = pushed _ _ _ _ _ _ _ (c .before .before .before .before .before .before .before .pre .0 .0) (c .before .before .before .before .before .before .before .pre .0 .1) (c .before .before .before .before .before .before .before .pre .1 .0) (omega arith) (c .before .before .before .before .chain .ensures .1) (rw (← c .before .before .before .before .before .size-of .ensures .0) (c .before .before .before .before .chain .ensures .0)) (c .before .before .before .before .before .before .before .pre .1 .2) (c .before .before .put .ensures)
+returns c =
+    let p = c .before .before in let h = p .before .before in let ((rep, room), (three, _, free)) = at-start h .pre in
+    pushed rep room three (omega arith) (h .chain .ensures .1) (rw (← h .before .size-of .ensures .0) (h .chain .ensures .0)) free (p .put .ensures)
 
 pub push-spec : {M : Type 1} → statement M
 push-spec =
     tie.close
     (tie.spec
-    size-of-requires
-    div-chain
+    (λ c κs. search needs)
+    (λ c. omega (arith, c .size-of .ensures .1))
     chain-requires
-    mul-put
-    add-put
-    put-requires
-    add-t10
-    same-length
+    (λ c. omega arith)
+    (λ c. omega arith)
+    (λ c κs. (omega arith, c .before .chain .ensures .1))
+    (λ c. omega arith)
+    (λ c. search needs)
     returns)

@@ -1,3 +1,4 @@
+-- `decode::spans::size_of` meets its contract: the size by the level. Assumes nothing.
 use borrow.Author.Needs.{needs}
 use Rattle.decode.proofs.spans.Laws.{size-0, size-1, size-2}
 use Rattle.decode.proofs.spans.size_of.Statement.{statement}

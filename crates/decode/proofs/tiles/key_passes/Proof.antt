@@ -1,3 +1,4 @@
+-- `decode::tiles::key_passes` meets its contract: three tests. Assumes nothing.
 use Rattle.decode.proofs.tiles.Fields.{key-last, key-low, key-high}
 use Rattle.decode.proofs.tiles.key_passes.Statement.{statement}
 use Rattle.decode.proofs.tiles.key_passes.Tie as tie

@@ -1,137 +1,166 @@
+-- `decode::tiles::tile` meets its contract: one law for each way out. Assumes nothing.
 use native.Mathlib.Omega.{arith}
-use Rattle.decode.proofs.tiles.Turns.{tile-out-key, tile-out-value, tile-out-off, tile-out-refused, tile-out-child}
-use mathlib.Core.Path.{refl}
-use Rattle.decode.proofs.nodes.Answers.{node-number}
-use Rattle.float.specs.Literal.{zero-literal}
-use mathlib.Core.List.{[]}
+use mathlib.Core.Path.{refl, sym, _∙_}
+use Prim.Native.Nat.{_+_, _*_, _<_, _≤_}
 use lib.Ieee.{binary32}
-use borrow.Author.Tests.{not-true, not-false}
+use lib.ListN.{length}
 use borrow.Author.Needs.{needs}
+use borrow.Author.Tests.{not-true, not-false}
+use Rattle.float.specs.Literal.{zero-literal}
+use Rattle.decode.specs.Inner.Filled.{Tabs, tabs, Kept, NodeOut}
+use Rattle.decode.specs.Inner.Rooted.{RootTabs, rootTabs, RootPut}
+use Rattle.decode.proofs.nodes.Answers.{node-number}
+use Rattle.decode.proofs.tiles.Turns.{Keyed, Aimed, tile-out-key, tile-out-value, tile-out-off, tile-out-refused, tile-out-child}
 use Rattle.decode.proofs.tiles.tile.Statement.{statement}
 use Rattle.decode.proofs.tiles.tile.Tie as tie
 
+-- ---- places on the way to a place: the start, the key, the word, the target, the node below
+abbrev at-start : tie.After-u64-at → tie.Start
+at-start c = c .before .before .before .before .before .before .before .before .before .before
+
+abbrev at-key : tie.Else1 → tie.After-u64-at
+at-key c = c .before .before
+
+abbrev at-value : tie.After-put-root-arg3 → tie.Then2
+at-value c = c .before .before .before
+
+abbrev at-put : tie.After-slice-known10 → tie.After-put-root
+at-put c = c .before .before .before .before .before
+
+abbrev at-args : tie.After-node-arg6 → tie.After-to
+at-args c = c .before .before .before .before .before .before .before
+
+abbrev at-refusal : tie.After-e2 → tie.After-node
+at-refusal c = c .before .before .before .before .before .before .before .before .before .before .before .before .before .before
+
+abbrev at-node : tie.After-k → tie.After-node
+at-node c = c .before .before .before .before .before .before .before .before .before .before .before .before .before .before
+
+abbrev at-k : tie.After-put-root-arg6 → tie.After-k
+at-k c = c .before .before .before .before
+
+abbrev at-put₂ : tie.After-slice-known18 → tie.After-put-root2
+at-put₂ c = c .before .before .before .before .before
+
+abbrev at-target : tie.After-to → tie.After-child-target
+at-target c = c .before .before
+
+abbrev at-word : tie.After-put-root → tie.Then2
+at-word c = at-value (c .before .before)
+
+abbrev at-to : tie.After-node → tie.After-to
+at-to c = at-args (c .before)
+
+abbrev start : tie.Else1 → tie.Start
+start c = at-start (at-key c)
+
+abbrev node-start : tie.After-node → tie.Start
+node-start c = start (at-target (at-to c) .before .before .before)
+
+-- ---- the tables as they are lent, and as the node's reader leaves them
+abbrev lent : tie.Start → Tabs
+lent c = let a = c .args in tabs (a .work .now) (a .ul .now) (a .uv .now) (a .ll .now) (a .lv .now) (a .leaves .now)
+
+abbrev read : tie.After-node → Tabs
+read c = let (_, (_, (_, (_, (work, (ul, (uv, (ll, (lv, (leaves, _)))))))))) = c .node .last in tabs work ul uv ll lv leaves
+
+abbrev roots : tie.Start → RootTabs
+roots c = let a = c .args in rootTabs (a .blocks .now) (a .rl .now) (a .rv .now)
+
+abbrev roots-put : tie.After-put-root → RootTabs
+roots-put c = let (blocks, (rl, (rv, _))) = c .put-root .last in rootTabs blocks rl rv
+
+-- ---- what is known there
+keyed : (c : tie.Else1) → let a = start c .args in Keyed (a .bytes .now) (a .root) (a .i) (at-key c .u64-at .result)
+keyed c = record { is = at-key c .u64-at .ensures; passes = sym (c .before .key-passes .ensures) ∙ not-false _ (c .if1 .left) }
+
+aimed : (c : tie.After-child-target) → let e = c .before .before .before in let a = start e .args in
+    Aimed (a .bytes .now) (a .root) (a .i) (at-key e .u64-at .result) (c .before .before .u64-at2 .result) (c .child-target .result)
+aimed c = record {
+  keyed = keyed (c .before .before .before);
+  word = c .before .before .u64-at2 .ensures;
+  some = c .before .if2 .left;
+  aims = c .child-target .ensures;
+}
+
+read-node : (c : tie.After-node) → let s = node-start c in
+    NodeOut 2 (s .args .bytes .now) (at-to c .to .given .0 .0) (lent s) (s .args .st) (read c) (c .node .result)
+read-node c = c .node .ensures
+
+keeps : (c : tie.After-node) → Kept (lent (node-start c)) (read c)
+keeps c =
+    let (_, (_, (_, (_, (work, (ul, (uv, (ll, (lv, (leaves, _)))))))))) = c .node .kept in
+    record { work = work; upperLinks = ul; upperValues = uv; lowerLinks = ll; lowerValues = lv; leafValues = leaves }
+
+put-value : (c : tie.After-put-root) → let e = at-word c .before .before in
+    RootPut (start e .args .i) (at-key e .u64-at .result) 0 (c .before .f32-at .result) (roots (start e)) (roots-put c)
+put-value c = c .put-root .ensures
+
+-- the tile's place in the tables of the roots
+places : (c : tie.Start) → (3 * c .args .i + 3 ≤ length (c .args .blocks .now)) × (c .args .i < length (c .args .rl .now))
+    × (c .args .i < length (c .args .rv .now))
+places c = (c .pre .3, c .pre .4, omega (arith, c .pre .4, c .pre .5))
+
+-- ---- the calls
+abbrev first : tie.After-slice-known8 → tie.Start
+first c = c .before .before .before .before .before .before .before .before .before
+
 add-at : tie.Need-add-at
-add-at c = omega (arith, c .before .before .before .before .before .before .before .before .before .pre .1, c .before .before .before .before .before .before .before .before .before .pre .2)
+add-at c = omega (arith, first c .pre .1, first c .pre .2)
 
 mul-at : tie.Need-mul-at
-mul-at c = omega (arith, c .before .before .before .before .before .before .before .before .before .pre .2)
+mul-at c = omega (arith, first c .pre .2)
 
 add-at-2 : tie.Need-add-at-2
-add-at-2 c = omega (arith, c .before .before .before .before .before .before .before .before .before .pre .1, c .before .before .before .before .before .before .before .before .before .pre .2)
-
-u64-at-requires : tie.Need-u64-at-requires
-u64-at-requires c κs = search needs
-
-key-passes-requires : tie.Need-key-passes-requires
-key-passes-requires c κs = search needs
-
-returns : tie.Need-returns
-returns c = tile-out-key _ _ _ _ _ _ _ _ _ _ _ _ _ _ (c .before .before .u64-at .ensures) _ _ _ _ _ _ _ _ _ _ (c .before .key-passes .ensures) (not-true _ (c .if1 .taken))
+add-at-2 c = omega (arith, first c .pre .1, first c .pre .2)
 
 add-u64-at : tie.Need-add-u64-at
-add-u64-at c = omega (arith, c .before .before .before .before .before .before .before .before .before .before .before .before .pre .1, c .before .before .before .before .before .before .before .before .before .before .before .before .pre .2)
-
-u64-at-requires-2 : tie.Need-u64-at-requires-2
-u64-at-requires-2 c κs = search needs
+add-u64-at c = omega (arith, start c .pre .1, start c .pre .2)
 
 add-f32-at : tie.Need-add-f32-at
-add-f32-at c = omega (arith, c .before .before .before .before .before .before .before .before .before .before .before .before .before .before .before .before .before .pre .1, c .before .before .before .before .before .before .before .before .before .before .before .before .before .before .before .before .before .pre .2)
-
-f32-at-requires : tie.Need-f32-at-requires
-f32-at-requires c κs = search needs
+add-f32-at c = let s = start (at-value c .before .before) in omega (arith, s .pre .1, s .pre .2)
 
 put-root-requires : tie.Need-put-root-requires
-put-root-requires c κs = (c .before .before .before .before .before .before .before .before .before .before .before .before .before .before .before .before .before .before .pre .3, c .before .before .before .before .before .before .before .before .before .before .before .before .before .before .before .before .before .before .pre .4, omega (arith, c .before .before .before .before .before .before .before .before .before .before .before .before .before .before .before .before .before .before .pre .4, c .before .before .before .before .before .before .before .before .before .before .before .before .before .before .before .before .before .before .pre .5))
-
-same-length : tie.Need-same-length
-same-length c = search needs
-
-same-length-2 : tie.Need-same-length-2
-same-length-2 c = search needs
-
-same-length-3 : tie.Need-same-length-3
-same-length-3 c = search needs
-
-returns-2 : tie.Need-returns-2
-returns-2 c = tile-out-value _ _ _ _ _ _ _ _ _ _ _ _ _ _ (c .before .before .before .before .before .before .before .before .before .before .before .before .before .before .u64-at .ensures) [] [] [] [] [] [] _ _ _ _ (c .before .before .before .before .before .before .before .before .before .before .before .before .before .key-passes .ensures) (not-false _ (c .before .before .before .before .before .before .before .before .before .before .before .before .if1 .left)) _ _ (c .before .before .before .before .before .before .before .before .before .before .before .before .before .before .before .before .before .before .before .before .before .before .before .before .pre .6) (c .before .before .before .before .before .before .before .before .before .before .before .u64-at2 .ensures) (c .before .before .before .before .before .before .before .before .before .before .if2 .taken) (c .before .before .before .before .before .before .f32-at .ensures) (c .before .before .before .before .before .put-root .ensures)
+put-root-requires c κs = places (start (at-value (c .before) .before .before))
 
 child-target-requires : tie.Need-child-target-requires
-child-target-requires c κs = c .before .before .before .before .before .before .before .before .before .before .before .before .before .before .pre .1
-
-enum-known-e : tie.Need-enum-known-e
-enum-known-e c = search needs
-
-enum-known-to : tie.Need-enum-known-to
-enum-known-to c = search needs
+child-target-requires c κs = start (c .before .before) .pre .1
 
 node-requires : tie.Need-node-requires
-node-requires c κs = (c .before .before .before .before .before .before .before .before .before .before .before .before .before .before .before .before .before .before .before .before .before .before .before .before .pre .0, omega arith, c .before .before .before .before .before .before .before .before .before .before .before .before .before .before .before .before .before .before .before .before .before .before .before .before .pre .6)
-
-enum-known-e-2 : tie.Need-enum-known-e-2
-enum-known-e-2 c = search needs
-
-enum-known-k : tie.Need-enum-known-k
-enum-known-k c = search needs
+node-requires c κs =
+    let s = start (at-target (at-args c) .before .before .before) in
+    (s .pre .0, omega arith, s .pre .6)
 
 add-put-root : tie.Need-add-put-root
-add-put-root c = omega (arith, node-number _ _ _ _ _ (c .before .before .before .before .k .given .1) (c .before .before .before .before .before .before .before .before .before .before .before .before .before .before .before .before .before .before .node .ensures .fit))
+add-put-root c =
+    let k = at-k c in let n = at-node k in
+    omega (arith, node-number (read-node n) (k .k .given .1))
 
 put-root-requires-2 : tie.Need-put-root-requires-2
-put-root-requires-2 c κs = (c .before .before .before .before .before .before .before .before .before .before .before .before .before .before .before .before .before .before .before .before .before .before .before .before .before .before .before .before .before .before .before .before .before .before .before .before .before .before .before .before .before .before .before .pre .3, c .before .before .before .before .before .before .before .before .before .before .before .before .before .before .before .before .before .before .before .before .before .before .before .before .before .before .before .before .before .before .before .before .before .before .before .before .before .before .before .before .before .before .before .pre .4, omega (arith, c .before .before .before .before .before .before .before .before .before .before .before .before .before .before .before .before .before .before .before .before .before .before .before .before .before .before .before .before .before .before .before .before .before .before .before .before .before .before .before .before .before .before .before .pre .4, c .before .before .before .before .before .before .before .before .before .before .before .before .before .before .before .before .before .before .before .before .before .before .before .before .before .before .before .before .before .before .before .before .before .before .before .before .before .before .before .before .before .before .before .pre .5))
+put-root-requires-2 c κs = places (node-start (at-node (at-k c)))
+
+-- ---- the ways out: by the key, with a value, by the target, by the node's reader, and with a node
+returns : tie.Need-returns
+returns c = tile-out-key (c .before .before .u64-at .ensures) (sym (c .before .key-passes .ensures) ∙ not-true _ (c .if1 .taken))
+
+returns-2 : tie.Need-returns-2
+returns-2 c =
+    let p = at-put c in let w = at-word p in let e = w .before .before in
+    tile-out-value (keyed e) (start e .pre .6) (w .before .u64-at2 .ensures) (w .if2 .taken) (p .before .f32-at .ensures) (put-value p)
 
 returns-3 : tie.Need-returns-3
-returns-3 c = tile-out-off _ _ _ _ _ _ _ _ _ _ _ _ _ _ (c .before .before .before .before .before .before .before .before .u64-at .ensures) _ _ _ _ _ _ _ _ _ _ (c .before .before .before .before .before .before .before .key-passes .ensures) (not-false _ (c .before .before .before .before .before .before .if1 .left)) _ (c .before .before .before .before .before .u64-at2 .ensures) (c .before .before .before .before .if2 .left) _ (c .before .before .before .child-target .ensures) _ (c .before .e .given .1)
-
-same-length-4 : tie.Need-same-length-4
-same-length-4 c = search needs
-
-same-length-5 : tie.Need-same-length-5
-same-length-5 c = search needs
-
-same-length-6 : tie.Need-same-length-6
-same-length-6 c = search needs
-
-same-length-7 : tie.Need-same-length-7
-same-length-7 c = search needs
-
-same-length-8 : tie.Need-same-length-8
-same-length-8 c = search needs
-
-same-length-9 : tie.Need-same-length-9
-same-length-9 c = search needs
+returns-3 c = tile-out-off (aimed (c .before .before .before)) (c .before .e .given .1)
 
 returns-4 : tie.Need-returns-4
-returns-4 c = tile-out-refused _ _ _ _ _ _ _ _ _ _ _ _ _ _ (c .before .before .before .before .before .before .before .before .before .before .before .before .before .before .before .before .before .before .before .before .before .before .before .before .before .before .before .before .before .before .u64-at .ensures) _ _ _ _ _ _ _ _ _ _ (c .before .before .before .before .before .before .before .before .before .before .before .before .before .before .before .before .before .before .before .before .before .before .before .before .before .before .before .before .before .key-passes .ensures) (not-false _ (c .before .before .before .before .before .before .before .before .before .before .before .before .before .before .before .before .before .before .before .before .before .before .before .before .before .before .before .before .if1 .left)) _ (c .before .before .before .before .before .before .before .before .before .before .before .before .before .before .before .before .before .before .before .before .before .before .before .before .before .before .before .u64-at2 .ensures) (c .before .before .before .before .before .before .before .before .before .before .before .before .before .before .before .before .before .before .before .before .before .before .before .before .before .before .if2 .left) _ (c .before .before .before .before .before .before .before .before .before .before .before .before .before .before .before .before .before .before .before .before .before .before .before .before .before .child-target .ensures) _ (c .before .before .before .before .before .before .before .before .before .before .before .before .before .before .before .before .before .before .before .before .before .before .before .to .given .1) _ (c .before .before .before .before .before .before .before .before .before .before .before .before .before .before .before .node .ensures) _ (c .before .e2 .given .1)
-
-same-length-10 : tie.Need-same-length-10
-same-length-10 c = search needs
-
-same-length-11 : tie.Need-same-length-11
-same-length-11 c = search needs
-
-same-length-12 : tie.Need-same-length-12
-same-length-12 c = search needs
-
-same-length-13 : tie.Need-same-length-13
-same-length-13 c = search needs
-
-same-length-14 : tie.Need-same-length-14
-same-length-14 c = search needs
-
-same-length-15 : tie.Need-same-length-15
-same-length-15 c = search needs
-
-same-length-16 : tie.Need-same-length-16
-same-length-16 c = search needs
-
-same-length-17 : tie.Need-same-length-17
-same-length-17 c = search needs
-
-same-length-18 : tie.Need-same-length-18
-same-length-18 c = search needs
+returns-4 c =
+    let n = at-refusal (c .before) in let a = at-to n in
+    tile-out-refused (aimed (at-target a)) (a .to .given .1) (read-node n) {v = roots (node-start n)} (c .before .e2 .given .1)
 
 returns-5 : tie.Need-returns-5
-returns-5 c = tile-out-child _ _ _ _ _ _ _ _ _ _ _ _ _ _ (c .before .before .before .before .before .before .before .before .before .before .before .before .before .before .before .before .before .before .before .before .before .before .before .before .before .before .before .before .before .before .before .before .before .before .before .before .before .before .before .u64-at .ensures) _ _ _ _ _ _ _ _ _ _ (c .before .before .before .before .before .before .before .before .before .before .before .before .before .before .before .before .before .before .before .before .before .before .before .before .before .before .before .before .before .before .before .before .before .before .before .before .before .before .key-passes .ensures) (not-false _ (c .before .before .before .before .before .before .before .before .before .before .before .before .before .before .before .before .before .before .before .before .before .before .before .before .before .before .before .before .before .before .before .before .before .before .before .before .before .if1 .left)) _ (c .before .before .before .before .before .before .before .before .before .before .before .before .before .before .before .before .before .before .before .before .before .before .before .before .before .before .before .before .before .before .before .before .before .before .before .before .u64-at2 .ensures) (c .before .before .before .before .before .before .before .before .before .before .before .before .before .before .before .before .before .before .before .before .before .before .before .before .before .before .before .before .before .before .before .before .before .before .before .if2 .left) _ (c .before .before .before .before .before .before .before .before .before .before .before .before .before .before .before .before .before .before .before .before .before .before .before .before .before .before .before .before .before .before .before .before .before .before .child-target .ensures) _ (c .before .before .before .before .before .before .before .before .before .before .before .before .before .before .before .before .before .before .before .before .before .before .before .before .before .before .before .before .before .before .before .before .to .given .1) _ (c .before .before .before .before .before .before .before .before .before .before .before .before .before .before .before .before .before .before .before .before .before .before .before .before .node .ensures) _ _ _ _ (c .before .before .before .before .before .before .before .before .before .before .k .given .1) refl (zero-literal binary32) (c .before .before .before .before .before .put-root2 .ensures)
+returns-5 c =
+    let p = at-put₂ c in let k = at-k (p .before) in let n = at-node k in let a = at-to n in
+    tile-out-child (aimed (at-target a)) (a .to .given .1) (read-node n) (k .k .given .1) refl (zero-literal binary32)
+    (p .put-root2 .ensures)
 
 pub tile-spec : {M : Type 1} → statement M
 tile-spec =
@@ -140,41 +169,41 @@ tile-spec =
     add-at
     mul-at
     add-at-2
-    u64-at-requires
-    key-passes-requires
+    (λ c κs. search needs)
+    (λ c κs. search needs)
     returns
     add-u64-at
-    u64-at-requires-2
+    (λ c κs. search needs)
     add-f32-at
-    f32-at-requires
+    (λ c κs. search needs)
     put-root-requires
-    same-length
-    same-length-2
-    same-length-3
+    (λ c. search needs)
+    (λ c. search needs)
+    (λ c. search needs)
     returns-2
     child-target-requires
-    enum-known-e
-    enum-known-to
+    (λ c. search needs)
+    (λ c. search needs)
     node-requires
-    enum-known-e-2
-    enum-known-k
+    (λ c. search needs)
+    (λ c. search needs)
     add-put-root
     put-root-requires-2
     returns-3
-    same-length-4
-    same-length-5
-    same-length-6
-    same-length-7
-    same-length-8
-    same-length-9
+    (λ c. keeps (at-refusal (c .before)) .work)
+    (λ c. keeps (at-refusal (c .before)) .upperLinks)
+    (λ c. keeps (at-refusal (c .before)) .upperValues)
+    (λ c. keeps (at-refusal (c .before)) .lowerLinks)
+    (λ c. keeps (at-refusal (c .before)) .lowerValues)
+    (λ c. keeps (at-refusal (c .before)) .leafValues)
     returns-4
-    same-length-10
-    same-length-11
-    same-length-12
-    same-length-13
-    same-length-14
-    same-length-15
-    same-length-16
-    same-length-17
-    same-length-18
+    (λ c. search needs)
+    (λ c. search needs)
+    (λ c. search needs)
+    (λ c. search needs)
+    (λ c. search needs)
+    (λ c. search needs)
+    (λ c. search needs)
+    (λ c. search needs)
+    (λ c. search needs)
     returns-5)

@@ -1,169 +1,184 @@
+-- `decode::tree::read_tree` meets its contract: one law for each way out. Assumes nothing.
 use native.Mathlib.Omega.{arith}
-use mathlib.Core.Path.{_∙_}
-use Rattle.decode.proofs.tree.Answers.{out-short, out-spanless, out-past, out-root, out-many, tree-fit, out-tiles, out-counts, out-read}
-use mathlib.Core.List.{[]}
+use mathlib.Core.List.{List}
+use Prim.Native.Nat.{ℕ}
 use borrow.Author.Needs.{needs}
+use Rattle.nanovdb.specs.Kept.{Kept, kept-on}
+use Rattle.decode.specs.Inner.Filled.{Tabs, tabs}
+use Rattle.decode.specs.Inner.Rooted.{RootTabs, rootTabs}
+use Rattle.decode.specs.Inner.GridRead.{allTables}
+use Rattle.decode.proofs.tree.Answers.{Asked, Tiled, words-kept, out-short, out-spanless, out-past, out-root, out-many}
+use Rattle.decode.proofs.tree.Answers.{tree-fit, out-tiles, out-counts, out-read}
 use Rattle.decode.proofs.tree.read_tree.Statement.{statement}
 use Rattle.decode.proofs.tree.read_tree.Tie as tie
 
-returns : tie.Need-returns
-returns c = out-short _ _ _ _ _ _ _ _ _ _ [] [] [] [] [] [] [] [] [] (c .if1 .taken)
+-- ---- places on the way to a place: the start, the three tests, the root's claim and its two arms, the tiles and their two arms
+abbrev at-start : tie.Else1 → tie.Start
+at-start c = c .before .before .before .before .before .before .before .before .before .before
 
-returns-2 : tie.Need-returns-2
-returns-2 c = out-spanless _ _ _ _ _ _ _ _ _ _ [] [] [] [] [] [] [] [] [] (c .before .if1 .left) (c .if2 .taken)
+abbrev at-root : tie.After-begin → tie.Else3
+at-root c = c .before .before .before
 
-u64-at-requires : tie.Need-u64-at-requires
-u64-at-requires c κs = search needs
+abbrev at-refusal : tie.After-e → tie.After-begin
+at-refusal c = c .before .before .before .before
 
-sub-if3 : tie.Need-sub-if3
-sub-if3 c = omega arith
+abbrev at-claim : tie.After-spans → tie.After-begin
+at-claim c = c .before .before .before .before
 
-returns-3 : tie.Need-returns-3
-returns-3 c = out-past _ _ _ _ _ _ _ _ _ _ [] [] [] [] [] [] [] [] [] (c .before .before .before .if1 .left) (c .before .before .if2 .left) _ (c .before .u64-at .ensures) (c .if3 .taken)
+abbrev at-spans : tie.Else4 → tie.After-spans
+at-spans c = c .before .before
 
+abbrev at-places : tie.After-tiles-arg9 → tie.Else4
+at-places c = c .before .before .before .before .before .before .before .before .before
+
+abbrev at-stop : tie.After-e2 → tie.After-tiles
+at-stop c = c .before .before .before .before .before .before .before .before .before .before .before .before .before .before .before .before .before .before
+    .before
+
+abbrev at-nodes : tie.After-nodes → tie.After-tiles
+at-nodes c = c .before .before .before .before .before .before .before .before .before .before .before .before .before .before .before .before .before .before
+    .before
+
+abbrev at-counts : tie.After-counts-pass → tie.After-nodes
+at-counts c = c .before .before
+
+abbrev at-words : tie.After-u64-at → tie.Else2
+at-words c = c .before
+
+abbrev at-length : tie.Else2 → tie.Else1
+at-length c = c .before
+
+abbrev root-start : tie.Else3 → tie.Start
+root-start c = at-start (at-length (at-words (c .before)))
+
+abbrev start : tie.After-begin → tie.Start
+start c = root-start (at-root c)
+
+abbrev begun : tie.After-tiles → tie.After-begin
+begun c = at-claim (at-spans (at-places (c .before)))
+
+-- ---- the tables as they are lent, the words behind `begin`, and the tables as the tiles' reader leaves them
+abbrev bytes : tie.Start → List ℕ
+bytes c = c .args .bytes .now
+
+abbrev nodes : tie.Start → Tabs
+nodes c = let a = c .args in tabs (a .work .now) (a .ul .now) (a .uv .now) (a .ll .now) (a .lv .now) (a .leaves .now)
+
+abbrev roots : tie.Start → RootTabs
+roots c = let a = c .args in rootTabs (a .blocks .now) (a .rl .now) (a .rv .now)
+
+abbrev words : tie.After-begin → List ℕ
+words c = c .begin .last .1 .0
+
+abbrev nodes-after : tie.After-tiles → Tabs
+nodes-after c =
+    let (_, (_, (_, (_, (work, (_, (_, (_, (ul, (uv, (ll, (lv, (leaves, _))))))))))))) = c .tiles .last in
+    tabs work ul uv ll lv leaves
+
+abbrev roots-after : tie.After-tiles → RootTabs
+roots-after c = let (_, (_, (_, (_, (_, (blocks, (rl, (rv, _)))))))) = c .tiles .last in rootTabs blocks rl rv
+
+-- ---- what is known there
+asked : (c : tie.After-begin) → let s = start c in
+    Asked (bytes s) (nodes s) (at-root c .before .u64-at .result) (c .before .before .u32-at .result) (words c) (c .begin .result)
+asked c =
+    let r = at-root c in
+    record {
+      root = record {
+        long = at-length (at-words (r .before)) .if1 .left;
+        words = at-words (r .before) .if2 .left;
+        offset-is = r .before .u64-at .ensures;
+        near = r .if3 .left;
+        tiles-are = c .before .before .u32-at .ensures;
+      };
+      says = c .begin .ensures;
+    }
+
+tiled : (c : tie.After-tiles) → let p = begun c in let s = start p in
+    Tiled (bytes s) (nodes s) (roots s) (at-root p .before .u64-at .result) (p .before .before .u32-at .result) (nodes-after c) (roots-after c)
+    (c .tiles .result)
+tiled c =
+    let e = at-places (c .before) in
+    record {
+      words = words (begun c);
+      answer = _;
+      spans = _;
+      asked = asked (begun c);
+      done = at-spans e .spans .given .1;
+      few = e .if4 .left;
+      out = c .tiles .ensures;
+    }
+
+keeps : (c : tie.After-tiles) → let s = start (begun c) in Kept (allTables (nodes s) (roots s)) (allTables (nodes-after c) (roots-after c))
+keeps c =
+    let (_, (_, (_, (_, (work, (blocks, (rl, (rv, (ul, (uv, (ll, (lv, (leaves, _))))))))))))) = c .tiles .kept in
+    let p = begun c in let s = start p in
+    kept-on (words-kept (nodes s) (roots s) (words p) (p .begin .kept .1 .0)) (record {
+      blocks = blocks;
+      rootLinks = rl;
+      rootValues = rv;
+      upperLinks = ul;
+      upperValues = uv;
+      lowerLinks = ll;
+      lowerValues = lv;
+      leafValues = leaves;
+      work = work;
+    })
+
+-- ---- the calls
 add-root : tie.Need-add-root
-add-root c = omega (arith, c .if3 .left, c .before .before .before .before .before .before .before .before .before .before .before .before .before .pre .0)
+add-root c = omega (arith, c .if3 .left, root-start c .pre .0)
 
 add-u32-at : tie.Need-add-u32-at
-add-u32-at c = omega (arith, c .if3 .left, c .before .before .before .before .before .before .before .before .before .before .before .before .before .pre .0)
-
-u32-at-requires : tie.Need-u32-at-requires
-u32-at-requires c κs = search needs
-
-cast-count : tie.Need-cast-count
-cast-count c = omega arith
+add-u32-at c = omega (arith, c .if3 .left, root-start c .pre .0)
 
 add-begin : tie.Need-add-begin
-add-begin c = omega (arith, c .before .before .if3 .left, c .before .before .before .before .before .before .before .before .before .before .before .before .before .before .before .pre .0, c .before .u32-at .ok)
-
-mul-begin : tie.Need-mul-begin
-mul-begin c = omega (arith, c .before .u32-at .ok)
+add-begin c = let r = c .before .before in omega (arith, r .if3 .left, root-start r .pre .0, c .before .u32-at .ok)
 
 add-begin-2 : tie.Need-add-begin-2
-add-begin-2 c = omega (arith, c .before .before .if3 .left, c .before .before .before .before .before .before .before .before .before .before .before .before .before .before .before .pre .0, c .before .u32-at .ok)
-
-begin-requires : tie.Need-begin-requires
-begin-requires c κs = omega arith
-
-enum-known-e : tie.Need-enum-known-e
-enum-known-e c = search needs
-
-enum-known-spans : tie.Need-enum-known-spans
-enum-known-spans c = search needs
-
-same-length : tie.Need-same-length
-same-length c = search needs
-
-returns-4 : tie.Need-returns-4
-returns-4 c = out-many _ _ _ _ _ _ _ _ _ _ [] [] [] [] [] [] [] [] [] (c .before .before .before .before .before .before .before .before .before .before .before .before .if1 .left) (c .before .before .before .before .before .before .before .before .before .before .before .if2 .left) _ (c .before .before .before .before .before .before .before .before .before .before .u64-at .ensures) (c .before .before .before .before .before .before .before .before .before .if3 .left) _ (c .before .before .before .before .before .before .before .before .u32-at .ensures) _ _ (c .before .before .before .before .before .before .begin .ensures) _ (c .before .before .spans .given .1) (c .if4 .taken)
+add-begin-2 c = let r = c .before .before in omega (arith, r .if3 .left, root-start r .pre .0, c .before .u32-at .ok)
 
 tiles-requires : tie.Need-tiles-requires
-tiles-requires c κs = (c .before .before .before .before .before .before .before .before .before .before .before .before .before .before .before .before .before .before .before .before .before .before .before .before .before .before .before .before .before .before .before .pre .0, omega (arith, c .before .before .before .before .before .before .before .before .before .before .before .before .before .before .before .before .before .before .if3 .left, c .before .before .before .before .before .before .before .before .before .before .before .before .before .before .before .before .before .before .before .before .before .before .before .before .before .before .before .before .before .before .before .pre .0), omega (arith, c .before .before .before .before .before .before .before .before .before .before .before .before .before .before .before .before .before .u32-at .ok), c .before .before .before .before .before .before .before .before .before .before .before .before .before .before .before .before .before .before .before .before .before .before .before .before .before .before .before .before .before .before .before .pre .1, c .before .before .before .before .before .before .before .before .before .if4 .left, c .before .before .before .before .before .before .before .before .before .before .before .before .before .before .before .before .before .before .before .before .before .before .before .before .before .before .before .before .before .before .before .pre .2, tree-fit (c .before .before .before .before .before .before .before .before .before .before .before .before .before .before .before .before .before .before .before .before .before .before .before .before .before .before .before .before .before .before .before .args .bytes .now) (c .before .before .before .before .before .before .before .before .before .before .before .before .before .before .before .before .before .before .before .before .before .before .before .before .before .before .before .before .before .before .before .args .work .now) (c .before .before .before .before .before .before .before .before .before .before .before .before .before .before .before .before .before .before .before .before .before .before .before .before .before .before .before .before .before .before .before .args .ul .now) (c .before .before .before .before .before .before .before .before .before .before .before .before .before .before .before .before .before .before .before .before .before .before .before .before .before .before .before .before .before .before .before .args .uv .now) (c .before .before .before .before .before .before .before .before .before .before .before .before .before .before .before .before .before .before .before .before .before .before .before .before .before .before .before .before .before .before .before .args .ll .now) (c .before .before .before .before .before .before .before .before .before .before .before .before .before .before .before .before .before .before .before .before .before .before .before .before .before .before .before .before .before .before .before .args .lv .now) (c .before .before .before .before .before .before .before .before .before .before .before .before .before .before .before .before .before .before .before .before .before .before .before .before .before .before .before .before .before .before .before .args .leaves .now) (c .before .before .before .before .before .before .before .before .before .before .before .before .before .before .before .before .before .before .before .before .before .before .before .before .before .before .before .before .before .before .before .args .blocks .now) (c .before .before .before .before .before .before .before .before .before .before .before .before .before .before .before .before .before .before .before .before .before .before .before .before .before .before .before .before .before .before .before .args .rl .now) (c .before .before .before .before .before .before .before .before .before .before .before .before .before .before .before .before .before .before .before .before .before .before .before .before .before .before .before .before .before .before .before .args .rv .now) [] [] [] [] [] [] [] [] [] (c .before .before .before .before .before .before .before .before .before .before .before .before .before .before .before .before .before .before .before .before .before .if1 .left) (c .before .before .before .before .before .before .before .before .before .before .before .before .before .before .before .before .before .before .before .before .if2 .left) _ (c .before .before .before .before .before .before .before .before .before .before .before .before .before .before .before .before .before .before .before .u64-at .ensures) (c .before .before .before .before .before .before .before .before .before .before .before .before .before .before .before .before .before .before .if3 .left) _ (c .before .before .before .before .before .before .before .before .before .before .before .before .before .before .before .before .before .u32-at .ensures) _ _ (c .before .before .before .before .before .before .before .before .before .before .before .before .before .before .before .begin .ensures) _ (c .before .before .before .before .before .before .before .before .before .before .before .spans .given .1) (c .before .before .before .before .before .before .before .before .before .before .before .before .before .before .before .before .before .before .before .before .before .before .before .before .before .before .before .before .before .before .before .pre .3) (c .before .before .before .before .before .before .before .before .before .before .before .before .before .before .before .before .before .before .before .before .before .before .before .before .before .before .before .before .before .before .before .pre .4))
+tiles-requires c κs =
+    let e = at-places c in let p = at-claim (at-spans e) in
+    let (short, blocks, links, upper, lower) = start p .pre in (
+      short,
+      omega (arith, at-root p .if3 .left, short),
+      omega (arith, p .before .before .u32-at .ok),
+      blocks,
+      e .if4 .left,
+      links,
+      tree-fit (asked p) (at-spans e .spans .given .1) upper lower,
+    )
 
-enum-known-e-2 : tie.Need-enum-known-e-2
-enum-known-e-2 c = search needs
+-- ---- the ways out: by three tests, by the places of the tiles, with the tree, by `begin`, by the tiles, and by the counts
+returns : tie.Need-returns
+returns c = out-short _ (c .if1 .taken)
 
-enum-known-nodes : tie.Need-enum-known-nodes
-enum-known-nodes c = search needs
+returns-2 : tie.Need-returns-2
+returns-2 c = out-spanless _ (c .before .if1 .left) (c .if2 .taken)
 
-counts-pass-requires : tie.Need-counts-pass-requires
-counts-pass-requires c κs = search needs
+returns-3 : tie.Need-returns-3
+returns-3 c = let w = at-words (c .before) in out-past _ (at-length w .if1 .left) (w .if2 .left) (c .before .u64-at .ensures) (c .if3 .taken)
 
-same-length-2 : tie.Need-same-length-2
-same-length-2 c = c .before .before .before .before .before .before .before .before .before .before .before .before .before .before .before .before .before .before .before .before .before .before .tiles .kept .1 .1 .1 .1 .0 ∙ c .before .before .before .before .before .before .before .before .before .before .before .before .before .before .before .before .before .before .before .before .before .before .before .before .before .before .before .before .before .before .before .before .before .before .before .before .before .before .begin .kept .1 .0
-
-same-length-3 : tie.Need-same-length-3
-same-length-3 c = search needs
-
-same-length-4 : tie.Need-same-length-4
-same-length-4 c = search needs
-
-same-length-5 : tie.Need-same-length-5
-same-length-5 c = search needs
-
-same-length-6 : tie.Need-same-length-6
-same-length-6 c = search needs
-
-same-length-7 : tie.Need-same-length-7
-same-length-7 c = search needs
-
-same-length-8 : tie.Need-same-length-8
-same-length-8 c = search needs
-
-same-length-9 : tie.Need-same-length-9
-same-length-9 c = search needs
-
-same-length-10 : tie.Need-same-length-10
-same-length-10 c = search needs
+returns-4 : tie.Need-returns-4
+returns-4 c = let s = c .before .before in out-many (asked (at-claim s)) (s .spans .given .1) (c .if4 .taken)
 
 returns-5 : tie.Need-returns-5
-returns-5 c = out-read _ _ _ _ _ _ _ _ _ _ _ _ _ _ _ _ _ _ _ (c .before .before .before .before .before .before .before .before .before .before .before .before .before .before .before .before .before .before .before .before .before .before .before .before .before .before .before .before .before .before .before .before .before .before .before .before .before .before .before .before .before .before .before .before .if1 .left) (c .before .before .before .before .before .before .before .before .before .before .before .before .before .before .before .before .before .before .before .before .before .before .before .before .before .before .before .before .before .before .before .before .before .before .before .before .before .before .before .before .before .before .before .if2 .left) _ (c .before .before .before .before .before .before .before .before .before .before .before .before .before .before .before .before .before .before .before .before .before .before .before .before .before .before .before .before .before .before .before .before .before .before .before .before .before .before .before .before .before .before .u64-at .ensures) (c .before .before .before .before .before .before .before .before .before .before .before .before .before .before .before .before .before .before .before .before .before .before .before .before .before .before .before .before .before .before .before .before .before .before .before .before .before .before .before .before .before .if3 .left) _ (c .before .before .before .before .before .before .before .before .before .before .before .before .before .before .before .before .before .before .before .before .before .before .before .before .before .before .before .before .before .before .before .before .before .before .before .before .before .before .before .before .u32-at .ensures) _ _ (c .before .before .before .before .before .before .before .before .before .before .before .before .before .before .before .before .before .before .before .before .before .before .before .before .before .before .before .before .before .before .before .before .before .before .before .before .before .before .begin .ensures) _ (c .before .before .before .before .before .before .before .before .before .before .before .before .before .before .before .before .before .before .before .before .before .before .before .before .before .before .before .before .before .before .before .before .before .before .spans .given .1) (c .before .before .before .before .before .before .before .before .before .before .before .before .before .before .before .before .before .before .before .before .before .before .before .before .before .before .before .before .before .before .before .before .if4 .left) _ (c .before .before .before .before .before .before .before .before .before .before .before .before .before .before .before .before .before .before .before .before .before .before .tiles .ensures) _ (c .before .before .before .nodes .given .1) _ (c .before .counts-pass .ensures) (c .if5 .taken)
-
-same-length-11 : tie.Need-same-length-11
-same-length-11 c = search needs
+returns-5 c =
+    let n = at-counts (c .before) in
+    out-read (tiled (at-nodes n)) (n .nodes .given .1) (c .before .counts-pass .ensures) (c .if5 .taken)
 
 returns-6 : tie.Need-returns-6
-returns-6 c = out-root _ _ _ _ _ _ _ _ _ _ [] [] [] [] [] [] [] [] [] (c .before .before .before .before .before .before .before .before .before .before .before .if1 .left) (c .before .before .before .before .before .before .before .before .before .before .if2 .left) _ (c .before .before .before .before .before .before .before .before .before .u64-at .ensures) (c .before .before .before .before .before .before .before .before .if3 .left) _ (c .before .before .before .before .before .before .before .u32-at .ensures) _ _ (c .before .before .before .before .before .begin .ensures) _ (c .before .e .given .1)
-
-same-length-12 : tie.Need-same-length-12
-same-length-12 c = search needs
-
-same-length-13 : tie.Need-same-length-13
-same-length-13 c = search needs
-
-same-length-14 : tie.Need-same-length-14
-same-length-14 c = search needs
-
-same-length-15 : tie.Need-same-length-15
-same-length-15 c = search needs
-
-same-length-16 : tie.Need-same-length-16
-same-length-16 c = search needs
-
-same-length-17 : tie.Need-same-length-17
-same-length-17 c = search needs
-
-same-length-18 : tie.Need-same-length-18
-same-length-18 c = search needs
-
-same-length-19 : tie.Need-same-length-19
-same-length-19 c = search needs
-
-same-length-20 : tie.Need-same-length-20
-same-length-20 c = search needs
+returns-6 c = out-root (asked (at-refusal (c .before))) (c .before .e .given .1)
 
 returns-7 : tie.Need-returns-7
-returns-7 c = out-tiles _ _ _ _ _ _ _ _ _ _ _ _ _ _ _ _ _ _ _ (c .before .before .before .before .before .before .before .before .before .before .before .before .before .before .before .before .before .before .before .before .before .before .before .before .before .before .before .before .before .before .before .before .before .before .before .before .before .before .before .before .before .before .if1 .left) (c .before .before .before .before .before .before .before .before .before .before .before .before .before .before .before .before .before .before .before .before .before .before .before .before .before .before .before .before .before .before .before .before .before .before .before .before .before .before .before .before .before .if2 .left) _ (c .before .before .before .before .before .before .before .before .before .before .before .before .before .before .before .before .before .before .before .before .before .before .before .before .before .before .before .before .before .before .before .before .before .before .before .before .before .before .before .before .u64-at .ensures) (c .before .before .before .before .before .before .before .before .before .before .before .before .before .before .before .before .before .before .before .before .before .before .before .before .before .before .before .before .before .before .before .before .before .before .before .before .before .before .before .if3 .left) _ (c .before .before .before .before .before .before .before .before .before .before .before .before .before .before .before .before .before .before .before .before .before .before .before .before .before .before .before .before .before .before .before .before .before .before .before .before .before .before .u32-at .ensures) _ _ (c .before .before .before .before .before .before .before .before .before .before .before .before .before .before .before .before .before .before .before .before .before .before .before .before .before .before .before .before .before .before .before .before .before .before .before .before .begin .ensures) _ (c .before .before .before .before .before .before .before .before .before .before .before .before .before .before .before .before .before .before .before .before .before .before .before .before .before .before .before .before .before .before .before .before .spans .given .1) (c .before .before .before .before .before .before .before .before .before .before .before .before .before .before .before .before .before .before .before .before .before .before .before .before .before .before .before .before .before .before .if4 .left) _ (c .before .before .before .before .before .before .before .before .before .before .before .before .before .before .before .before .before .before .before .before .tiles .ensures) _ (c .before .e2 .given .1)
-
-same-length-21 : tie.Need-same-length-21
-same-length-21 c = c .before .before .before .before .before .before .before .before .before .before .before .before .before .before .before .before .before .before .before .before .before .before .tiles .kept .1 .1 .1 .1 .0 ∙ c .before .before .before .before .before .before .before .before .before .before .before .before .before .before .before .before .before .before .before .before .before .before .before .before .before .before .before .before .before .before .before .before .before .before .before .before .before .before .begin .kept .1 .0
-
-same-length-22 : tie.Need-same-length-22
-same-length-22 c = search needs
-
-same-length-23 : tie.Need-same-length-23
-same-length-23 c = search needs
-
-same-length-24 : tie.Need-same-length-24
-same-length-24 c = search needs
-
-same-length-25 : tie.Need-same-length-25
-same-length-25 c = search needs
-
-same-length-26 : tie.Need-same-length-26
-same-length-26 c = search needs
-
-same-length-27 : tie.Need-same-length-27
-same-length-27 c = search needs
-
-same-length-28 : tie.Need-same-length-28
-same-length-28 c = search needs
-
-same-length-29 : tie.Need-same-length-29
-same-length-29 c = search needs
+returns-7 c = out-tiles (tiled (at-stop (c .before))) (c .before .e2 .given .1)
 
 returns-8 : tie.Need-returns-8
-returns-8 c = out-counts _ _ _ _ _ _ _ _ _ _ _ _ _ _ _ _ _ _ _ (c .before .before .before .before .before .before .before .before .before .before .before .before .before .before .before .before .before .before .before .before .before .before .before .before .before .before .before .before .before .before .before .before .before .before .before .before .before .before .before .before .before .before .before .before .if1 .left) (c .before .before .before .before .before .before .before .before .before .before .before .before .before .before .before .before .before .before .before .before .before .before .before .before .before .before .before .before .before .before .before .before .before .before .before .before .before .before .before .before .before .before .before .if2 .left) _ (c .before .before .before .before .before .before .before .before .before .before .before .before .before .before .before .before .before .before .before .before .before .before .before .before .before .before .before .before .before .before .before .before .before .before .before .before .before .before .before .before .before .before .u64-at .ensures) (c .before .before .before .before .before .before .before .before .before .before .before .before .before .before .before .before .before .before .before .before .before .before .before .before .before .before .before .before .before .before .before .before .before .before .before .before .before .before .before .before .before .if3 .left) _ (c .before .before .before .before .before .before .before .before .before .before .before .before .before .before .before .before .before .before .before .before .before .before .before .before .before .before .before .before .before .before .before .before .before .before .before .before .before .before .before .before .u32-at .ensures) _ _ (c .before .before .before .before .before .before .before .before .before .before .before .before .before .before .before .before .before .before .before .before .before .before .before .before .before .before .before .before .before .before .before .before .before .before .before .before .before .before .begin .ensures) _ (c .before .before .before .before .before .before .before .before .before .before .before .before .before .before .before .before .before .before .before .before .before .before .before .before .before .before .before .before .before .before .before .before .before .before .spans .given .1) (c .before .before .before .before .before .before .before .before .before .before .before .before .before .before .before .before .before .before .before .before .before .before .before .before .before .before .before .before .before .before .before .before .if4 .left) _ (c .before .before .before .before .before .before .before .before .before .before .before .before .before .before .before .before .before .before .before .before .before .before .tiles .ensures) _ (c .before .before .before .nodes .given .1) _ (c .before .counts-pass .ensures) (c .if5 .left)
+returns-8 c =
+    let n = at-counts (c .before) in
+    out-counts (tiled (at-nodes n)) (n .nodes .given .1) (c .before .counts-pass .ensures) (c .if5 .left)
 
 pub read-tree-spec : {M : Type 1} → statement M
 read-tree-spec =
@@ -171,54 +186,54 @@ read-tree-spec =
     (tie.spec
     returns
     returns-2
-    u64-at-requires
-    sub-if3
+    (λ c κs. search needs)
+    (λ c. omega arith)
     returns-3
     add-root
     add-u32-at
-    u32-at-requires
-    cast-count
+    (λ c κs. search needs)
+    (λ c. omega arith)
     add-begin
-    mul-begin
+    (λ c. omega (arith, c .before .u32-at .ok))
     add-begin-2
-    begin-requires
-    enum-known-e
-    enum-known-spans
-    same-length
+    (λ c κs. omega arith)
+    (λ c. search needs)
+    (λ c. search needs)
+    (λ c. at-claim (c .before .before) .begin .kept .1 .0)
     returns-4
     tiles-requires
-    enum-known-e-2
-    enum-known-nodes
-    counts-pass-requires
-    same-length-2
-    same-length-3
-    same-length-4
-    same-length-5
-    same-length-6
-    same-length-7
-    same-length-8
-    same-length-9
-    same-length-10
+    (λ c. search needs)
+    (λ c. search needs)
+    (λ c κs. search needs)
+    (λ c. keeps (at-nodes (at-counts (c .before))) .work)
+    (λ c. keeps (at-nodes (at-counts (c .before))) .blocks)
+    (λ c. keeps (at-nodes (at-counts (c .before))) .rootLinks)
+    (λ c. keeps (at-nodes (at-counts (c .before))) .rootValues)
+    (λ c. keeps (at-nodes (at-counts (c .before))) .upperLinks)
+    (λ c. keeps (at-nodes (at-counts (c .before))) .upperValues)
+    (λ c. keeps (at-nodes (at-counts (c .before))) .lowerLinks)
+    (λ c. keeps (at-nodes (at-counts (c .before))) .lowerValues)
+    (λ c. keeps (at-nodes (at-counts (c .before))) .leafValues)
     returns-5
-    same-length-11
+    (λ c. at-refusal (c .before) .begin .kept .1 .0)
     returns-6
-    same-length-12
-    same-length-13
-    same-length-14
-    same-length-15
-    same-length-16
-    same-length-17
-    same-length-18
-    same-length-19
-    same-length-20
+    (λ c. keeps (at-stop (c .before)) .work)
+    (λ c. keeps (at-stop (c .before)) .blocks)
+    (λ c. keeps (at-stop (c .before)) .rootLinks)
+    (λ c. keeps (at-stop (c .before)) .rootValues)
+    (λ c. keeps (at-stop (c .before)) .upperLinks)
+    (λ c. keeps (at-stop (c .before)) .upperValues)
+    (λ c. keeps (at-stop (c .before)) .lowerLinks)
+    (λ c. keeps (at-stop (c .before)) .lowerValues)
+    (λ c. keeps (at-stop (c .before)) .leafValues)
     returns-7
-    same-length-21
-    same-length-22
-    same-length-23
-    same-length-24
-    same-length-25
-    same-length-26
-    same-length-27
-    same-length-28
-    same-length-29
+    (λ c. keeps (at-nodes (at-counts (c .before))) .work)
+    (λ c. keeps (at-nodes (at-counts (c .before))) .blocks)
+    (λ c. keeps (at-nodes (at-counts (c .before))) .rootLinks)
+    (λ c. keeps (at-nodes (at-counts (c .before))) .rootValues)
+    (λ c. keeps (at-nodes (at-counts (c .before))) .upperLinks)
+    (λ c. keeps (at-nodes (at-counts (c .before))) .upperValues)
+    (λ c. keeps (at-nodes (at-counts (c .before))) .lowerLinks)
+    (λ c. keeps (at-nodes (at-counts (c .before))) .lowerValues)
+    (λ c. keeps (at-nodes (at-counts (c .before))) .leafValues)
     returns-8)
