@@ -56,13 +56,6 @@ found-on n m table p e c-is f-is =
     (λ i. record { cell = c-is i; figure = (f-is ∙ ap (λ (k : ℕ). getD table k +0) c-is) i })
     ∙ ap (λ (k : ℕ). foundIn k m table p) (sym e)
 
-pub passing-stop : {A : Type 0} (n : ℕ) (r : Result A) → (n ≡ 0 → ⊥) → passing n r ≡ refused n
-passing-stop zero r h = absurd (h refl)
-passing-stop (suc n) r h = refl
-
-pub passing-on : {A : Type 0} (n : ℕ) (r : Result A) → n ≡ 0 → passing n r ≡ r
-passing-on n r e = ap (λ (k : ℕ). passing k r) e
-
 -- a build into a table is refused by a number above 0
 build-number : (g : Grid) (m : Medium) (places n : ℕ) → buildInto g m cells places ≡ refused n → n ≡ 0 → ⊥
 build-number g m places n e z = stopped (sym e ∙ Built.accepted g m cells places (ap numberOf e ∙ z) .into)

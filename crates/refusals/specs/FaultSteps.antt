@@ -8,7 +8,8 @@ use native.Mathlib.Numerals.{add-one}
 use native.Mathlib.Omega.{arith}
 use lib.Dec.{eqb}
 use borrow.Author.Tests.{eq-eqb, ne-eqb}
-use Rattle.refusals.specs.Faults.{_then_, firstFault}
+use Rattle.refusals.specs.Results.{Result, refused}
+use Rattle.refusals.specs.Faults.{_then_, firstFault, passing}
 
 -- after no fault the next one counts
 pub then-next : (a b : ℕ) → a ≡ 0 → (a then b) ≡ b
@@ -25,6 +26,14 @@ then-assoc a b c = go (eqb a 0) refl
     go true e = refl
     go false e = ap (λ (t : Bool). cond t c a) e
 
+-- what follows a fault is the fault, and what follows none goes on
+pub passing-stop : {A : Type 0} (n : ℕ) (r : Result A) → (n ≡ 0 → ⊥) → passing n r ≡ refused n
+passing-stop zero r h = absurd (h refl)
+passing-stop (suc n) r h = refl
+
+pub passing-on : {A : Type 0} (n : ℕ) (r : Result A) → n ≡ 0 → passing n r ≡ r
+passing-on n r e = ap (λ (k : ℕ). passing k r) e
+
 -- ---- the first of a row of faults: none of the places before i has one
 
 pub firstFault-none : (f : ℕ → ℕ) → firstFault 0 f ≡ 0
@@ -40,7 +49,10 @@ pub firstFault-at : (n i : ℕ) (f : ℕ → ℕ) → i < n → firstFault i f �
 unfolding firstFault
 firstFault-at zero i f l e h = absurd (omega arith)
 firstFault-at (suc n) i f l e h =
-    elim (eq-or-lt-of-le (le-of-suc-le-suc l)) [ inl p ↦ ap (λ (k : ℕ). firstFault (suc k) f) (sym p) ∙ then-next (firstFault i f) (f i) e | inr q ↦ (let r = firstFault-at n i f q e h in then-stop (firstFault n f) (f n) (λ z. h (sym r ∙ z)) ∙ r) ]
+    elim (eq-or-lt-of-le (le-of-suc-le-suc l)) [
+      | inl p ↦ ap (λ (k : ℕ). firstFault (suc k) f) (sym p) ∙ then-next (firstFault i f) (f i) e
+      | inr q ↦ (let r = firstFault-at n i f q e h in then-stop (firstFault n f) (f n) (λ z. h (sym r ∙ z)) ∙ r)
+    ]
 
 -- there is no place left
 pub firstFault-end : (n i : ℕ) (f : ℕ → ℕ) → i ≤ n → n ≤ i → firstFault i f ≡ 0 → firstFault n f ≡ 0

@@ -5,13 +5,13 @@ use native.Mathlib.Omega.{arith}
 use lib.Seq.{length-take-le}
 use lib.ListN.{length, replicate}
 use Rattle.refusals.specs.Results.{numberOf, valueOr}
+use Rattle.refusals.specs.FaultSteps.{passing-stop, passing-on}
 use Rattle.float.specs.Zero.{+0}
 use Rattle.medium.specs.Record.{asMedium}
 use Rattle.nanovdb.specs.Lent.{Tables, tables, Used, usedOf}
 use Rattle.decode.specs.Answers.{answer as decoded}
 use Rattle.majorant.specs.Build.{buildInto}
 use Rattle.claim.specs.Claim.{cells}
-use Rattle.claim.proofs.Joined.{passing-stop, passing-on}
 use borrow.Author.Needs.{needs}
 use Rattle.claim.proofs.build_used.Statement.{statement}
 use Rattle.claim.proofs.build_used.Tie as tie

@@ -7,7 +7,7 @@ use native.Mathlib.Omega.{arith}
 use Rattle.refusals.specs.Results.{Result, ok, refused, bind}
 use Rattle.refusals.specs.Faults.{_then_, passing}
 use Rattle.refusals.specs.FaultLaws.{then-zero}
-use Rattle.refusals.specs.FaultSteps.{then-next, then-stop}
+use Rattle.refusals.specs.FaultSteps.{then-next, then-stop, passing-stop, passing-on}
 use Rattle.sparse_grid.specs.Validate.{densityFault}
 use Rattle.nanovdb.specs.Nodes.{Places}
 use Rattle.nanovdb.specs.Tree.{Roots, tree}
@@ -18,13 +18,6 @@ use Rattle.decode.specs.Inner.GridRead.{decodeOf, gridFault}
 -- what a tree gives
 abbrev pub acceptedOf : List ℕ → Roots → Accepted
 acceptedOf b r = record { grid = tablesOf b r; medium = mediumOf b }
-
-passing-stop : {A : Type 0} (n : ℕ) (r : Result A) → (n ≡ 0 → ⊥) → passing n r ≡ refused n
-passing-stop zero r h = absurd (h refl)
-passing-stop (suc n) r h = refl
-
-passing-on : {A : Type 0} (n : ℕ) (r : Result A) → n ≡ 0 → passing n r ≡ r
-passing-on n r e = ap (λ (k : ℕ). passing k r) e
 
 -- a fault that is there is 0 or not
 split : {A : Type 0} (n : ℕ) → (n ≡ 0 → A) → ((n ≡ 0 → ⊥) → A) → A
