@@ -21,7 +21,7 @@ use Rattle.nanovdb.specs.Numbers.{Numbered, numbered, not-zero}
 use Rattle.nanovdb.specs.UsedLaws.{accepts, used-parts, used-room}
 use Rattle.index.specs.Found.{cellAt}
 use Rattle.index.specs.Enclosed.{cell-found, cell-encloses}
-use Rattle.majorant.specs.Boxes.{boxMaximum}
+use Rattle.boxes.specs.Boxes.{boxMaximum}
 use Rattle.majorant.specs.Bounded.{built}
 use Rattle.majorant.specs.Build.{buildInto}
 use Rattle.majorant.specs.Accepted as Built

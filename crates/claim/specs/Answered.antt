@@ -9,7 +9,7 @@ use Rattle.float.specs.Zero.{+0}
 use Rattle.layout.specs.Coordinates.{Coord, Signed32}
 use Rattle.layout.specs.Walk.{walk, voxel}
 use Rattle.nanovdb.specs.Lent.{Lent, Tables}
-use Rattle.majorant.specs.Boxes.{Greatest}
+use Rattle.boxes.specs.Boxes.{Greatest}
 use Rattle.claim.specs.Claim.{Inside, Around, Encloses, cells}
 use Rattle.claim.specs.Load.{load, tablesLeft, figuresLeft, Claimed}
 use Rattle.claim.specs.Ask.{Question, Answer, answer}

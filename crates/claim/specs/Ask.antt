@@ -10,7 +10,7 @@ use Rattle.layout.specs.Walk.{voxel}
 use Rattle.medium.specs.Medium.{Point}
 use Rattle.nanovdb.specs.Decode.{Accepted, mediumOf}
 use Rattle.index.specs.Found.{cellAt}
-use Rattle.majorant.specs.Boxes.{Box, boxMaximum}
+use Rattle.boxes.specs.Boxes.{Box, boxMaximum}
 use Rattle.claim.specs.Claim.{cells}
 use Rattle.claim.specs.Load as Load
 use Rattle.claim.specs.Load.{Loaded, loadAnswer}

@@ -15,7 +15,7 @@ use Rattle.nanovdb.specs.Nodes.{childTarget}
 use Rattle.nanovdb.specs.Tree.{rootOf}
 use Rattle.nanovdb.specs.Decode.{decodeDensity}
 use Rattle.nanovdb.specs.Examples.{places, empty, key-block, target, target-off, bit-62-refused, version-passes, version-refused, offset-63, offset-64}
-use Rattle.majorant.specs.Boxes.{Box}
+use Rattle.boxes.specs.Boxes.{Box}
 use Rattle.majorant.specs.Build.{publicMaximum}
 use Rattle.majorant.specs.BoxExamples.{rootless-grid, minus-two}
 

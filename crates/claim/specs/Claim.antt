@@ -16,7 +16,7 @@ use Rattle.medium.specs.Alike.{Alike}
 use Rattle.nanovdb.specs.Nodes.{Places}
 use Rattle.nanovdb.specs.Decode.{Accepted, decodeDensity, mediumOf}
 use Rattle.nanovdb.specs.Agreement.{ReadsAs}
-use Rattle.majorant.specs.Boxes.{Box, Greatest, boxMaximum}
+use Rattle.boxes.specs.Boxes.{Box, Greatest, boxMaximum}
 use Rattle.index.specs.Cells.{Cells, Between, EnclosesIn, AroundIn}
 use Rattle.majorant.specs.Build.{build, publicMaximum}
 

@@ -24,7 +24,7 @@ use Rattle.nanovdb.specs.Numbers.{Numbered, numbered, not-zero}
 use Rattle.nanovdb.specs.Lookups.{reads}
 use Rattle.nanovdb.specs.UsedLaws.{accepts, used-parts, used-room}
 use Rattle.index.specs.Answers.{indexBits}
-use Rattle.majorant.specs.Boxes.{Box, Greatest, boxMaximum}
+use Rattle.boxes.specs.Boxes.{Box, Greatest, boxMaximum}
 use Rattle.majorant.specs.Build.{publicMaximum, buildInto}
 use Rattle.majorant.specs.Accepted as Built
 use Rattle.claim.specs.Claim.{Inside, Bounds, Holds, cells}

@@ -20,7 +20,7 @@ use Rattle.nanovdb.specs.Lent.{Lent, Answer, Tables, decodeInto, answerOf, left
 use Rattle.nanovdb.specs.Agreement.{ReadsAs}
 use Rattle.index.specs.Index.{worldToIndex}
 use Rattle.index.specs.Answers.{indexBits}
-use Rattle.majorant.specs.Boxes.{Box, Greatest, boxMaximum}
+use Rattle.boxes.specs.Boxes.{Box, Greatest, boxMaximum}
 use Rattle.majorant.specs.Build.{publicMaximum, buildInto}
 use Rattle.claim.specs.Claim.{Inside, Bounds, cells}
 

@@ -13,7 +13,7 @@ use Rattle.sparse_grid.specs.Answers.{valueOnly}
 use Rattle.medium.specs.Medium.{Medium, Point}
 use Rattle.nanovdb.specs.Lent as Lent
 use Rattle.index.specs.Found.{cellAt}
-use Rattle.majorant.specs.Boxes.{Box}
+use Rattle.boxes.specs.Boxes.{Box}
 use Rattle.majorant.specs.Build.{publicMaximum, buildInto}
 use Rattle.claim.specs.Claim.{cells}
 use Rattle.claim.specs.Ask.{Question}

@@ -27,8 +27,8 @@ use Rattle.index.specs.Cells.{corner, Cells, cellAxis, cellCorner, Between, Aro
 use Rattle.index.specs.Index.{worldToIndex}
 use Rattle.majorant.specs.Build.{build, publicMaximum}
 use Rattle.index.specs.Enclosed.{Fitting, Numbered, enclosed}
-use Rattle.majorant.specs.Boxes.{Box, Greatest, boxMaximum}
-use Rattle.majorant.specs.Maximum.{greatest, max-same}
+use Rattle.boxes.specs.Boxes.{Box, Greatest, boxMaximum}
+use Rattle.boxes.specs.Maximum.{greatest, max-same}
 use Rattle.majorant.specs.Bounded.{bounded, built}
 use Rattle.claim.specs.Claim.{Inside, cells, Bounds, Holds}
 use Rattle.refusals.specs.Results.{ok}

@@ -26,9 +26,13 @@ fields-value : (f : Format) (s : Bool) (x t : ℕ) → x < ones f → HasValue (
 unfolding ofFields
 fields-value f s zero t h = odd-sign (prec f) s t 0 (low f)
 fields-value f s (suc x) t h =
-    subst (λ (b : Bool). HasValue (cond (eqb (suc x) (ones f)) (cond (eqb t 0) (inf s) nan) (odd (prec f) s (hid f + t) x (low f))) s (cond b t (hid f + t) * 2 ^ (suc x - 1)) (2 ^ low f)) (sym (eqb·suc-zero x))
-    (subst (λ (y : ℕ). HasValue (cond (eqb (suc x) (ones f)) (cond (eqb t 0) (inf s) nan) (odd (prec f) s (hid f + t) x (low f))) s ((hid f + t) * 2 ^ y) (2 ^ low f)) (sym (pred x))
-    (subst (λ (v : Float). HasValue v s ((hid f + t) * 2 ^ x) (2 ^ low f)) (sym (cond-no (eqb (suc x) (ones f)) (cond (eqb t 0) (inf s) nan) (odd (prec f) s (hid f + t) x (low f)) (neq (suc x) (ones f) h))) (odd-sign (prec f) s (hid f + t) x (low f))))
+    subst (λ (b : Bool). HasValue (cond (eqb (suc x) (ones f)) (cond (eqb t 0) (inf s) nan) (odd (prec f) s (hid f + t) x (low f))) s
+    (cond b t (hid f + t) * 2 ^ (suc x - 1)) (2 ^ low f)) (sym (eqb·suc-zero x))
+    (subst (λ (y : ℕ). HasValue (cond (eqb (suc x) (ones f)) (cond (eqb t 0) (inf s) nan) (odd (prec f) s (hid f + t) x (low f))) s
+    ((hid f + t) * 2 ^ y) (2 ^ low f)) (sym (pred x))
+    (subst (λ (v : Float). HasValue v s ((hid f + t) * 2 ^ x) (2 ^ low f))
+    (sym (cond-no (eqb (suc x) (ones f)) (cond (eqb t 0) (inf s) nan) (odd (prec f) s (hid f + t) x (low f)) (neq (suc x) (ones f) h)))
+    (odd-sign (prec f) s (hid f + t) x (low f))))
   where
     pred : (x : ℕ) → suc x - 1 ≡ x
     pred x = omega arith
@@ -44,7 +48,9 @@ fields-top f s zero t e = absurd (never (emax f) e)
   where
     never : (e : ℕ) → 0 ≡ 2 * e + 1 → ⊥
     never e h = omega arith
-fields-top f s (suc x) t e = cond-yes (cond (eqb t 0) (inf s) nan) (odd (prec f) s (hid f + t) x (low f)) (eqb (suc x) (ones f)) (subst (λ (y : ℕ). T (eqb (suc x) y)) e (eqb-refl (suc x)))
+fields-top f s (suc x) t e =
+    cond-yes (cond (eqb t 0) (inf s) nan) (odd (prec f) s (hid f + t) x (low f)) (eqb (suc x) (ones f))
+    (subst (λ (y : ℕ). T (eqb (suc x) y)) e (eqb-refl (suc x)))
   where
     cond-yes : (x y : Float) (b : Bool) → T b → cond b x y ≡ x
     cond-yes x y true t = refl
@@ -54,7 +60,8 @@ pub bits-top : (f : Format) (b : ℕ) → fieldOf f b ≡ ones f → ofBits f b 
 unfolding ofBits
 bits-top f b h = fields-top f (leb (top f) b) (fieldOf f b) (b % hid f) h
 
-round-of-value : (f : Format) (t : Bool) (m up-e down-e : ℕ) (s : Bool) (a c : ℕ) → 0 < c → 0 < down-e → t ≡ s → m * up-e * c ≡ a * down-e → round f t (m * up-e) down-e ≡ round f s a c
+round-of-value : (f : Format) (t : Bool) (m up-e down-e : ℕ) (s : Bool) (a c : ℕ) → 0 < c → 0 < down-e → t ≡ s → m * up-e * c ≡ a * down-e
+    → round f t (m * up-e) down-e ≡ round f s a c
 round-of-value f t m u d s a c C D e h = ap (λ (b : Bool). round f b (m * u) d) e ∙ round-same f s (m * u) d a c D C h
 
 pub narrow-at : (x : Float) (s : Bool) (a c : ℕ) → 0 < c → HasValue x s a c → narrow x ≡ round binary32 s a c
@@ -106,7 +113,9 @@ product-lt a b h k = lt-of-le-of-lt (mul-le-mul-left a (le-of-lt k)) (mul-lt-mul
 -- the exponent's field tells whether the value is finite
 pub finite-test : (b : ℕ) → ltb (fieldOf binary32 b) 255 ≡ finite (ofBits binary32 b)
 finite-test b = elim (decide (fieldOf binary32 b) 255) [
-  | inl l ↦ lt-ltb (fieldOf binary32 b) 255 l ∙ sym (value-finite (ofBits binary32 b) (leb (top binary32) b) (digitsOf binary32 b * 2 ^ placeOf binary32 b) (2 ^ low binary32) (bits-value binary32 b l))
+  | inl l ↦ lt-ltb (fieldOf binary32 b) 255 l
+      ∙ sym (value-finite (ofBits binary32 b) (leb (top binary32) b) (digitsOf binary32 b * 2 ^ placeOf binary32 b) (2 ^ low binary32)
+      (bits-value binary32 b l))
   | inr l ↦ le-ltb (fieldOf binary32 b) 255 l ∙ sym (ap finite (bits-top binary32 b (only b l)) ∙ never (eqb (b % hid binary32) 0) (leb (top binary32) b))
 ]
   where

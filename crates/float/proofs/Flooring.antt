@@ -1,7 +1,8 @@
 -- `floor` by `trunc`: one less where `trunc` went up.
 use mathlib.Core.Path.{_≡_, refl, sym, ap, _∙_, subst}
 use Prim.Native.Nat.{ℕ, suc, _+_, _-_, _*_, _/_, _%_, _≤_, _<_}
-use native.Mathlib.Nat.{le-trans, le-of-eq, mul-one, one-mul, mul-right-comm, lt-of-mul-lt-mul-right, le-of-mul-le-mul-right, mul-pos, mul-le-mul-right, not-le-of-lt, div-mul-le-self, div-add-mod', mod-lt, suc-mul, zero-lt-suc}
+use native.Mathlib.Nat.{le-trans, le-of-eq, mul-one, one-mul, mul-right-comm, lt-of-mul-lt-mul-right, le-of-mul-le-mul-right, mul-pos}
+use native.Mathlib.Nat.{mul-le-mul-right, not-le-of-lt, div-mul-le-self, div-add-mod', mod-lt, suc-mul, zero-lt-suc}
 use native.Mathlib.Omega.{arith}
 use mathlib.Core.Bool.{true, false, false≢true, true≢false}
 use lib.IntN.{ℤ, pos}
@@ -45,10 +46,12 @@ flat-then n a c C e l =
 
 -- what the test says of -(a / c) and a t that is -n
 says-up : (n a c X d : ℕ) → 0 < c → 0 < d → X * 1 ≡ n * d → ltb (X * c) (a * d) ≡ true → n * c < a
-says-up n a c X d C D v h = lt-of-mul-lt-mul-right d (subst (λ (x : ℕ). x < a * d) (ap (λ (x : ℕ). x * c) (sym (mul-one X) ∙ v) ∙ mul-right-comm n d c) (ltb-true (X * c) (a * d) h))
+says-up n a c X d C D v h =
+    lt-of-mul-lt-mul-right d (subst (λ (x : ℕ). x < a * d) (ap (λ (x : ℕ). x * c) (sym (mul-one X) ∙ v) ∙ mul-right-comm n d c) (ltb-true (X * c) (a * d) h))
 
 says-flat : (n a c X d : ℕ) → 0 < c → 0 < d → X * 1 ≡ n * d → ltb (X * c) (a * d) ≡ false → a ≤ n * c
-says-flat n a c X d C D v h = le-of-mul-le-mul-right (le-trans (ltb-false (X * c) (a * d) h) (le-of-eq (ap (λ (x : ℕ). x * c) (sym (mul-one X) ∙ v) ∙ mul-right-comm n d c))) D
+says-flat n a c X d C D v h =
+    le-of-mul-le-mul-right (le-trans (ltb-false (X * c) (a * d) h) (le-of-eq (ap (λ (x : ℕ). x * c) (sym (mul-one X) ∙ v) ∙ mul-right-comm n d c))) D
 
 -- t - 1
 less-one : (f : Format) (t : Float) (n : ℕ) → HasValue t true n 1 → sub f t (fin false 1 (pos 0)) ≡ round f true (suc n) 1
@@ -56,21 +59,29 @@ unfolding sub add neg
 less-one f (fin true k g) n v =
     sum-alike f true true (k * up g * 1) (1 * 1 * down g) (down g * 1) refl
     ∙ round-same f true (k * up g * 1 + 1 * 1 * down g) (down g * 1) (suc n) 1 (mul-pos (down-pos g) (zero-lt-suc 0)) (zero-lt-suc 0)
-    (mul-one (k * up g * 1 + 1 * 1 * down g) ∙ ap (λ (x : ℕ). x + 1 * 1 * down g) (v .1) ∙ ap (λ (x : ℕ). n * down g + x) (one-mul (down g)) ∙ sym (suc-mul n (down g)) ∙ ap (λ (x : ℕ). suc n * x) (sym (mul-one (down g))))
+    (mul-one (k * up g * 1 + 1 * 1 * down g) ∙ ap (λ (x : ℕ). x + 1 * 1 * down g) (v .1) ∙ ap (λ (x : ℕ). n * down g + x) (one-mul (down g))
+    ∙ sym (suc-mul n (down g)) ∙ ap (λ (x : ℕ). suc n * x) (sym (mul-one (down g))))
 less-one f (fin false k g) n v = absurd (false≢true (v .0))
 less-one f (inf s) n v = absurd v
 less-one f nan n v = absurd v
 
-negative-up : (f : Format) (m : ℕ) (e : ℤ) (t : Float) (n : ℕ) → m * up e / down e ≡ n → HasValue t true n 1 → lt (fin true m e) t ≡ true → sub f t (fin false 1 (pos 0)) ≡ round f true ((m * up e + (down e - 1)) / down e) 1
+negative-up : (f : Format) (m : ℕ) (e : ℤ) (t : Float) (n : ℕ) → m * up e / down e ≡ n → HasValue t true n 1 → lt (fin true m e) t ≡ true
+    → sub f t (fin false 1 (pos 0)) ≡ round f true ((m * up e + (down e - 1)) / down e) 1
 unfolding lt
-negative-up f m e (fin true k g) n q v h = less-one f (fin true k g) n v ∙ ap (λ (x : ℕ). round f true x 1) (sym (up-then n (m * up e) (down e) (down-pos e) q (says-up n (m * up e) (down e) (k * up g) (down g) (down-pos e) (down-pos g) (v .1) h)))
+negative-up f m e (fin true k g) n q v h =
+    less-one f (fin true k g) n v
+    ∙ ap (λ (x : ℕ). round f true x 1)
+    (sym (up-then n (m * up e) (down e) (down-pos e) q (says-up n (m * up e) (down e) (k * up g) (down g) (down-pos e) (down-pos g) (v .1) h)))
 negative-up f m e (fin false k g) n q v h = absurd (false≢true (v .0))
 negative-up f m e (inf s) n q v h = absurd v
 negative-up f m e nan n q v h = absurd v
 
-negative-flat : (f : Format) (m : ℕ) (e : ℤ) (t : Float) (n : ℕ) → m * up e / down e ≡ n → HasValue t true n 1 → lt (fin true m e) t ≡ false → round f true n 1 ≡ round f true ((m * up e + (down e - 1)) / down e) 1
+negative-flat : (f : Format) (m : ℕ) (e : ℤ) (t : Float) (n : ℕ) → m * up e / down e ≡ n → HasValue t true n 1 → lt (fin true m e) t ≡ false
+    → round f true n 1 ≡ round f true ((m * up e + (down e - 1)) / down e) 1
 unfolding lt
-negative-flat f m e (fin true k g) n q v h = ap (λ (x : ℕ). round f true x 1) (sym (flat-then n (m * up e) (down e) (down-pos e) q (says-flat n (m * up e) (down e) (k * up g) (down g) (down-pos e) (down-pos g) (v .1) h)))
+negative-flat f m e (fin true k g) n q v h =
+    ap (λ (x : ℕ). round f true x 1)
+    (sym (flat-then n (m * up e) (down e) (down-pos e) q (says-flat n (m * up e) (down e) (k * up g) (down g) (down-pos e) (down-pos g) (v .1) h)))
 negative-flat f m e (fin false k g) n q v h = absurd (false≢true (v .0))
 negative-flat f m e (inf s) n q v h = absurd v
 negative-flat f m e nan n q v h = absurd v
@@ -79,7 +90,8 @@ positive-never : (m : ℕ) (e : ℤ) (t : Float) (n : ℕ) → m * up e / down e
 unfolding lt
 positive-never m e (fin false k g) n q v h =
     not-le-of-lt (ltb-true (m * up e * down g) (k * up g * down e) h)
-    (le-trans (le-of-eq (ap (λ (x : ℕ). x * down e) (sym (mul-one (k * up g)) ∙ v .1) ∙ mul-right-comm n (down g) (down e))) (mul-le-mul-right (down g) (le-trans (le-of-eq (ap (λ (x : ℕ). x * down e) (sym q))) (div-mul-le-self (m * up e) (down e)))))
+    (le-trans (le-of-eq (ap (λ (x : ℕ). x * down e) (sym (mul-one (k * up g)) ∙ v .1) ∙ mul-right-comm n (down g) (down e)))
+    (mul-le-mul-right (down g) (le-trans (le-of-eq (ap (λ (x : ℕ). x * down e) (sym q))) (div-mul-le-self (m * up e) (down e)))))
 positive-never m e (fin true k g) n q v h = absurd (true≢false (v .0))
 positive-never m e (inf s) n q v h = absurd v
 positive-never m e nan n q v h = absurd v

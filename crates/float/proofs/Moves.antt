@@ -2,12 +2,13 @@
 use mathlib.Core.Path.{_≡_, sym, ap, _∙_, subst}
 use mathlib.Core.Logic.{_⊎_, inl, inr}
 use Prim.Native.Nat.{ℕ, suc, _+_, _-_, _*_, _/_, _%_, _^_, _≤_, _<_}
-use native.Mathlib.Nat.{le-trans, lt-of-lt-of-le, lt-of-le-of-lt, le-add-right, mul-assoc, mul-lt-mul-of-pos-right, mul-le-mul-right, div-add-mod', div-le-self, add-zero, mul-mod-left, mod-eq-of-lt, add-mul, div-eq-of-lt, lt-of-not-le, not-le-of-lt}
+use native.Mathlib.Nat.{le-trans, lt-of-lt-of-le, lt-of-le-of-lt, le-add-right, mul-assoc, mul-lt-mul-of-pos-right, mul-le-mul-right, div-add-mod'}
+use native.Mathlib.Nat.{div-le-self, add-zero, mul-mod-left, mod-eq-of-lt, add-mul, div-eq-of-lt, lt-of-not-le, not-le-of-lt}
 use native.Mathlib.Omega.{arith}
 use mathlib.Core.Bool.{Bool, cond}
 use lib.Dec.{T, eqb, eqb→eq, lit≤, lit<}
 use lib.Pow.{pow-add, pow-pos, pow-mono, shr-lt, mod-mod-pow, shl-lt}
-use lib.Ieee.{Format, binary32, prec, size, round}
+use lib.Ieee.{Format, binary32, prec, size, round, sum}
 use lib.Ieee.Digits.{size-lt, size-reaches}
 use borrow.Author.Tests.{eq-eqb, ne-eqb}
 use Rattle.float.specs.Shifts.{sticky, Raised}
@@ -20,7 +21,8 @@ sticky-any : (f : Format) (s : Bool) (W e X c : ℕ) → 2 ^ suc (prec f) ≤ W 
 sticky-any f s W e X c h j =
     let z = size W in
     let big : suc (prec f) < z = lt-of-not-le (λ (g : z ≤ suc (prec f)). not-le-of-lt (lt-of-lt-of-le (size-lt W) (pow-mono g)) h) in
-    sticky-round f s W (z - 1) e X c (size-reaches W (z - 1) (below z (prec f) big)) (subst (λ (x : ℕ). W < 2 ^ x) (sym (back z (prec f) big)) (size-lt W)) (more z (prec f) big) j
+    sticky-round f s W (z - 1) e X c (size-reaches W (z - 1) (below z (prec f) big))
+    (subst (λ (x : ℕ). W < 2 ^ x) (sym (back z (prec f) big)) (size-lt W)) (more z (prec f) big) j
   where
     below : (z p : ℕ) → suc p < z → z - 1 < z
     below z p h = omega arith
@@ -63,14 +65,23 @@ moved b d e L h = elim (yes-or-no (eqb (b % 2 ^ d) 0)) [
       let J : sticky b (2 ^ d) ≡ b / 2 ^ d = ap (λ (x : Bool). cond x (b / 2 ^ d) (b / 2 ^ d - b / 2 ^ d % 2 + 1)) (eq-eqb (b % 2 ^ d) 0 z) in
       let whole : b / 2 ^ d * 2 ^ d ≡ b = sym (add-zero (b / 2 ^ d * 2 ^ d)) ∙ ap (λ (x : ℕ). b / 2 ^ d * 2 ^ d + x) (sym z) ∙ div-add-mod' b (2 ^ d) in
       subst (λ (x : ℕ). Moved x b d e) (sym J)
-      (inl (ap (λ (x : ℕ). x * 2 ^ (e - d)) (sym whole) ∙ mul-assoc (b / 2 ^ d) (2 ^ d) (2 ^ (e - d)) ∙ ap (λ (x : ℕ). b / 2 ^ d * x) (split-pow d e h), div-le-self b (2 ^ d)))
+      (inl (
+        ap (λ (x : ℕ). x * 2 ^ (e - d)) (sym whole) ∙ mul-assoc (b / 2 ^ d) (2 ^ d) (2 ^ (e - d))
+            ∙ ap (λ (x : ℕ). b / 2 ^ d * x) (split-pow d e h),
+        div-le-self b (2 ^ d),
+      ))
   | inr t ↦
       let n : b % 2 ^ d ≡ 0 → ⊥ = λ z. lib.Dec.T-not (eqb (b % 2 ^ d) 0) t (subst (λ (x : ℕ). T (eqb x 0)) (sym z) tt) in
-      let J : sticky b (2 ^ d) ≡ b / 2 ^ d - b / 2 ^ d % 2 + 1 = ap (λ (x : Bool). cond x (b / 2 ^ d) (b / 2 ^ d - b / 2 ^ d % 2 + 1)) (ne-eqb (b % 2 ^ d) 0 n) in
+      let J : sticky b (2 ^ d) ≡ b / 2 ^ d - b / 2 ^ d % 2 + 1 =
+      ap (λ (x : Bool). cond x (b / 2 ^ d) (b / 2 ^ d - b / 2 ^ d % 2 + 1)) (ne-eqb (b % 2 ^ d) 0 n) in
       let d15 : 15 ≤ d = lt-of-not-le (λ (g : d ≤ 14). n (no-loss b d (L .even) g)) in
       let q : b / 2 ^ d < 2 ^ 47 = shr-lt 47 d (lt-of-lt-of-le (L .hi) (pow-mono (room d d15))) in
       subst (λ (x : ℕ). Moved x b d e) (sym J)
-      (inr (subst (λ (x : ℕ). Between (b / 2 ^ d - b / 2 ^ d % 2 + 1) (b * 2 ^ (e - d)) x) (split-pow d e h) (between-scale (b / 2 ^ d - b / 2 ^ d % 2 + 1) b (2 ^ d) (2 ^ (e - d)) (pow-pos (e - d)) (sticky-cut b (2 ^ d) (pow-pos d) n)), small (b / 2 ^ d) q))
+      (inr (
+        subst (λ (x : ℕ). Between (b / 2 ^ d - b / 2 ^ d % 2 + 1) (b * 2 ^ (e - d)) x) (split-pow d e h)
+            (between-scale (b / 2 ^ d - b / 2 ^ d % 2 + 1) b (2 ^ d) (2 ^ (e - d)) (pow-pos (e - d)) (sticky-cut b (2 ^ d) (pow-pos d) n)),
+        small (b / 2 ^ d) q,
+      ))
 ]
   where
     room : (d : ℕ) → 15 ≤ d → 62 ≤ 47 + d
@@ -87,14 +98,20 @@ even : (a : ℕ) → Raised a → a % 2 ≡ 0
 even a L = no-loss a 1 (L .even) (lit≤ tt)
 
 -- the signs alike
-pub added : (s : Bool) (a j b d e : ℕ) → Raised a → Moved j b d e → round binary32 s (a * 2 ^ e + b * 2 ^ (e - d)) (2 ^ 1200) ≡ round binary32 s ((a + j) * 2 ^ e) (2 ^ 1200)
+pub added : (s : Bool) (a j b d e : ℕ) → Raised a → Moved j b d e
+    → round binary32 s (a * 2 ^ e + b * 2 ^ (e - d)) (2 ^ 1200) ≡ round binary32 s ((a + j) * 2 ^ e) (2 ^ 1200)
 added s a j b d e L (inl m) = ap (λ (x : ℕ). round binary32 s x (2 ^ 1200)) (ap (λ (x : ℕ). a * 2 ^ e + x) (m .0) ∙ sym (add-mul a j (2 ^ e)))
-added s a j b d e L (inr m) = sticky-any binary32 s (a + j) e (a * 2 ^ e + b * 2 ^ (e - d)) 1200 (le-trans (le-trans (lit≤ {m = 2 ^ 25} {n = 2 ^ 61} tt) (L .lo)) (le-add-right a j)) (sticky-add a j (b * 2 ^ (e - d)) (2 ^ e) (even a L) (inr (m .0)))
+added s a j b d e L (inr m) =
+    sticky-any binary32 s (a + j) e (a * 2 ^ e + b * 2 ^ (e - d)) 1200
+    (le-trans (le-trans (lit≤ {m = 2 ^ 25} {n = 2 ^ 61} tt) (L .lo)) (le-add-right a j)) (sticky-add a j (b * 2 ^ (e - d)) (2 ^ e) (even a L) (inr (m .0)))
 
 -- the larger less the smaller
-pub taken : (s : Bool) (a j b d e : ℕ) → Raised a → j < a → Moved j b d e → round binary32 s (a * 2 ^ e - b * 2 ^ (e - d)) (2 ^ 1200) ≡ round binary32 s ((a - j) * 2 ^ e) (2 ^ 1200)
+pub taken : (s : Bool) (a j b d e : ℕ) → Raised a → j < a → Moved j b d e
+    → round binary32 s (a * 2 ^ e - b * 2 ^ (e - d)) (2 ^ 1200) ≡ round binary32 s ((a - j) * 2 ^ e) (2 ^ 1200)
 taken s a j b d e L l (inl m) = ap (λ (x : ℕ). round binary32 s x (2 ^ 1200)) (ap (λ (x : ℕ). a * 2 ^ e - x) (m .0) ∙ sub-mul a j (2 ^ e))
-taken s a j b d e L l (inr m) = sticky-any binary32 s (a - j) e (a * 2 ^ e - b * 2 ^ (e - d)) 1200 (big a j (L .lo) (m .1)) (sticky-sub a j (b * 2 ^ (e - d)) (2 ^ e) (even a L) l (inr (m .0)))
+taken s a j b d e L l (inr m) =
+    sticky-any binary32 s (a - j) e (a * 2 ^ e - b * 2 ^ (e - d)) 1200 (big a j (L .lo) (m .1))
+    (sticky-sub a j (b * 2 ^ (e - d)) (2 ^ e) (even a L) l (inr (m .0)))
   where
     big : (a j : ℕ) → 2 ^ 61 ≤ a → j ≤ 2 ^ 47 → 2 ^ 25 ≤ a - j
     big a j h k = omega arith
@@ -118,7 +135,8 @@ moved-exact a j b d e L l (inr m) = absurd (clash a j (L .lo) l (m .1))
 -- ---- what `shift_sticky` computes where all of b is shifted out
 pub sticky-all : (b d : ℕ) → 0 < b → b < 2 ^ d → 1 ≡ sticky b (2 ^ d)
 sticky-all b d p h =
-    sym (ap (λ (x : Bool). cond x (b / 2 ^ d) (b / 2 ^ d - b / 2 ^ d % 2 + 1)) (ne-eqb (b % 2 ^ d) 0 (λ z. no b p (sym (mod-eq-of-lt h) ∙ z))) ∙ ap (λ (x : ℕ). x - x % 2 + 1) (div-eq-of-lt h))
+    sym (ap (λ (x : Bool). cond x (b / 2 ^ d) (b / 2 ^ d - b / 2 ^ d % 2 + 1)) (ne-eqb (b % 2 ^ d) 0 (λ z. no b p (sym (mod-eq-of-lt h) ∙ z)))
+    ∙ ap (λ (x : ℕ). x - x % 2 + 1) (div-eq-of-lt h))
   where
     no : (b : ℕ) → 0 < b → b ≡ 0 → ⊥
     no b h e = omega arith
@@ -130,7 +148,9 @@ raised-of p y h lo hi =
     record {
       lo = lo;
       hi = hi;
-      even = ap (λ (x : ℕ). p * 2 ^ x % 2 ^ 14) (sym (join y l)) ∙ ap (λ (x : ℕ). p * x % 2 ^ 14) (pow-add 2 (y - 14) 14) ∙ ap (λ (x : ℕ). x % 2 ^ 14) (sym (mul-assoc p (2 ^ (y - 14)) (2 ^ 14))) ∙ mul-mod-left (p * 2 ^ (y - 14)) (2 ^ 14);
+      even =
+          ap (λ (x : ℕ). p * 2 ^ x % 2 ^ 14) (sym (join y l)) ∙ ap (λ (x : ℕ). p * x % 2 ^ 14) (pow-add 2 (y - 14) 14)
+          ∙ ap (λ (x : ℕ). x % 2 ^ 14) (sym (mul-assoc p (2 ^ (y - 14)) (2 ^ 14))) ∙ mul-mod-left (p * 2 ^ (y - 14)) (2 ^ 14);
     }
   where
     join : (y : ℕ) → 61 < 48 + y → y - 14 + 14 ≡ y
@@ -142,3 +162,11 @@ shifted-back p y f h = mul-assoc p (2 ^ y) (2 ^ (f - y)) ∙ ap (λ (x : ℕ). p
 
 pub sticky-lt : (b d e j : ℕ) → Raised b → d ≤ e → j ≡ sticky b (2 ^ d) → j < 2 ^ 62
 sticky-lt b d e j L h q = subst (λ (x : ℕ). x < 2 ^ 62) (sym q) (moved-le (sticky b (2 ^ d)) b d e L (moved b d e L h))
+
+-- two numbers that were shifted up and aligned, in units of 2^-1200
+pub aligned : (s t : Bool) {a b : ℕ} (p m f g y z : ℕ) → a ≡ p * 2 ^ y → b ≡ m * 2 ^ z → y ≤ f → z ≤ g → g - z ≤ f - y
+    → sum binary32 s (a * 2 ^ (f - y)) t (b * 2 ^ (f - y - (f - y - (g - z)))) (2 ^ 1200) ≡ sum binary32 s (p * 2 ^ f) t (m * 2 ^ g) (2 ^ 1200)
+aligned s t p m f g y z e h i j k =
+    let n : f - y - (f - y - (g - z)) ≡ g - z = omega arith in
+    (λ r. sum binary32 s (e r * 2 ^ (f - y)) t (h r * 2 ^ n r) (2 ^ 1200))
+    ∙ (λ r. sum binary32 s (shifted-back p y f i r) t (shifted-back m z g j r) (2 ^ 1200))

@@ -58,11 +58,14 @@ pub closest-gt : (a b : ℕ) → b < a % b * 2 → closest a b ≡ a / b + 1
 closest-gt a b h = ap (nearest (a / b)) (cmp-gt (a % b * 2) b h) ∙ sym (add-one (a / b))
 
 pub closest-digits : (q m r : ℕ) → r < m → closest (q * m + r) m ≡ nearest q (compare (r * 2) m)
-closest-digits q m r h = ap (λ (x : ℕ). nearest x (compare ((q * m + r) % m * 2) m)) (digits-div q h) ∙ ap (λ (x : ℕ). nearest q (compare (x * 2) m)) (digits-mod q h)
+closest-digits q m r h =
+    ap (λ (x : ℕ). nearest x (compare ((q * m + r) % m * 2) m)) (digits-div q h) ∙ ap (λ (x : ℕ). nearest q (compare (x * 2) m)) (digits-mod q h)
 
 -- less than half of the divisor
 pub closest-none : (w d : ℕ) → w * 2 < d → closest w d ≡ 0
-closest-none w d h = ap (λ (x : ℕ). closest x d) (sym (zero-add w) ∙ ap (λ (x : ℕ). x + w) (sym (zero-mul d))) ∙ closest-digits 0 d w (half w d h) ∙ ap (nearest 0) (cmp-lt (w * 2) d h)
+closest-none w d h =
+    ap (λ (x : ℕ). closest x d) (sym (zero-add w) ∙ ap (λ (x : ℕ). x + w) (sym (zero-mul d))) ∙ closest-digits 0 d w (half w d h)
+    ∙ ap (nearest 0) (cmp-lt (w * 2) d h)
   where
     half : (w d : ℕ) → w * 2 < d → w < d
     half w d h = omega arith
@@ -86,7 +89,8 @@ normal B d a e p h =
       under B d z j e (t .1) jB,
       (
         small B d z j e (t .1) jB,
-        subst (λ (x : ℕ). 2 ^ x ≤ a * 2 ^ (z - d)) (sum B d z j e (t .1) jB) (le-trans (le-of-eq (pow-add 2 j (z - d))) (mul-le-mul-right (2 ^ (z - d)) (t .2))),
+        subst (λ (x : ℕ). 2 ^ x ≤ a * 2 ^ (z - d)) (sum B d z j e (t .1) jB)
+            (le-trans (le-of-eq (pow-add 2 j (z - d))) (mul-le-mul-right (2 ^ (z - d)) (t .2))),
         subst (λ (x : ℕ). a * 2 ^ (z - d) < 2 ^ x) (sum-suc B d z j e (t .1) jB) (shl-lt (suc j) (z - d) (t .3)),
       ),
     )

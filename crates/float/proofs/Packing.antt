@@ -2,7 +2,9 @@
 use mathlib.Core.Path.{_≡_, refl, sym, ap, _∙_, subst}
 use mathlib.Core.Logic.{inl, inr}
 use Prim.Native.Nat.{ℕ, suc, _+_, _-_, _*_, _/_, _%_, _^_, _≤_, _<_, min, compare}
-use native.Mathlib.Nat.{le-refl, le-trans, le-of-eq, le-antisymm, lt-of-lt-of-le, lt-of-le-of-lt, lt-of-not-le, not-le-of-lt, le-of-suc-le-suc, lt-irrefl, eq-or-lt-of-le, eq-zero-or-pos, mul-assoc, mul-one, one-mul, mul-le-mul-right, mul-pos, mul-div-cancel, div-one, add-assoc, pow-succ', le-div-iff-mul-le, div-lt-iff-lt-mul, div-div-eq-div-mul, add-mul, le-of-mul-le-mul-right, suc-mul}
+use native.Mathlib.Nat.{le-refl, le-trans, le-of-eq, le-antisymm, lt-of-lt-of-le, lt-of-le-of-lt, lt-of-not-le, not-le-of-lt, le-of-suc-le-suc}
+use native.Mathlib.Nat.{lt-irrefl, eq-or-lt-of-le, eq-zero-or-pos, mul-assoc, mul-one, one-mul, mul-le-mul-right, mul-pos, mul-div-cancel, div-one}
+use native.Mathlib.Nat.{add-assoc, pow-succ', le-div-iff-mul-le, div-lt-iff-lt-mul, div-div-eq-div-mul, add-mul, le-of-mul-le-mul-right, suc-mul}
 use native.Mathlib.Omega.{arith}
 use mathlib.Core.Bool.{Bool, true, false, not, cond}
 use lib.Dec.{T, ltb, ltb→lt, nltb→le}
@@ -43,7 +45,9 @@ pub size-div : (n b c : ℕ) → 2 ^ b ≤ n → n < 2 ^ suc b → size (n / 2 ^
 size-div n b c lo hi = elim (yes-or-no (ltb b c)) [
   | inl t ↦
       let l : b < c = ltb→lt b c t in
-      le-zero (size (n / 2 ^ c)) (size-le (n / 2 ^ c) 0 (div-lt-iff-lt-mul (pow-pos c) .1 (subst (λ (x : ℕ). n < x) (sym (one-mul (2 ^ c))) (lt-of-lt-of-le hi (pow-mono l))))) ∙ sym (none b c l)
+      le-zero (size (n / 2 ^ c))
+      (size-le (n / 2 ^ c) 0 (div-lt-iff-lt-mul (pow-pos c) .1
+      (subst (λ (x : ℕ). n < x) (sym (one-mul (2 ^ c))) (lt-of-lt-of-le hi (pow-mono l))))) ∙ sym (none b c l)
   | inr t ↦
       let l : c ≤ b = nltb→le b c t in
       size-is (n / 2 ^ c) (b - c)
@@ -54,8 +58,11 @@ size-div n b c lo hi = elim (yes-or-no (ltb b c)) [
 
 -- ---- the pattern of `units`
 
-toBits-fin : (f : Format) (s : Bool) (x : Float) (a : ℕ) → HasValue x s a (2 ^ low f) → toBits f x ≡ cond s (top f) 0 + (size a - prec f) * hid f + a / 2 ^ (size a - prec f)
-toBits-fin f s x a h = bits-at f x s a (2 ^ low f) (pow-pos (low f)) h ∙ ap (λ (n : ℕ). cond s (top f) 0 + (size n - prec f) * hid f + n / 2 ^ (size n - prec f)) (mul-div-cancel a (pow-pos (low f)))
+toBits-fin : (f : Format) (s : Bool) (x : Float) (a : ℕ) → HasValue x s a (2 ^ low f)
+    → toBits f x ≡ cond s (top f) 0 + (size a - prec f) * hid f + a / 2 ^ (size a - prec f)
+toBits-fin f s x a h =
+    bits-at f x s a (2 ^ low f) (pow-pos (low f)) h
+    ∙ ap (λ (n : ℕ). cond s (top f) 0 + (size n - prec f) * hid f + n / 2 ^ (size n - prec f)) (mul-div-cancel a (pow-pos (low f)))
 
 toBits-inf : (f : Format) (s : Bool) → toBits f (inf s) ≡ cond s (top f) 0 + ones f * hid f
 unfolding toBits
@@ -68,17 +75,23 @@ pub twice : (p : ℕ) → 0 < p → 2 ^ p ≡ 2 * 2 ^ (p - 1)
 twice p h = ap (λ (x : ℕ). 2 ^ x) (sym (pred-suc p h)) ∙ pow-succ' 2 (p - 1)
 
 -- the number that a finite pattern is, without its sign
-word-is : (p q k : ℕ) → 0 < p → q ≤ 2 ^ p → (0 < k → 2 ^ (p - 1) ≤ q) → (size (q * 2 ^ k) - p) * 2 ^ (p - 1) + q * 2 ^ k / 2 ^ (size (q * 2 ^ k) - p) ≡ k * 2 ^ (p - 1) + q
+word-is : (p q k : ℕ) → 0 < p → q ≤ 2 ^ p → (0 < k → 2 ^ (p - 1) ≤ q)
+    → (size (q * 2 ^ k) - p) * 2 ^ (p - 1) + q * 2 ^ k / 2 ^ (size (q * 2 ^ k) - p) ≡ k * 2 ^ (p - 1) + q
 word-is p q k P top lead = elim (eq-or-lt-of-le top) [
   | inl e ↦
       let n : q * 2 ^ k ≡ 2 ^ (p + k) = ap (λ (x : ℕ). x * 2 ^ k) e ∙ sym (pow-add 2 p k) in
-      let z : size (q * 2 ^ k) - p ≡ suc k = ap (λ (x : ℕ). x - p) (size-is (q * 2 ^ k) (p + k) (le-of-eq (sym n)) (lt-of-le-of-lt (le-of-eq n) (up-one (2 ^ (p + k)) (2 ^ suc (p + k)) (pow-succ' 2 (p + k)) (pow-pos (p + k))))) ∙ over p k in
+      let z : size (q * 2 ^ k) - p ≡ suc k =
+      ap (λ (x : ℕ). x - p) (size-is (q * 2 ^ k) (p + k) (le-of-eq (sym n))
+      (lt-of-le-of-lt (le-of-eq n) (up-one (2 ^ (p + k)) (2 ^ suc (p + k)) (pow-succ' 2 (p + k)) (pow-pos (p + k))))) ∙ over p k in
       ap (λ (x : ℕ). x * 2 ^ (p - 1) + q * 2 ^ k / 2 ^ x) z
-      ∙ ap (λ (x : ℕ). suc k * 2 ^ (p - 1) + x) (ap (λ (x : ℕ). x / 2 ^ suc k) (n ∙ ap (λ (x : ℕ). 2 ^ x) (swap p k P) ∙ pow-add 2 (p - 1) (suc k)) ∙ mul-div-cancel (2 ^ (p - 1)) (pow-pos (suc k)))
+      ∙ ap (λ (x : ℕ). suc k * 2 ^ (p - 1) + x)
+      (ap (λ (x : ℕ). x / 2 ^ suc k) (n ∙ ap (λ (x : ℕ). 2 ^ x) (swap p k P) ∙ pow-add 2 (p - 1) (suc k)) ∙ mul-div-cancel (2 ^ (p - 1)) (pow-pos (suc k)))
       ∙ ring k (2 ^ (p - 1)) q (e ∙ twice p P)
   | inr l ↦ elim (eq-zero-or-pos k) [
     | inl k0 ↦
-        let z : size (q * 2 ^ k) - p ≡ 0 = under (size (q * 2 ^ k)) p (size-le (q * 2 ^ k) p (subst (λ (x : ℕ). q * 2 ^ x < 2 ^ p) (sym k0) (subst (λ (x : ℕ). x < 2 ^ p) (sym (mul-one q)) l))) in
+        let z : size (q * 2 ^ k) - p ≡ 0 =
+        under (size (q * 2 ^ k)) p
+        (size-le (q * 2 ^ k) p (subst (λ (x : ℕ). q * 2 ^ x < 2 ^ p) (sym k0) (subst (λ (x : ℕ). x < 2 ^ p) (sym (mul-one q)) l))) in
         ap (λ (x : ℕ). x * 2 ^ (p - 1) + q * 2 ^ k / 2 ^ x) z
         ∙ ap (λ (x : ℕ). 0 * 2 ^ (p - 1) + x) (div-one (q * 2 ^ k))
         ∙ ap (λ (x : ℕ). 0 * 2 ^ (p - 1) + q * 2 ^ x) k0
@@ -114,7 +127,8 @@ word-is p q k P top lead = elim (eq-or-lt-of-le top) [
     gone p k h = omega arith
 
 -- the pattern of W * 2 ^ y, in units of the format's smallest value, where W's highest digit is the format's leading one, or y is 0
-pub word-of : (f : Format) (x : Float) (s : Bool) (W y : ℕ) → W ≤ 2 ^ prec f → (0 < y → hid f ≤ W) → HasValue x s (W * 2 ^ y) (2 ^ low f) → toBits f x ≡ cond s (top f) 0 + (y * hid f + W)
+pub word-of : (f : Format) (x : Float) (s : Bool) (W y : ℕ) → W ≤ 2 ^ prec f → (0 < y → hid f ≤ W) → HasValue x s (W * 2 ^ y) (2 ^ low f)
+    → toBits f x ≡ cond s (top f) 0 + (y * hid f + W)
 word-of f x s W y h l v =
     toBits-fin f s x (W * 2 ^ y) v
     ∙ add-assoc (cond s (top f) 0) ((size (W * 2 ^ y) - prec f) * hid f) (W * 2 ^ y / 2 ^ (size (W * 2 ^ y) - prec f))
@@ -134,13 +148,16 @@ pow-lt-back : (i p : ℕ) → 2 ^ i < 2 ^ p → i < p
 pow-lt-back i p h = lt-of-not-le (λ (g : p ≤ i). lt-irrefl (2 ^ i) (lt-of-lt-of-le h (pow-mono g)))
 
 pow-le-back : (i p : ℕ) → 2 ^ i ≤ 2 ^ p → i ≤ p
-pow-le-back i p h = le-of-suc-le-suc (lt-of-not-le (λ (g : suc p ≤ i). lt-irrefl (2 ^ p) (lt-of-lt-of-le (lt-of-lt-of-le (double (2 ^ p) (2 ^ suc p) (pow-succ' 2 p) (pow-pos p)) (pow-mono g)) h)))
+pow-le-back i p h =
+    le-of-suc-le-suc (lt-of-not-le
+    (λ (g : suc p ≤ i). lt-irrefl (2 ^ p) (lt-of-lt-of-le (lt-of-lt-of-le (double (2 ^ p) (2 ^ suc p) (pow-succ' 2 p) (pow-pos p)) (pow-mono g)) h)))
   where
     double : (a b : ℕ) → b ≡ 2 * a → 0 < a → a < b
     double a b e h = omega arith
 
 -- below the overflow the word is at most an infinity's
-word-le : (p e q k : ℕ) → 2 ≤ p → p ≤ suc e → q ≤ 2 ^ p → (0 < k → 2 ^ (p - 1) ≤ q) → q * 2 ^ k < 2 ^ (e + p - 2 + suc e) → k * 2 ^ (p - 1) + q ≤ (2 * e + 1) * 2 ^ (p - 1)
+word-le : (p e q k : ℕ) → 2 ≤ p → p ≤ suc e → q ≤ 2 ^ p → (0 < k → 2 ^ (p - 1) ≤ q) → q * 2 ^ k < 2 ^ (e + p - 2 + suc e)
+    → k * 2 ^ (p - 1) + q ≤ (2 * e + 1) * 2 ^ (p - 1)
 word-le p e q k a b c lead l = elim (eq-zero-or-pos k) [
   | inl k0 ↦ room k e (2 ^ (p - 1)) q (subst (λ (x : ℕ). x + 2 ≤ 2 * e + 1) (sym k0) (small e p a b)) qq
   | inr kp ↦ room k e (2 ^ (p - 1)) q (under-top p e q k (2 ^ (p - 1)) (e + p - 2 + suc e) a b (le-refl (e + p - 2 + suc e))
@@ -154,16 +171,20 @@ word-le p e q k a b c lead l = elim (eq-zero-or-pos k) [
     small e p a b = omega arith
 
 -- from the overflow on it is at least that
-word-ge : (p e q k : ℕ) → 2 ≤ p → p ≤ suc e → q ≤ 2 ^ p → (0 < k → 2 ^ (p - 1) ≤ q) → 2 ^ (e + p - 2 + suc e) ≤ q * 2 ^ k → (2 * e + 1) * 2 ^ (p - 1) ≤ k * 2 ^ (p - 1) + q
+word-ge : (p e q k : ℕ) → 2 ≤ p → p ≤ suc e → q ≤ 2 ^ p → (0 < k → 2 ^ (p - 1) ≤ q) → 2 ^ (e + p - 2 + suc e) ≤ q * 2 ^ k
+    → (2 * e + 1) * 2 ^ (p - 1) ≤ k * 2 ^ (p - 1) + q
 word-ge p e q k a b c lead l =
     let h = 2 ^ (p - 1) in
-    let k-ge : e + p - 2 + suc e ≤ p + k = pow-le-back (e + p - 2 + suc e) (p + k) (le-trans l (le-trans (mul-le-mul-right (2 ^ k) c) (le-of-eq (sym (pow-add 2 p k))))) in
+    let k-ge : e + p - 2 + suc e ≤ p + k =
+    pow-le-back (e + p - 2 + suc e) (p + k) (le-trans l (le-trans (mul-le-mul-right (2 ^ k) c) (le-of-eq (sym (pow-add 2 p k))))) in
     elim (eq-or-lt-of-le (k-low e p k a b k-ge)) [
       | inl eq ↦
           let q-ge : 2 ^ p ≤ q = le-of-mul-le-mul-right (le-trans (le-of-eq (sym (pow-add 2 p k) ∙ ap (λ (x : ℕ). 2 ^ x) (join e p k a b eq))) l) (pow-pos k) in
-          le-trans (le-of-eq (ap (λ (x : ℕ). x * h) (two-more e k b a eq) ∙ add-mul k 2 h)) (sum-le (k * h) (2 * h) q (le-trans (le-of-eq (sym (twice p (two-le-pos p a)))) q-ge))
+          le-trans (le-of-eq (ap (λ (x : ℕ). x * h) (two-more e k b a eq) ∙ add-mul k 2 h))
+          (sum-le (k * h) (2 * h) q (le-trans (le-of-eq (sym (twice p (two-le-pos p a)))) q-ge))
       | inr lt ↦
-          le-trans (mul-le-mul-right h (one-more e k lt)) (le-trans (le-of-eq (add-mul k 1 h)) (sum-le (k * h) (1 * h) q (le-trans (le-of-eq (one-mul h)) (lead (above e p k a b lt)))))
+          le-trans (mul-le-mul-right h (one-more e k lt))
+          (le-trans (le-of-eq (add-mul k 1 h)) (sum-le (k * h) (1 * h) q (le-trans (le-of-eq (one-mul h)) (lead (above e p k a b lt)))))
     ]
   where
     k-low : (e p k : ℕ) → 2 ≤ p → p ≤ suc e → e + p - 2 + suc e ≤ p + k → 2 * e - 1 ≤ k
@@ -190,18 +211,23 @@ min-l a b h = omega arith
 min-r : (a b : ℕ) → b ≤ a → b ≡ min a b
 min-r a b h = omega arith
 
-units-bits : (f : Format) (s : Bool) (q k : ℕ) → q ≤ 2 ^ prec f → (0 < k → 2 ^ (prec f - 1) ≤ q) → toBits f (units f s q k) ≡ cond s (top f) 0 + min (k * hid f + q) (ones f * hid f)
+units-bits : (f : Format) (s : Bool) (q k : ℕ) → q ≤ 2 ^ prec f → (0 < k → 2 ^ (prec f - 1) ≤ q)
+    → toBits f (units f s q k) ≡ cond s (top f) 0 + min (k * hid f + q) (ones f * hid f)
 unfolding units
-units-bits f s q k c lead = go (ltb (q * 2 ^ k) (2 ^ (low f + suc (emax f)))) (ltb→lt (q * 2 ^ k) (2 ^ (low f + suc (emax f)))) (nltb→le (q * 2 ^ k) (2 ^ (low f + suc (emax f))))
+units-bits f s q k c lead =
+    go (ltb (q * 2 ^ k) (2 ^ (low f + suc (emax f)))) (ltb→lt (q * 2 ^ k) (2 ^ (low f + suc (emax f)))) (nltb→le (q * 2 ^ k) (2 ^ (low f + suc (emax f))))
   where
     go : (b : Bool) → (T b → q * 2 ^ k < 2 ^ (low f + suc (emax f))) → (T (not b) → 2 ^ (low f + suc (emax f)) ≤ q * 2 ^ k)
         → toBits f (cond b (odd (suc (prec f)) s q k (low f)) (inf s)) ≡ cond s (top f) 0 + min (k * hid f + q) (ones f * hid f)
     go true h g =
         toBits-fin f s (odd (suc (prec f)) s q k (low f)) (q * 2 ^ k) (odd-sign (suc (prec f)) s q k (low f))
         ∙ add-assoc (cond s (top f) 0) ((size (q * 2 ^ k) - prec f) * hid f) (q * 2 ^ k / 2 ^ (size (q * 2 ^ k) - prec f))
-        ∙ ap (λ (x : ℕ). cond s (top f) 0 + x) (word-is (prec f) q k (two-le-pos (prec f) (two f)) c lead ∙ min-l (k * hid f + q) (ones f * hid f) (word-le (prec f) (emax f) q k (two f) (reach f) c lead (h tt)))
+        ∙ ap (λ (x : ℕ). cond s (top f) 0 + x)
+        (word-is (prec f) q k (two-le-pos (prec f) (two f)) c lead
+        ∙ min-l (k * hid f + q) (ones f * hid f) (word-le (prec f) (emax f) q k (two f) (reach f) c lead (h tt)))
     go false h g =
-        toBits-inf f s ∙ ap (λ (x : ℕ). cond s (top f) 0 + x) (min-r (k * hid f + q) (ones f * hid f) (word-ge (prec f) (emax f) q k (two f) (reach f) c lead (g tt)))
+        toBits-inf f s ∙ ap (λ (x : ℕ). cond s (top f) 0 + x)
+        (min-r (k * hid f + q) (ones f * hid f) (word-ge (prec f) (emax f) q k (two f) (reach f) c lead (g tt)))
 
 -- ---- the pattern of `round`: lib.Ieee.Order proves the next two and keeps them
 
@@ -220,7 +246,8 @@ kept-ge p n den P K =
     let u = den * 2 ^ k in
     let w = n / den in
     let a : 2 ^ (p - 1) * 2 ^ k ≤ w = le-trans (le-of-eq (sym (pow-add 2 (p - 1) k))) (size-reaches w (p - 1 + k) (all-in-use (size w) p P K)) in
-    le-trans (subst (λ (x : ℕ). 2 ^ (p - 1) ≤ x) (div-div-eq-div-mul n den (2 ^ k)) (le-div-iff-mul-le (pow-pos k) .1 a)) (nearest-ge (n / u) (compare (n % u * 2) u))
+    le-trans (subst (λ (x : ℕ). 2 ^ (p - 1) ≤ x) (div-div-eq-div-mul n den (2 ^ k)) (le-div-iff-mul-le (pow-pos k) .1 a))
+    (nearest-ge (n / u) (compare (n % u * 2) u))
 
 -- the digits dropped and the number kept, of n * 2 ^ e over 2 ^ c
 drop-is : (p l n b e c : ℕ) → 2 ^ b ≤ n → n < 2 ^ suc b → drop p (n * 2 ^ e * 2 ^ l) (2 ^ c) ≡ suc (b + e + l) - c - p
@@ -236,7 +263,8 @@ kept-is : (n e l c k t : ℕ) → e + l + t ≡ c + k → closest (n * 2 ^ e * 2
 kept-is n e l c k t h =
     closest-same (n * 2 ^ e * 2 ^ l) (2 ^ c * 2 ^ k) n (2 ^ t) (mul-pos (pow-pos c) (pow-pos k)) (pow-pos t)
     (mul-assoc (n * 2 ^ e) (2 ^ l) (2 ^ t) ∙ mul-assoc n (2 ^ e) (2 ^ l * 2 ^ t)
-    ∙ ap (λ (x : ℕ). n * x) (sym (mul-assoc (2 ^ e) (2 ^ l) (2 ^ t)) ∙ sym (ap (λ (x : ℕ). x * 2 ^ t) (pow-add 2 e l)) ∙ sym (pow-add 2 (e + l) t) ∙ ap (λ (x : ℕ). 2 ^ x) h ∙ pow-add 2 c k))
+    ∙ ap (λ (x : ℕ). n * x) (sym (mul-assoc (2 ^ e) (2 ^ l) (2 ^ t)) ∙ sym (ap (λ (x : ℕ). x * 2 ^ t) (pow-add 2 e l)) ∙ sym (pow-add 2 (e + l) t)
+    ∙ ap (λ (x : ℕ). 2 ^ x) h ∙ pow-add 2 c k))
 
 -- b is the place of n's highest digit, k the number of digits dropped, and t that of n's digits below the unit
 pub round-bits : (f : Format) (s : Bool) (n b e c k t : ℕ) → 2 ^ b ≤ n → n < 2 ^ suc b → suc (b + e + low f) - c - prec f ≡ k → e + low f + t ≡ c + k

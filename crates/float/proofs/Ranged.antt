@@ -46,17 +46,21 @@ some-r x d h = omega arith
 below-max : (X d : ℕ) → X ≤ 2147483647 * d → X ≤ 2147483648 * d
 below-max X d h = omega arith
 
-pub in-64 : (v : Float) → T (le (fin true 1 (pos 31)) v) → T (le v (fin false 2147483647 (pos 0))) → T (le (fin true 1 (pos 63)) v) × T (lt v (fin false 1 (pos 63)))
+pub in-64 : (v : Float) → T (le (fin true 1 (pos 31)) v) → T (le v (fin false 2147483647 (pos 0)))
+    → T (le (fin true 1 (pos 63)) v) × T (lt v (fin false 1 (pos 63)))
 unfolding le lt eq
 in-64 nan h k = absurd h
 in-64 (inf true) h k = absurd h
 in-64 (inf false) h k = absurd k
 in-64 (fin false m e) h k = (
-  or-l (ltb 0 (1 * 9223372036854775808 * down e + m * up e * 1)) (eqb (1 * 9223372036854775808 * down e) (m * up e * 1) && (false || eqb (1 * 9223372036854775808 * down e) 0)) (lt→ltb 0 (1 * 9223372036854775808 * down e + m * up e * 1) (some (m * up e * 1) (down e) (down-pos e))),
+  or-l (ltb 0 (1 * 9223372036854775808 * down e + m * up e * 1))
+      (eqb (1 * 9223372036854775808 * down e) (m * up e * 1) && (false || eqb (1 * 9223372036854775808 * down e) 0))
+      (lt→ltb 0 (1 * 9223372036854775808 * down e + m * up e * 1) (some (m * up e * 1) (down e) (down-pos e))),
   lt→ltb (m * up e * 1) (1 * 9223372036854775808 * down e) (wide (m * up e) (down e) (down-pos e) (below-max (m * up e) (down e) (pos-range m e k))),
 )
 in-64 (fin true m e) h k = (
-  or-l (ltb (m * up e * 1) (1 * 9223372036854775808 * down e)) (eqb (1 * 9223372036854775808 * down e) (m * up e * 1) && true) (lt→ltb (m * up e * 1) (1 * 9223372036854775808 * down e) (wide (m * up e) (down e) (down-pos e) (neg-range m e h))),
+  or-l (ltb (m * up e * 1) (1 * 9223372036854775808 * down e)) (eqb (1 * 9223372036854775808 * down e) (m * up e * 1) && true)
+      (lt→ltb (m * up e * 1) (1 * 9223372036854775808 * down e) (wide (m * up e) (down e) (down-pos e) (neg-range m e h))),
   lt→ltb 0 (m * up e * 1 + 1 * 9223372036854775808 * down e) (some-r (m * up e * 1) (down e) (down-pos e)),
 )
 
@@ -69,7 +73,8 @@ same-signed (fin false m e) h k = ap pos (cap (m * up e / down e) (quotient-le (
   where
     cap : (n : ℕ) → n ≤ 2147483647 → min n (2 ^ 63 - 1) ≡ min n (2 ^ 31 - 1)
     cap n h = omega arith
-same-signed (fin true m e) h k = ap (λ (n : ℕ). negℤ (pos n)) (cap (m * up e / down e) (quotient-le (m * up e) (down e) 2147483648 (down-pos e) (neg-range m e h)))
+same-signed (fin true m e) h k =
+    ap (λ (n : ℕ). negℤ (pos n)) (cap (m * up e / down e) (quotient-le (m * up e) (down e) 2147483648 (down-pos e) (neg-range m e h)))
   where
     cap : (n : ℕ) → n ≤ 2147483648 → min n (2 ^ 63) ≡ min n (2 ^ 31)
     cap n h = omega arith

@@ -36,7 +36,8 @@ fma-nan f (fin s m i) (fin t n d) nan e = refl
 fma-nan f (fin s m i) (fin t n d) (inf u) e = absurd (false≢true e)
 fma-nan f (fin s m i) (fin t n d) (fin u k g) e = absurd (false≢true e)
 
-pub nan-case : (a b c : ℕ) → (nanBits binary32 a || (nanBits binary32 b || nanBits binary32 c)) ≡ true → fma binary32 (ofBits binary32 a) (ofBits binary32 b) (ofBits binary32 c) ≡ nan
+pub nan-case : (a b c : ℕ) → (nanBits binary32 a || (nanBits binary32 b || nanBits binary32 c)) ≡ true
+    → fma binary32 (ofBits binary32 a) (ofBits binary32 b) (ofBits binary32 c) ≡ nan
 nan-case a b c e =
     fma-nan binary32 (ofBits binary32 a) (ofBits binary32 b) (ofBits binary32 c)
     (ap (λ (x : Bool). x || (isNan (ofBits binary32 b) || isNan (ofBits binary32 c))) (sym (nanBits-is binary32 a))
@@ -61,7 +62,8 @@ at-inf b h n =
     let e = bits-top binary32 b (only (fieldOf binary32 b) (leb-true 255 (fieldOf binary32 b) h) (field-lt b)) in
     e ∙ pick (eqb (b % hid binary32) 0) (leb (top binary32) b) (sym (ap isNan e) ∙ sym (nanBits-is binary32 b) ∙ n)
 
-pub at-fin : (b : ℕ) → leb 255 (fieldOf binary32 b) ≡ false → HasValue (ofBits binary32 b) (leb (top binary32) b) (digitsOf binary32 b * 2 ^ placeOf binary32 b) (2 ^ 149)
+pub at-fin : (b : ℕ) → leb 255 (fieldOf binary32 b) ≡ false
+    → HasValue (ofBits binary32 b) (leb (top binary32) b) (digitsOf binary32 b * 2 ^ placeOf binary32 b) (2 ^ 149)
 at-fin b h = bits-value binary32 b (leb-false 255 (fieldOf binary32 b) h)
 
 left-inf : (f : Format) (s : Bool) (y z : Float) → fma f (inf s) y z ≡ add f (mul f (inf s) y) z

@@ -3,7 +3,9 @@
 use mathlib.Core.Path.{_≡_, refl, sym, ap, _∙_, subst}
 use mathlib.Core.Logic.{_⊎_, inl, inr}
 use Prim.Native.Nat.{ℕ, suc, _+_, _-_, _*_, _/_, _%_, _^_, _≤_, _<_, compare}
-use native.Mathlib.Nat.{le-trans, le-of-eq, lt-of-lt-of-le, lt-of-le-of-lt, mod-lt, mul-comm, mul-assoc, mul-left-comm, mul-right-comm, mul-le-mul-right, mul-lt-mul-of-pos-right, mul-pos, add-mul, mul-add, div-add-mod', pow-succ', add-assoc, le-add-left, le-of-lt, suc-mul}
+use native.Mathlib.Nat.{le-trans, le-of-eq, lt-of-lt-of-le, lt-of-le-of-lt, mod-lt, mul-comm, mul-assoc, mul-left-comm, mul-right-comm}
+use native.Mathlib.Nat.{mul-le-mul-right, mul-lt-mul-of-pos-right, mul-pos, add-mul, mul-add, div-add-mod', pow-succ', add-assoc, le-add-left}
+use native.Mathlib.Nat.{le-of-lt, suc-mul}
 use native.Mathlib.Omega.{arith}
 use mathlib.Core.Bool.{Bool}
 use lib.Dec.{ltb, ltb→lt, nltb→le}
@@ -33,7 +35,8 @@ sticky-odd u X E h EP HP lo hi =
     let us : q * (2 * h) + v ≡ u = div-add-mod' u (2 * h) in
     let D = E * (4 * h) in
     let ring : 2 * u * E ≡ q * D + 2 * v * E = ap (λ (x : ℕ). 2 * x * E) (sym us) ∙ spread q h v E in
-    let ring2 : (2 * u + 2) * E ≡ q * D + (2 * v + 2) * E = add-mul (2 * u) 2 E ∙ ap (λ (x : ℕ). x + 2 * E) ring ∙ add-assoc (q * D) (2 * v * E) (2 * E) ∙ ap (λ (x : ℕ). q * D + x) (sym (add-mul (2 * v) 2 E)) in
+    let ring2 : (2 * u + 2) * E ≡ q * D + (2 * v + 2) * E =
+    add-mul (2 * u) 2 E ∙ ap (λ (x : ℕ). x + 2 * E) ring ∙ add-assoc (q * D) (2 * v * E) (2 * E) ∙ ap (λ (x : ℕ). q * D + x) (sym (add-mul (2 * v) 2 E)) in
     let R = X - q * D in
     let VR : q * D + R ≡ X = joined (q * D) (2 * v * E) X (2 * u * E) ring lo in
     let Rlo : 2 * v * E < R = lower (q * D) (2 * v * E) X (2 * u * E) ring lo in
@@ -46,13 +49,17 @@ sticky-odd u X E h EP HP lo hi =
       | inl t ↦
           let l : v < h = ltb→lt v h t in
           left
-          ∙ ap (nearest q) (cmp-lt (R * 2) D (lt-of-lt-of-le (twice-lt R ((2 * v + 2) * E) Rhi) (le-trans (le-of-eq (mul-right-comm (2 * v + 2) E 2)) (le-trans (mul-le-mul-right E (half-le v h l)) (le-of-eq (mul-comm (4 * h) E))))))
+          ∙ ap (nearest q) (cmp-lt (R * 2) D
+          (lt-of-lt-of-le (twice-lt R ((2 * v + 2) * E) Rhi)
+          (le-trans (le-of-eq (mul-right-comm (2 * v + 2) E 2)) (le-trans (mul-le-mul-right E (half-le v h l)) (le-of-eq (mul-comm (4 * h) E))))))
           ∙ sym (ap (nearest q) (cmp-lt ((2 * v + 1) * 2) (4 * h) (odd-lt v h l)))
           ∙ sym right
       | inr t ↦
           let l : h ≤ v = nltb→le v h t in
           left
-          ∙ ap (nearest q) (cmp-gt (R * 2) D (lt-of-le-of-lt (le-trans (le-of-eq (mul-comm E (4 * h))) (le-trans (mul-le-mul-right E (half-ge v h l)) (le-of-eq (mul-right-comm (2 * v) 2 E)))) (twice-lt (2 * v * E) R Rlo)))
+          ∙ ap (nearest q) (cmp-gt (R * 2) D
+          (lt-of-le-of-lt (le-trans (le-of-eq (mul-comm E (4 * h)))
+          (le-trans (mul-le-mul-right E (half-ge v h l)) (le-of-eq (mul-right-comm (2 * v) 2 E)))) (twice-lt (2 * v * E) R Rlo)))
           ∙ sym (ap (nearest q) (cmp-gt ((2 * v + 1) * 2) (4 * h) (odd-gt v h l)))
           ∙ sym right
     ]
@@ -61,7 +68,9 @@ sticky-odd u X E h EP HP lo hi =
     two-pos h p = omega arith
 
     spread : (q h v E : ℕ) → 2 * (q * (2 * h) + v) * E ≡ q * (E * (4 * h)) + 2 * v * E
-    spread q h v E = ap (λ (x : ℕ). x * E) (mul-add 2 (q * (2 * h)) v) ∙ add-mul (2 * (q * (2 * h))) (2 * v) E ∙ ap (λ (x : ℕ). x + 2 * v * E) (ap (λ (x : ℕ). x * E) (four q h) ∙ mul-assoc q (4 * h) E ∙ ap (λ (x : ℕ). q * x) (mul-comm (4 * h) E))
+    spread q h v E =
+        ap (λ (x : ℕ). x * E) (mul-add 2 (q * (2 * h)) v) ∙ add-mul (2 * (q * (2 * h))) (2 * v) E
+        ∙ ap (λ (x : ℕ). x + 2 * v * E) (ap (λ (x : ℕ). x * E) (four q h) ∙ mul-assoc q (4 * h) E ∙ ap (λ (x : ℕ). q * x) (mul-comm (4 * h) E))
       where
         four : (q h : ℕ) → 2 * (q * (2 * h)) ≡ q * (4 * h)
         four q h = mul-left-comm 2 q (2 * h) ∙ ap (λ (x : ℕ). q * x) (sym (mul-assoc 2 2 h))
@@ -103,7 +112,9 @@ four-pow : (t : ℕ) → 2 ^ suc (suc t) ≡ 4 * 2 ^ t
 four-pow t = pow-succ' 2 (suc t) ∙ ap (λ (x : ℕ). 2 * x) (pow-succ' 2 t) ∙ sym (mul-assoc 2 2 (2 ^ t))
 
 sticky-closest : (W X E t : ℕ) → 0 < E → Sticky W X E → closest X (E * 2 ^ suc (suc t)) ≡ closest W (2 ^ suc (suc t))
-sticky-closest W X E t EP (inl e) = closest-same X (E * 2 ^ suc (suc t)) W (2 ^ suc (suc t)) (mul-pos EP (pow-pos (suc (suc t)))) (pow-pos (suc (suc t))) (ap (λ (x : ℕ). x * 2 ^ suc (suc t)) e ∙ mul-assoc W E (2 ^ suc (suc t)))
+sticky-closest W X E t EP (inl e) =
+    closest-same X (E * 2 ^ suc (suc t)) W (2 ^ suc (suc t)) (mul-pos EP (pow-pos (suc (suc t)))) (pow-pos (suc (suc t)))
+    (ap (λ (x : ℕ). x * 2 ^ suc (suc t)) e ∙ mul-assoc W E (2 ^ suc (suc t)))
 sticky-closest W X E t EP (inr j) =
     ap (λ (x : ℕ). closest X (E * x)) (four-pow t)
     ∙ sticky-odd (j .0) X E (2 ^ t) EP (pow-pos t) (j .2) (j .3)
@@ -133,7 +144,8 @@ sticky-hi W X E b EP hi (inr j) = lt-of-lt-of-le (j .3) (mul-le-mul-right E (eve
     even-le : (P h u W : ℕ) → P ≡ 2 * h → W ≡ 2 * u + 1 → W < P → 2 * u + 2 ≤ P
     even-le P h u W a b c = omega arith
 
-pub sticky-round : (f : Format) (s : Bool) (W b e X c : ℕ) → 2 ^ b ≤ W → W < 2 ^ suc b → prec f < b → Sticky W X (2 ^ e) → round f s X (2 ^ c) ≡ round f s (W * 2 ^ e) (2 ^ c)
+pub sticky-round : (f : Format) (s : Bool) (W b e X c : ℕ) → 2 ^ b ≤ W → W < 2 ^ suc b → prec f < b → Sticky W X (2 ^ e)
+    → round f s X (2 ^ c) ≡ round f s (W * 2 ^ e) (2 ^ c)
 sticky-round f s W b e X c lo hi P j =
     let l = low f in
     let p = prec f in
@@ -144,15 +156,19 @@ sticky-round f s W b e X c lo hi P j =
     let size-of : (Y : ℕ) → 2 ^ b * 2 ^ e ≤ Y → Y < 2 ^ suc b * 2 ^ e → drop p (Y * 2 ^ l) (2 ^ c) ≡ k =
     λ Y x y. ap (λ (z : ℕ). z - p) (size-div (Y * 2 ^ l) (b + e + l) c
     (le-trans (le-of-eq (pow-add 2 (b + e) l ∙ ap (λ (z : ℕ). z * 2 ^ l) (pow-add 2 b e))) (mul-le-mul-right (2 ^ l) x))
-    (lt-of-lt-of-le (mul-lt-mul-of-pos-right y (pow-pos l)) (le-of-eq (ap (λ (z : ℕ). z * 2 ^ l) (sym (pow-add 2 (suc b) e)) ∙ sym (pow-add 2 (suc b + e) l) ∙ ap (λ (z : ℕ). 2 ^ z) (sucs b e l))))) in
+    (lt-of-lt-of-le (mul-lt-mul-of-pos-right y (pow-pos l))
+    (le-of-eq (ap (λ (z : ℕ). z * 2 ^ l) (sym (pow-add 2 (suc b) e)) ∙ sym (pow-add 2 (suc b + e) l) ∙ ap (λ (z : ℕ). 2 ^ z) (sucs b e l))))) in
     let dX = size-of X (sticky-lo W X (2 ^ e) b B lo j) (sticky-hi W X (2 ^ e) b (pow-pos e) hi j) in
     let dW = size-of (W * 2 ^ e) (mul-le-mul-right (2 ^ e) lo) (mul-lt-mul-of-pos-right hi (pow-pos e)) in
     let scale : (Y : ℕ) → closest (Y * 2 ^ l) (2 ^ c * 2 ^ k) ≡ closest Y (2 ^ e * 2 ^ suc (suc t)) =
     λ Y. closest-same (Y * 2 ^ l) (2 ^ c * 2 ^ k) Y (2 ^ e * 2 ^ suc (suc t)) (mul-pos (pow-pos c) (pow-pos k)) (mul-pos (pow-pos e) (pow-pos (suc (suc t))))
-    (mul-assoc Y (2 ^ l) (2 ^ e * 2 ^ suc (suc t)) ∙ ap (λ (z : ℕ). Y * z) (mul-left-comm (2 ^ l) (2 ^ e) (2 ^ suc (suc t)) ∙ sym (mul-assoc (2 ^ e) (2 ^ l) (2 ^ suc (suc t))) ∙ ap (λ (z : ℕ). z * 2 ^ suc (suc t)) (sym (pow-add 2 e l)) ∙ sym (pow-add 2 (e + l) (suc (suc t))) ∙ ap (λ (z : ℕ). 2 ^ z) T2 ∙ pow-add 2 c k)) in
+    (mul-assoc Y (2 ^ l) (2 ^ e * 2 ^ suc (suc t))
+    ∙ ap (λ (z : ℕ). Y * z) (mul-left-comm (2 ^ l) (2 ^ e) (2 ^ suc (suc t)) ∙ sym (mul-assoc (2 ^ e) (2 ^ l) (2 ^ suc (suc t)))
+    ∙ ap (λ (z : ℕ). z * 2 ^ suc (suc t)) (sym (pow-add 2 e l)) ∙ sym (pow-add 2 (e + l) (suc (suc t))) ∙ ap (λ (z : ℕ). 2 ^ z) T2 ∙ pow-add 2 c k)) in
     round-is f s X (2 ^ c)
     ∙ ap (λ (z : ℕ). units f s (closest (X * 2 ^ l) (2 ^ c * 2 ^ z)) z) dX
-    ∙ ap (λ (z : ℕ). units f s z k) (scale X ∙ sticky-closest W X (2 ^ e) t (pow-pos e) j ∙ sym (sticky-closest W (W * 2 ^ e) (2 ^ e) t (pow-pos e) (inl refl)) ∙ sym (scale (W * 2 ^ e)))
+    ∙ ap (λ (z : ℕ). units f s z k)
+    (scale X ∙ sticky-closest W X (2 ^ e) t (pow-pos e) j ∙ sym (sticky-closest W (W * 2 ^ e) (2 ^ e) t (pow-pos e) (inl refl)) ∙ sym (scale (W * 2 ^ e)))
     ∙ sym (ap (λ (z : ℕ). units f s (closest (W * 2 ^ e * 2 ^ l) (2 ^ c * 2 ^ z)) z) dW)
     ∙ sym (round-is f s (W * 2 ^ e) (2 ^ c))
   where
@@ -223,7 +239,13 @@ sticky-sub A W X E a l (inr j) =
     let d = A / 2 - u - 1 in
     let top : A * E ≡ 2 * d * E + (2 * u + 2) * E = ap (λ (x : ℕ). x * E) (split2 A u W a (j .1) l) ∙ add-mul (2 * d) (2 * u + 2) E in
     let bot : A * E ≡ (2 * d + 2) * E + 2 * u * E = ap (λ (x : ℕ). x * E) (split A u W a (j .1) l) ∙ add-mul (2 * d + 2) (2 * u) E in
-    inr (d, whole A u W a (j .1) l, low-side (A * E) (2 * d * E) ((2 * u + 2) * E) X top (j .3), high-side (A * E) ((2 * d + 2) * E) (2 * u * E) X ((2 * u + 2) * E) bot (j .2) (j .3) (le-trans (le-add-left ((2 * u + 2) * E) (2 * d * E)) (le-of-eq (sym top))))
+    inr (
+      d,
+      whole A u W a (j .1) l,
+      low-side (A * E) (2 * d * E) ((2 * u + 2) * E) X top (j .3),
+      high-side (A * E) ((2 * d + 2) * E) (2 * u * E) X ((2 * u + 2) * E) bot (j .2) (j .3)
+          (le-trans (le-add-left ((2 * u + 2) * E) (2 * d * E)) (le-of-eq (sym top))),
+    )
   where
     whole : (A u W : ℕ) → A % 2 ≡ 0 → W ≡ 2 * u + 1 → W < A → A - W ≡ 2 * (A / 2 - u - 1) + 1
     whole A u W a w l = omega arith

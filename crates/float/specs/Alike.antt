@@ -1,4 +1,5 @@
--- Two floats that differ at most in the sign of a zero, and what does not tell them apart: a zero added to a product, a product by zero added to a number, 1 added or taken away, a floor. Assumes nothing.
+-- Two floats that differ at most in the sign of a zero, and what does not tell them apart: a zero added to a product, a product by zero added to a
+-- number, 1 added or taken away, a floor. Assumes nothing.
 use mathlib.Core.Path.{_≡_, refl, sym, ap, _∙_, subst}
 use mathlib.Core.Logic.{_⊎_, inl, inr}
 use mathlib.Core.Bool.{Bool, true, false, _&&_}
@@ -6,7 +7,7 @@ use Prim.Native.Nat.{ℕ, zero, suc, _+_, _-_, _*_, _/_, _<_}
 use native.Mathlib.Nat.{mul-assoc, mul-comm, mul-zero, zero-mul, zero-lt-suc, mul-pos, zero-div, div-eq-of-lt}
 use native.Mathlib.Omega.{arith}
 use lib.IntN.{ℤ, pos}
-use lib.Dec.{T, eqb, eqb→eq}
+use lib.Dec.{T, eqb→eq}
 use lib.Ieee.{Float, nan, inf, fin, Format, binary32, binary64, up, down, unlike, neg, round, sum, add, sub, mul, lt, le, eq, ofInt, toSigned, fits}
 use lib.Ieee.Fits.{down-pos, up-pos}
 use lib.Ieee.Scale.{finite, round-same}
@@ -46,7 +47,11 @@ some (suc a) = inr (zero-lt-suc a)
 -- a / c + 0
 sum-nothing : (f : Format) (s t : Bool) (a b c : ℕ) → 0 < c → b ≡ 0 → Alike (sum f s a t b c) (round f s a c)
 sum-nothing f s t a b c C e = elim (some a) [
-  | inl z ↦ inr (subst (λ (x : Float). T (isZero x)) (sym (ap (λ (n : ℕ). sum f s a t n c) e ∙ ap (λ (n : ℕ). sum f s n t 0 c) z ∙ sum-zeros f s t c)) (round-zero f (s && t) 0 c C refl), round-zero f s a c C z)
+  | inl z ↦ inr (
+    subst (λ (x : Float). T (isZero x))
+        (sym (ap (λ (n : ℕ). sum f s a t n c) e ∙ ap (λ (n : ℕ). sum f s n t 0 c) z ∙ sum-zeros f s t c)) (round-zero f (s && t) 0 c C refl),
+    round-zero f s a c C z,
+  )
   | inr l ↦ inl (ap (λ (n : ℕ). sum f s a t n c) e ∙ sum-zero f s t a c l)
 ]
 
@@ -57,9 +62,12 @@ fma-plain f (fin s m e) (fin t n d) (fin u k g) p q h =
     let P = m * up e * (n * up d) in
     let C = down e * down d in
     let c : 0 < C = mul-pos (down-pos e) (down-pos d) in
-    let w : round f (unlike s t) (P * down g) (C * down g) ≡ round f (unlike s t) P C = round-same f (unlike s t) (P * down g) (C * down g) P C (mul-pos c (down-pos g)) c (mul-assoc P (down g) C ∙ ap (λ (x : ℕ). P * x) (mul-comm (down g) C)) in
+    let w : round f (unlike s t) (P * down g) (C * down g) ≡ round f (unlike s t) P C =
+    round-same f (unlike s t) (P * down g) (C * down g) P C (mul-pos c (down-pos g)) c
+    (mul-assoc P (down g) C ∙ ap (λ (x : ℕ). P * x) (mul-comm (down g) C)) in
     alike-through (sum f (unlike s t) (P * down g) u (k * up g * C) (C * down g)) (round f (unlike s t) (P * down g) (C * down g)) (round f (unlike s t) P C)
-    (sum-nothing f (unlike s t) u (P * down g) (k * up g * C) (C * down g) (mul-pos c (down-pos g)) (ap (λ (x : ℕ). x * up g * C) (eqb→eq k 0 h) ∙ ap (λ (x : ℕ). x * C) (zero-mul (up g)) ∙ zero-mul C))
+    (sum-nothing f (unlike s t) u (P * down g) (k * up g * C) (C * down g) (mul-pos c (down-pos g))
+    (ap (λ (x : ℕ). x * up g * C) (eqb→eq k 0 h) ∙ ap (λ (x : ℕ). x * C) (zero-mul (up g)) ∙ zero-mul C))
     (inl w)
 
 -- x * 0 + z is z
@@ -71,8 +79,11 @@ fma-none f (fin s m e) (fin t n d) (fin u k g) p q h =
     let P = m * up e * (n * up d) in
     let C = down e * down d in
     let c : 0 < C = mul-pos (down-pos e) (down-pos d) in
-    let w : round f u (k * up g * C) (C * down g) ≡ fin u k g = round-to f u (k * up g * C) (C * down g) k g h (mul-pos c (down-pos g)) (mul-assoc (k * up g) C (down g)) in
-    let b : P * down g ≡ 0 = ap (λ (x : ℕ). m * up e * (x * up d) * down g) (eqb→eq n 0 q) ∙ ap (λ (x : ℕ). m * up e * x * down g) (zero-mul (up d)) ∙ ap (λ (x : ℕ). x * down g) (mul-zero (m * up e)) ∙ zero-mul (down g) in
+    let w : round f u (k * up g * C) (C * down g) ≡ fin u k g =
+    round-to f u (k * up g * C) (C * down g) k g h (mul-pos c (down-pos g)) (mul-assoc (k * up g) C (down g)) in
+    let b : P * down g ≡ 0 =
+    ap (λ (x : ℕ). m * up e * (x * up d) * down g) (eqb→eq n 0 q) ∙ ap (λ (x : ℕ). m * up e * x * down g) (zero-mul (up d))
+    ∙ ap (λ (x : ℕ). x * down g) (mul-zero (m * up e)) ∙ zero-mul (down g) in
     subst (λ (x : Float). Alike x (fin u k g)) (sym (sum-comm f (unlike s t) u (P * down g) (k * up g * C) (C * down g)))
     (alike-through (sum f u (k * up g * C) (unlike s t) (P * down g) (C * down g)) (round f u (k * up g * C) (C * down g)) (fin u k g)
     (sum-nothing f u (unlike s t) (k * up g * C) (P * down g) (C * down g) (mul-pos c (down-pos g)) b) (inl w))
@@ -83,7 +94,8 @@ unfolding add
 add-nothing f (fin s m e) t n d h =
     let Y = suc n * up d in
     let C = down e * down d in
-    ap (λ (k : ℕ). sum f s (k * up e * down d) t (Y * down e) C) (eqb→eq m 0 h) ∙ ap (λ (k : ℕ). sum f s k t (Y * down e) C) (ap (λ (k : ℕ). k * down d) (zero-mul (up e)) ∙ zero-mul (down d))
+    ap (λ (k : ℕ). sum f s (k * up e * down d) t (Y * down e) C) (eqb→eq m 0 h)
+    ∙ ap (λ (k : ℕ). sum f s k t (Y * down e) C) (ap (λ (k : ℕ). k * down d) (zero-mul (up e)) ∙ zero-mul (down d))
     ∙ sum-comm f s t 0 (Y * down e) C ∙ sum-zero f t s (Y * down e) C (mul-pos (mul-pos (zero-lt-suc n) (up-pos d)) (down-pos e))
     ∙ round-same f t (Y * down e) C Y (down d) (mul-pos (down-pos e) (down-pos d)) (down-pos d) (mul-assoc Y (down e) (down d))
 
@@ -100,21 +112,28 @@ less-is = refl
 
 pub more-same : (x y : Float) → Alike x y → add binary64 x one ≡ add binary64 y one
 more-same x y (inl e) = ap (λ (v : Float). add binary64 v one) e
-more-same x y (inr (a, b)) = ap (add binary64 x) one-is ∙ add-nothing binary64 x false 0 (pos 0) a ∙ sym (add-nothing binary64 y false 0 (pos 0) b) ∙ ap (add binary64 y) (sym one-is)
+more-same x y (inr (a, b)) =
+    ap (add binary64 x) one-is ∙ add-nothing binary64 x false 0 (pos 0) a ∙ sym (add-nothing binary64 y false 0 (pos 0) b) ∙ ap (add binary64 y) (sym one-is)
 
 pub less-same : (x y : Float) → Alike x y → sub binary64 x one ≡ sub binary64 y one
 unfolding sub
 less-same x y (inl e) = ap (λ (v : Float). add binary64 v (neg one)) e
-less-same x y (inr (a, b)) = ap (add binary64 x) less-is ∙ add-nothing binary64 x true 0 (pos 0) a ∙ sym (add-nothing binary64 y true 0 (pos 0) b) ∙ ap (add binary64 y) (sym less-is)
+less-same x y (inr (a, b)) =
+    ap (add binary64 x) less-is ∙ add-nothing binary64 x true 0 (pos 0) a ∙ sym (add-nothing binary64 y true 0 (pos 0) b) ∙ ap (add binary64 y) (sym less-is)
 
 -- ---- the floor of a zero is a zero
 floor-is : (x : Float) → T (isZero x) → (s : Bool) × (floor binary64 x ≡ fin s 0 (pos 0))
 unfolding floor
-floor-is (fin false m e) h = (false, round-none binary64 false (m * up e / down e) 1 (zero-lt-suc 0) (ap (λ (k : ℕ). k * up e / down e) (eqb→eq m 0 h) ∙ ap (λ (k : ℕ). k / down e) (zero-mul (up e)) ∙ zero-div (down e)))
+floor-is (fin false m e) h = (
+  false,
+  round-none binary64 false (m * up e / down e) 1 (zero-lt-suc 0)
+      (ap (λ (k : ℕ). k * up e / down e) (eqb→eq m 0 h) ∙ ap (λ (k : ℕ). k / down e) (zero-mul (up e)) ∙ zero-div (down e)),
+)
 floor-is (fin true m e) h = (
   true,
   round-none binary64 true ((m * up e + (down e - 1)) / down e) 1 (zero-lt-suc 0)
-      (ap (λ (k : ℕ). (k * up e + (down e - 1)) / down e) (eqb→eq m 0 h) ∙ ap (λ (k : ℕ). (k + (down e - 1)) / down e) (zero-mul (up e)) ∙ div-eq-of-lt (short (down e) (down-pos e))),
+      (ap (λ (k : ℕ). (k * up e + (down e - 1)) / down e) (eqb→eq m 0 h) ∙ ap (λ (k : ℕ). (k + (down e - 1)) / down e) (zero-mul (up e))
+      ∙ div-eq-of-lt (short (down e) (down-pos e))),
 )
   where
     short : (d : ℕ) → 0 < d → 0 + (d - 1) < d

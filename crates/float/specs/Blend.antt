@@ -36,14 +36,20 @@ unfolding div
 div-at f (fin s m e) (fin t b d) k n N v w =
     go (eqb b 0) refl
     ∙ ap (λ (o : Bool). round f o (m * up e * down d) (b * up d * down e)) (ap (λ (o : Bool). unlike o t) (v .0) ∙ ap (unlike false) (w .0))
-    ∙ round-same f false (m * up e * down d) (b * up d * down e) k n (subst (λ (x : ℕ). 0 < x * down e) (sym (sym (mul-one (b * up d)) ∙ w .1)) (mul-pos (mul-pos N (down-pos d)) (down-pos e))) N
-    (ap (λ (x : ℕ). x * down d * n) (sym (mul-one (m * up e)) ∙ v .1) ∙ turn k (down e) (down d) n ∙ ap (λ (x : ℕ). k * (x * down e)) (sym (sym (mul-one (b * up d)) ∙ w .1)))
+    ∙ round-same f false (m * up e * down d) (b * up d * down e) k n
+    (subst (λ (x : ℕ). 0 < x * down e) (sym (sym (mul-one (b * up d)) ∙ w .1)) (mul-pos (mul-pos N (down-pos d)) (down-pos e))) N
+    (ap (λ (x : ℕ). x * down d * n) (sym (mul-one (m * up e)) ∙ v .1) ∙ turn k (down e) (down d) n
+    ∙ ap (λ (x : ℕ). k * (x * down e)) (sym (sym (mul-one (b * up d)) ∙ w .1)))
   where
     turn : (k e d n : ℕ) → k * e * d * n ≡ k * (n * d * e)
     turn k e d n = simp (mul-assoc, mul-comm, mul-left-comm)
 
-    go : (c : Bool) → eqb b 0 ≡ c → cond c (cond (eqb m 0) nan (inf (unlike s t))) (round f (unlike s t) (m * up e * down d) (b * up d * down e)) ≡ round f (unlike s t) (m * up e * down d) (b * up d * down e)
-    go true e = absurd (lt-irrefl 0 (subst (λ (x : ℕ). 0 < x) (sym (w .1) ∙ ap (λ (x : ℕ). x * up d * 1) (eqb→eq b 0 (yes e)) ∙ ap (λ (x : ℕ). x * 1) (zero-mul (up d)) ∙ zero-mul 1) (mul-pos N (down-pos d))))
+    go : (c : Bool) → eqb b 0 ≡ c
+        → cond c (cond (eqb m 0) nan (inf (unlike s t))) (round f (unlike s t) (m * up e * down d) (b * up d * down e))
+        ≡ round f (unlike s t) (m * up e * down d) (b * up d * down e)
+    go true e =
+        absurd (lt-irrefl 0 (subst (λ (x : ℕ). 0 < x)
+        (sym (w .1) ∙ ap (λ (x : ℕ). x * up d * 1) (eqb→eq b 0 (yes e)) ∙ ap (λ (x : ℕ). x * 1) (zero-mul (up d)) ∙ zero-mul 1) (mul-pos N (down-pos d))))
     go false e = refl
 div-at f (fin s m e) nan k n N v w = absurd w
 div-at f (fin s m e) (inf t) k n N v w = absurd w
@@ -77,7 +83,8 @@ quotient f n k N h l = div-at f (round f false k 1) (round f false n 1) k n N (r
 
 -- the corner k of n cells, as it is written
 pub blend-at : (f : Format) (n k : ℕ) (l h : Float) → 0 < n → n ≤ 2 ^ prec f → k ≤ n
-    → add f (mul f (sub f (ofInt f (pos 1)) (div f (ofInt f (pos k)) (ofInt f (pos n)))) l) (mul f (div f (ofInt f (pos k)) (ofInt f (pos n))) h) ≡ blend f (part f k n) l h
+    → add f (mul f (sub f (ofInt f (pos 1)) (div f (ofInt f (pos k)) (ofInt f (pos n)))) l) (mul f (div f (ofInt f (pos k)) (ofInt f (pos n))) h)
+    ≡ blend f (part f k n) l h
 blend-at f n k l h N b i =
     ap (λ (t : Float). add f (mul f (sub f (ofInt f (pos 1)) t) l) (mul f t h)) (quotient f n k N b i)
     ∙ ap (λ (o : Float). add f (mul f (sub f o (part f k n)) l) (mul f (part f k n) h)) (one-is f)
@@ -91,15 +98,21 @@ pub record Unit01 (t : Float) : Type 0 where
 -- a part lies from 0 to 1
 pub part-01 : (f : Format) (n k : ℕ) → 0 < n → k ≤ n → Unit01 (part f k n)
 part-01 f n k N l =
-    let a : T (le +0 (part f k n)) = subst (λ (x : Float). T (le x (part f k n))) (round-none f false 0 1 (lit< tt) refl) (round-mono f 0 1 k n (lit< tt) N (le-trans (le-of-eq (zero-mul n)) zero-le)) in
-    let b : T (le (part f k n) unit) = subst (λ (x : Float). T (le (part f k n) x)) (one-part f) (round-mono f k n 1 1 N (lit< tt) (le-trans (le-of-eq (mul-one k)) (le-trans l (le-of-eq (sym (one-mul n)))))) in
+    let a : T (le +0 (part f k n)) =
+    subst (λ (x : Float). T (le x (part f k n))) (round-none f false 0 1 (lit< tt) refl)
+    (round-mono f 0 1 k n (lit< tt) N (le-trans (le-of-eq (zero-mul n)) zero-le)) in
+    let b : T (le (part f k n) unit) =
+    subst (λ (x : Float). T (le (part f k n) x)) (one-part f)
+    (round-mono f k n 1 1 N (lit< tt) (le-trans (le-of-eq (mul-one k)) (le-trans l (le-of-eq (sym (one-mul n)))))) in
     record { real = finite-between +0 (part f k n) unit tt tt a b; low = a; high = b }
 
 rest-01 : (f : Format) (t : Float) → Unit01 t → Unit01 (sub f unit t)
 unfolding isNan
 rest-01 f t h =
-    let a : T (le +0 (sub f unit t)) = subst (λ (x : Float). T (le x (sub f unit t))) (less-unit f) (sub-rises f unit unit unit t tt tt tt (h .real) (le-same unit tt) (h .high)) in
-    let b : T (le (sub f unit t) unit) = subst (λ (x : Float). T (le (sub f unit t) x)) (less-none f) (sub-rises f unit unit t +0 tt tt (h .real) tt (le-same unit tt) (h .low)) in
+    let a : T (le +0 (sub f unit t)) =
+    subst (λ (x : Float). T (le x (sub f unit t))) (less-unit f) (sub-rises f unit unit unit t tt tt tt (h .real) (le-same unit tt) (h .high)) in
+    let b : T (le (sub f unit t) unit) =
+    subst (λ (x : Float). T (le (sub f unit t) x)) (less-none f) (sub-rises f unit unit t +0 tt tt (h .real) tt (le-same unit tt) (h .low)) in
     record { real = finite-between +0 (sub f unit t) unit tt tt a b; low = a; high = b }
 
 neg-finite : (x : Float) → T (finite (neg x)) → T (finite x)
@@ -131,7 +144,8 @@ shrunk f t (fin s m e) h p q = go t (h .real) (finite-between (mul f +0 x') (mul
 -- ---- (1 - t) * low + t * high
 pub blend-number : (f : Format) (t l h : Float) → Unit01 t → Held f l → Held f h → T (not (isNan (blend f t l h)))
 blend-number f t l h u p q =
-    no (isNan (blend f t l h)) (add-number f (mul f (sub f unit t) l) (mul f t h) (shrunk f (sub f unit t) l (rest-01 f t u) (p .0) (p .1)) (shrunk f t h u (q .0) (q .1)))
+    no (isNan (blend f t l h))
+    (add-number f (mul f (sub f unit t) l) (mul f t h) (shrunk f (sub f unit t) l (rest-01 f t u) (p .0) (p .1)) (shrunk f t h u (q .0) (q .1)))
 
 -- as numbers, where zeros of either sign are equal
 abbrev pub Same : Float → Float → Type 0
@@ -149,7 +163,8 @@ blend-last f l h p q =
     let z = mul f +0 l in
     let o : T (isZero z) = mul-none f l (p .0) in
     let e : blend f unit l h ≡ add f h z =
-    ap (λ (u : Float). add f (mul f u l) (mul f unit h)) (less-unit f) ∙ ap (λ (x : Float). add f z x) (mul-unit f h (q .0) (q .1)) ∙ add-comm f z h (zero-finite z o) (q .0) in
+    ap (λ (u : Float). add f (mul f u l) (mul f unit h)) (less-unit f) ∙ ap (λ (x : Float). add f z x) (mul-unit f h (q .0) (q .1))
+    ∙ add-comm f z h (zero-finite z o) (q .0) in
     subst (λ (x : Float). Same x h) (sym e) (add-zero f h z (q .0) (q .1) o)
 
 -- k / n is 0 for the first k, and 1 for the last

@@ -1,21 +1,23 @@
--- `floor` as a float and as an integer: it keeps the order, it is at most its argument, and a coordinate of it, or of one more, is that integer.
+-- `floor` as a float and as an integer: it keeps the order, and a coordinate of it, or of one more, is that integer.
 use mathlib.Core.Path.{_≡_, refl, sym, ap, _∙_, subst}
 use mathlib.Core.Logic.{inl, inr}
 use Prim.Native.Nat.{ℕ, zero, suc, _+_, _-_, _*_, _/_, _%_, _^_, _≤_, _<_, min, zero-le}
-use native.Mathlib.Nat.{le-trans, le-of-eq, le-of-lt, mul-one, one-mul, zero-mul, mul-pos, mul-right-comm, mul-le-mul-left, mul-le-mul-right, le-of-mul-le-mul-right, le-of-suc-le-suc, not-suc-le-zero, eq-of-mul-eq-mul-right, suc-mul, div-lt-iff-lt-mul, div-add-mod', div-le-self, div-mul-le-self, mod-lt, mul-div-cancel}
+use native.Mathlib.Nat.{le-trans, le-of-eq, le-of-lt, mul-one, one-mul, zero-mul, mul-pos, mul-right-comm, mul-le-mul-left, mul-le-mul-right}
+use native.Mathlib.Nat.{le-of-mul-le-mul-right, le-of-suc-le-suc, not-suc-le-zero, eq-of-mul-eq-mul-right, suc-mul, div-lt-iff-lt-mul, div-add-mod'}
+use native.Mathlib.Nat.{div-le-self, mod-lt, mul-div-cancel}
 use native.Mathlib.Numerals.{add-one}
 use native.Mathlib.Omega.{arith}
 use mathlib.Core.Bool.{Bool, true, false, _&&_, cond}
 use lib.IntN.{ℤ, pos, negsuc, negℤ, sucℤ}
 use lib.Signed.{mag, leZ}
-use lib.Dec.{T, leb→le, le→leb, lit<, lit≤}
 use lib.Pow.{pow-pos}
-use lib.Ieee.{Float, nan, inf, fin, Format, binary64, up, down, round, sum, neg, add, le, ofInt, toSigned, fits}
+use lib.Dec.{T, leb→le, le→leb, lit<, lit≤}
+use lib.Ieee.{Float, nan, inf, fin, Format, binary64, up, down, round, sum, add, le, ofInt, toSigned, fits}
 use lib.Ieee.Fits.{and-l, and-r, down-pos}
 use lib.Ieee.Exact.{HasValue}
 use lib.Ieee.Back.{round-whole}
 use lib.Ieee.Nearest.{div-mono}
-use lib.Ieee.Order.{le-of-values, round-mono}
+use lib.Ieee.Order.{round-mono}
 use lib.Ieee.Scale.{finite}
 use Rattle.refusals.specs.Results.{Result, ok, need}
 use Rattle.float.specs.Fused.{floor}
@@ -23,10 +25,9 @@ use Rattle.float.specs.Coordinate.{coordinate}
 use Rattle.float.specs.Integer.{floorZ}
 use Rattle.float.specs.Tests.{decide}
 use Rattle.float.specs.Sums.{sum-same, sum-alike, sum-below, sum-level, sum-above}
-use Rattle.float.specs.Rising.{Sle, le→signed, le-neg, round-neg, round-rises, add-rises}
+use Rattle.float.specs.Rising.{Sle, le→signed, round-rises, add-rises}
 use Rattle.float.specs.Ordered.{le-through}
 use Rattle.float.specs.Exactly.{unit, small, whole-value}
-use Rattle.float.specs.Numbers.{fits-plain}
 use Rattle.float.specs.Middle.{add-left}
 
 -- a / c, rounded up
@@ -60,8 +61,12 @@ floor-is f false m e = refl
 floor-is f true m e = refl
 
 -- ---- the order
-floor-sle : (s : Bool) (m : ℕ) (e : ℤ) (t : Bool) (n : ℕ) (d : ℤ) → T (le (fin s m e) (fin t n d)) → Sle s (wholeOf s (m * up e) (down e)) t (wholeOf t (n * up d) (down d))
-floor-sle false m e false n d h = more (m * up e / down e) (n * up d / down d) (div-mono (m * up e) (down e) (n * up d) (down d) (down-pos e) (down-pos d) (plain (m * up e * down d) (n * up d * down e) (le→signed false m e false n d h)))
+floor-sle : (s : Bool) (m : ℕ) (e : ℤ) (t : Bool) (n : ℕ) (d : ℤ) → T (le (fin s m e) (fin t n d))
+    → Sle s (wholeOf s (m * up e) (down e)) t (wholeOf t (n * up d) (down d))
+floor-sle false m e false n d h =
+    more (m * up e / down e) (n * up d / down d)
+    (div-mono (m * up e) (down e) (n * up d) (down d) (down-pos e) (down-pos d)
+    (plain (m * up e * down d) (n * up d * down e) (le→signed false m e false n d h)))
   where
     plain : (a b : ℕ) → a + 0 ≤ b + 0 → a ≤ b
     plain a b h = omega arith
@@ -72,7 +77,8 @@ floor-sle false m e true n d h =
     let l = le→signed false m e true n d h in
     let x : m * up e ≡ 0 = factor (m * up e) (down d) (down-pos d) (first (m * up e * down d) (n * up d * down e) l) in
     let y : n * up d ≡ 0 = factor (n * up d) (down e) (down-pos e) (second (m * up e * down d) (n * up d * down e) l) in
-    none (m * up e / down e) (ceil (n * up d) (down d)) (le-trans (div-le-self (m * up e) (down e)) (le-of-eq x)) (ceil-le (n * up d) (down d) 0 (down-pos d) (le-trans (le-of-eq y) zero-le))
+    none (m * up e / down e) (ceil (n * up d) (down d)) (le-trans (div-le-self (m * up e) (down e)) (le-of-eq x))
+    (ceil-le (n * up d) (down d) 0 (down-pos d) (le-trans (le-of-eq y) zero-le))
   where
     factor : (a d : ℕ) → 0 < d → a * d ≡ 0 → a ≡ 0
     factor a d D e = eq-of-mul-eq-mul-right d D a 0 (e ∙ sym (zero-mul d))
@@ -86,7 +92,10 @@ floor-sle false m e true n d h =
     none : (a b : ℕ) → a ≤ 0 → b ≤ 0 → a + b ≤ 0 + 0
     none a b h k = omega arith
 floor-sle true m e false n d h = zero-le
-floor-sle true m e true n d h = more (ceil (n * up d) (down d)) (ceil (m * up e) (down e)) (ceil-mono (n * up d) (down d) (m * up e) (down e) (down-pos d) (down-pos e) (plain (m * up e * down d) (n * up d * down e) (le→signed true m e true n d h)))
+floor-sle true m e true n d h =
+    more (ceil (n * up d) (down d)) (ceil (m * up e) (down e))
+    (ceil-mono (n * up d) (down d) (m * up e) (down e) (down-pos d) (down-pos e)
+    (plain (m * up e * down d) (n * up d * down e) (le→signed true m e true n d h)))
   where
     plain : (a b : ℕ) → 0 + b ≤ 0 + a → b ≤ a
     plain a b h = omega arith
@@ -135,7 +144,8 @@ floorZ-rises (fin s m e) (fin t n d) p q h =
     (sle→leZ s (wholeOf s (m * up e) (down e)) t (wholeOf t (n * up d) (down d)) (floor-sle s m e t n d h)))
 
 -- ---- the magnitude of `floor`'s result, as a value
-pub ceil-value : (f : Format) (s : Bool) (m : ℕ) (e : ℤ) → T (fits f (fin s m e)) → HasValue (round f s (ceil (m * up e) (down e)) 1) s (ceil (m * up e) (down e)) 1
+pub ceil-value : (f : Format) (s : Bool) (m : ℕ) (e : ℤ) → T (fits f (fin s m e))
+    → HasValue (round f s (ceil (m * up e) (down e)) 1) s (ceil (m * up e) (down e)) 1
 ceil-value f s m (pos a) h = subst (λ (n : ℕ). HasValue (round f s n 1) s n 1) (ap (λ (x : ℕ). x / 1) (sym (plain (m * 2 ^ a)))) (whole-value f s m (pos a) h)
   where
     plain : (x : ℕ) → x + (1 - 1) ≡ x
@@ -145,32 +155,18 @@ ceil-value f s (suc m) (negsuc a) h =
     round-whole f s (ceil (suc m * 1) (2 ^ suc a))
     (le-trans (ceil-le (suc m * 1) (2 ^ suc a) (suc m) (pow-pos (suc a)) (mul-le-mul-left (suc m) (pow-pos (suc a)))) (le-of-lt (small f s m (negsuc a) h)))
 
--- at most its argument
-pub floor-below : (f : Format) (x : Float) → T (finite x) → T (fits f x) → T (le (floor f x) x)
-unfolding floor
-floor-below f (fin false m e) p h =
-    le-of-values (round f false (m * up e / down e) 1) (fin false m e) (m * up e / down e) 1 (m * up e) (down e) (lit< tt) (down-pos e) (whole-value f false m e h) (refl, refl)
-    (le-trans (div-mul-le-self (m * up e) (down e)) (le-of-eq (sym (mul-one (m * up e)))))
-floor-below f (fin true m e) p h =
-    let c = ceil (m * up e) (down e) in
-    subst (λ (v : Float). T (le v (fin true m e))) (sym (round-neg f c 1))
-    (negated m e (round f false c 1)
-    (le-of-values (fin false m e) (round f false c 1) (m * up e) (down e) c 1 (down-pos e) (lit< tt) (refl, refl) (ceil-value f false m e (fits-plain f true m e h))
-    (le-trans (le-of-eq (mul-one (m * up e))) (le-ceil (m * up e) (down e) (down-pos e)))))
-  where
-    negated : (m : ℕ) (e : ℤ) (y : Float) → T (le (fin false m e) y) → T (le (neg y) (fin true m e))
-    negated m e y h = unfold neg in le-neg (fin false m e) y h
-
 -- ---- read as an integer, where it is not past the end
 pub signed-of : (h : ℕ) (x : Float) (s : Bool) (n : ℕ) → HasValue x s n 1 → n < 2 ^ h → toSigned h x ≡ cond s (negℤ (pos n)) (pos n)
 unfolding toSigned
 signed-of h (fin true m e) s n v l =
-    ap (λ (k : ℕ). negℤ (pos (min k (2 ^ h)))) (ap (λ (k : ℕ). k / down e) (sym (mul-one (m * up e)) ∙ v .1) ∙ mul-div-cancel n (down-pos e)) ∙ ap (λ (k : ℕ). negℤ (pos k)) (cap n (2 ^ h) l) ∙ ap (λ (b : Bool). cond b (negℤ (pos n)) (pos n)) (v .0)
+    ap (λ (k : ℕ). negℤ (pos (min k (2 ^ h)))) (ap (λ (k : ℕ). k / down e) (sym (mul-one (m * up e)) ∙ v .1) ∙ mul-div-cancel n (down-pos e))
+    ∙ ap (λ (k : ℕ). negℤ (pos k)) (cap n (2 ^ h) l) ∙ ap (λ (b : Bool). cond b (negℤ (pos n)) (pos n)) (v .0)
   where
     cap : (n c : ℕ) → n < c → min n c ≡ n
     cap n c h = omega arith
 signed-of h (fin false m e) s n v l =
-    ap (λ (k : ℕ). pos (min k (2 ^ h - 1))) (ap (λ (k : ℕ). k / down e) (sym (mul-one (m * up e)) ∙ v .1) ∙ mul-div-cancel n (down-pos e)) ∙ ap pos (cap n (2 ^ h) l) ∙ ap (λ (b : Bool). cond b (negℤ (pos n)) (pos n)) (v .0)
+    ap (λ (k : ℕ). pos (min k (2 ^ h - 1))) (ap (λ (k : ℕ). k / down e) (sym (mul-one (m * up e)) ∙ v .1) ∙ mul-div-cancel n (down-pos e))
+    ∙ ap pos (cap n (2 ^ h) l) ∙ ap (λ (b : Bool). cond b (negℤ (pos n)) (pos n)) (v .0)
   where
     cap : (n c : ℕ) → n < c → min n (c - 1) ≡ n
     cap n c h = omega arith
@@ -230,7 +226,9 @@ least = refl
 signed-whole : (s : Bool) (a : ℕ) → T (le bottom (round binary64 s a 1)) → T (le (round binary64 s a 1) ceiling) → Whole s a
 signed-whole false a l h = elim (decide a 2147483648) [
   | inl k ↦ (signed-of 31 (round binary64 false a 1) false a (round-whole binary64 false a (big a k)) k, k)
-  | inr k ↦ absurd (too-high (le-through (round binary64 false 2147483648 1) (round binary64 false a 1) ceiling (round-mono binary64 2147483648 1 a 1 (lit< tt) (lit< tt) (mul-le-mul-right 1 k)) h))
+  | inr k ↦ absurd (too-high
+      (le-through (round binary64 false 2147483648 1) (round binary64 false a 1) ceiling
+      (round-mono binary64 2147483648 1 a 1 (lit< tt) (lit< tt) (mul-le-mul-right 1 k)) h))
 ]
   where
     big : (a : ℕ) → a < 2147483648 → a ≤ 2 ^ 53
@@ -239,7 +237,9 @@ signed-whole true a l h = elim (decide a 2147483648) [
   | inl k ↦ (signed-of 31 (round binary64 true a 1) true a (round-whole binary64 true a (big a k)) k, small a k)
   | inr k ↦ elim (decide a 2147483649) [
     | inl j ↦ subst (λ (n : ℕ). Whole true n) (same a k j) (least, lit< tt)
-    | inr j ↦ absurd (too-low (le-through bottom (round binary64 true a 1) (round binary64 true 2147483649 1) l (round-rises binary64 true a true 2147483649 1 (lit< tt) (omega arith))))
+    | inr j ↦ absurd (too-low
+        (le-through bottom (round binary64 true a 1) (round binary64 true 2147483649 1) l
+        (round-rises binary64 true a true 2147483649 1 (lit< tt) (omega arith))))
   ]
 ]
   where
@@ -259,7 +259,8 @@ unfolding add
 add-unit f (fin t k g) s n v =
     ap (λ (o : Bool). sum f o (k * up g * 1) false (1 * 1 * down g) (down g * 1)) (v .0)
     ∙ sum-same f s false (k * up g * 1) (1 * 1 * down g) (down g * 1) n 1 1 (mul-pos (down-pos g) (lit< tt)) (lit< tt)
-    (mul-one (k * up g * 1) ∙ v .1 ∙ ap (λ (x : ℕ). n * x) (sym (mul-one (down g)))) (mul-one (1 * 1 * down g) ∙ one-mul (down g) ∙ sym (mul-one (down g)) ∙ sym (one-mul (down g * 1)))
+    (mul-one (k * up g * 1) ∙ v .1 ∙ ap (λ (x : ℕ). n * x) (sym (mul-one (down g))))
+    (mul-one (1 * 1 * down g) ∙ one-mul (down g) ∙ sym (mul-one (down g)) ∙ sym (one-mul (down g * 1)))
 add-unit f nan s n v = absurd v
 add-unit f (inf t) s n v = absurd v
 
@@ -293,14 +294,18 @@ unfolding le
 unit-le = tt
 
 -- floor + 1 is in range: floor is small enough for the sum to be exact
-near : (s : Bool) (n : ℕ) → T (finite (round binary64 s n 1)) → T (le bottom (add binary64 (round binary64 s n 1) unit)) → T (le (add binary64 (round binary64 s n 1) unit) ceiling) → n ≤ 2 ^ 53
+near : (s : Bool) (n : ℕ) → T (finite (round binary64 s n 1)) → T (le bottom (add binary64 (round binary64 s n 1) unit))
+    → T (le (add binary64 (round binary64 s n 1) unit) ceiling) → n ≤ 2 ^ 53
 near s n p l h = elim (decide 4294967296 n) [ inl k ↦ absurd (go s p l h k) | inr k ↦ le-trans k (lit≤ tt) ]
   where
-    go : (s : Bool) → T (finite (round binary64 s n 1)) → T (le bottom (add binary64 (round binary64 s n 1) unit)) → T (le (add binary64 (round binary64 s n 1) unit) ceiling) → 4294967296 < n → ⊥
+    go : (s : Bool) → T (finite (round binary64 s n 1)) → T (le bottom (add binary64 (round binary64 s n 1) unit))
+        → T (le (add binary64 (round binary64 s n 1) unit) ceiling) → 4294967296 < n → ⊥
     go false p l h k = far-high (le-through (add binary64 (round binary64 false 4294967296 1) unit) (add binary64 (round binary64 false n 1) unit) ceiling
-        (add-rises binary64 (round binary64 false 4294967296 1) (round binary64 false n 1) unit unit (far-real false) p tt tt (round-rises binary64 false 4294967296 false n 1 (lit< tt) (omega arith)) unit-le) h)
+        (add-rises binary64 (round binary64 false 4294967296 1) (round binary64 false n 1) unit unit (far-real false) p tt tt
+        (round-rises binary64 false 4294967296 false n 1 (lit< tt) (omega arith)) unit-le) h)
     go true p l h k = far-low (le-through bottom (add binary64 (round binary64 true n 1) unit) (add binary64 (round binary64 true 4294967296 1) unit) l
-        (add-rises binary64 (round binary64 true n 1) (round binary64 true 4294967296 1) unit unit p (far-real true) tt tt (round-rises binary64 true n true 4294967296 1 (lit< tt) (omega arith)) unit-le))
+        (add-rises binary64 (round binary64 true n 1) (round binary64 true 4294967296 1) unit unit p (far-real true) tt tt
+        (round-rises binary64 true n true 4294967296 1 (lit< tt) (omega arith)) unit-le))
 
 signed-next : (s : Bool) (n : ℕ) (z : ℤ) → Taken (add binary64 (round binary64 s n 1) unit) z → (z ≡ sucℤ (signedOf s n)) × (mag z < 2 ^ 31)
 signed-next s n z h =
@@ -346,7 +351,8 @@ one-is = refl
 
 -- floor + 1
 pub high-end : (w : Float) (z : ℤ) → coordinate (add binary64 (floor binary64 w) (ofInt binary64 (pos 1))) ≡ ok z → End w z (sucℤ (floorZ w))
-high-end w z e = high-taken w z (taken (add binary64 (floor binary64 w) unit) z (ap (λ (o : Float). coordinate (add binary64 (floor binary64 w) o)) (sym one-is) ∙ e))
+high-end w z e =
+    high-taken w z (taken (add binary64 (floor binary64 w) unit) z (ap (λ (o : Float). coordinate (add binary64 (floor binary64 w) o)) (sym one-is) ∙ e))
 
 -- a whole number between two of 32 bits has 32 bits
 pub mag-between : (l z h : ℤ) (H : ℕ) → T (leZ l z) → T (leZ z h) → mag l < H → mag h < H → mag z < H

@@ -1,9 +1,6 @@
 -- What `lib.Ieee` lacks of IEEE 754: the fused multiply-add, a value brought to binary32, and a value without its fraction.
-use Prim.Native.Nat.{ℕ, _+_, _-_, _*_, _/_, _%_, _^_, _≤_, _<_}
-use mathlib.Core.Path.{_≡_}
-use lib.Dec.{eqb}
-use mathlib.Core.Bool.{Bool, true, false, cond}
-use lib.IntN.{ℤ}
+use Prim.Native.Nat.{ℕ, _+_, _-_, _*_, _/_}
+use mathlib.Core.Bool.{Bool, true, false}
 use lib.Ieee.{Float, nan, inf, fin, Format, binary32, unlike, up, down, round, sum, add, mul}
 
 -- ±a / c + z, rounded once

@@ -1,4 +1,5 @@
--- What lies between two finite numbers stays between them under `sub`, `mul` and `mul_add` by a factor that is not negative. And a finite result has finite operands.
+-- What lies between two finite numbers stays between them under `sub`, `mul` and `mul_add` by a factor that is not negative.
+-- And a finite result has finite operands.
 use mathlib.Core.Path.{_≡_, sym, _∙_}
 use mathlib.Core.Logic.{_⊎_, inl, inr}
 use Prim.Native.Nat.{_*_}
@@ -11,7 +12,7 @@ use lib.Ieee.Scale.{finite}
 use Rattle.float.specs.Zero.{+0}
 use Rattle.float.specs.Fused.{fma, plus}
 use Rattle.float.specs.Rising.{finite-between, unsigned, sub-rises, fma-rises}
-use Rattle.float.specs.Zeros.{isZero, zero-le-zero, mul-zero-right, mul-rises, fma-zero-rises, zero-finite}
+use Rattle.float.specs.Zeros.{isZero, zero-le-zero, mul-zero-right, mul-rises, fma-zero-rises}
 use Rattle.float.specs.Ordered.{le-same}
 
 -- ---- a finite result has finite operands
@@ -96,7 +97,10 @@ unfolding eq
 equals-zero nan h = h
 equals-zero (inf s) h = h
 equals-zero (fin s m e) h =
-    eq→eqb (eq-of-mul-eq-mul-right (up e) (up-pos e) m 0 (sym (mul-one (m * up e)) ∙ eqb→eq (m * up e * 1) (0 * 1 * down e) (and-l (eqb (m * up e * 1) (0 * 1 * down e)) (Bool·beq s false || eqb (m * up e * 1) 0) h) ∙ zero-mul (down e) ∙ sym (zero-mul (up e))))
+    eq→eqb (eq-of-mul-eq-mul-right (up e) (up-pos e) m 0
+    (sym (mul-one (m * up e))
+    ∙ eqb→eq (m * up e * 1) (0 * 1 * down e) (and-l (eqb (m * up e * 1) (0 * 1 * down e)) (Bool·beq s false || eqb (m * up e * 1) 0) h)
+    ∙ zero-mul (down e) ∙ sym (zero-mul (up e))))
 
 pub le-self : (x : Float) → T (finite x) → T (le x x)
 unfolding isNan
@@ -107,7 +111,8 @@ pub sub-mono : (f : Format) (x y t : Float) → T (finite x) → T (finite y) �
 sub-mono f x y t p q r h = sub-rises f x y t t p q r r h (le-self t r)
 
 -- the same amount taken from all three
-pub mid-sub : (f : Format) (x y z t : Float) → Mid x y z → T (finite t) → T (finite (sub f x t)) → T (finite (sub f z t)) → Mid (sub f x t) (sub f y t) (sub f z t)
+pub mid-sub : (f : Format) (x y z t : Float) → Mid x y z → T (finite t) → T (finite (sub f x t)) → T (finite (sub f z t))
+    → Mid (sub f x t) (sub f y t) (sub f z t)
 mid-sub f x y z t h p a b = mid (sub f x t) (sub f y t) (sub f z t) a b
     (sub-mono f x y t (h .first) (h .real) p (h .rise)) (sub-mono f y z t (h .real) (h .last) p (h .on))
 
@@ -117,17 +122,18 @@ factor-mul-rises f x y r p q (inr o) h = zero-le-zero (mul f x r) (mul f y r) (m
 
 -- all three by one factor
 pub mid-mul : (f : Format) (x y z r : Float) → Mid x y z → Factor r → T (finite (mul f x r)) → T (finite (mul f z r)) → Mid (mul f x r) (mul f y r) (mul f z r)
-mid-mul f x y z r h u a b = mid (mul f x r) (mul f y r) (mul f z r) a b (factor-mul-rises f x y r (h .first) (h .real) u (h .rise)) (factor-mul-rises f y z r (h .real) (h .last) u (h .on))
+mid-mul f x y z r h u a b =
+    mid (mul f x r) (mul f y r) (mul f z r) a b (factor-mul-rises f x y r (h .first) (h .real) u (h .rise))
+    (factor-mul-rises f y z r (h .real) (h .last) u (h .on))
 
-factor-fma-rises : (f : Format) (x y r v w : Float) → T (finite x) → T (finite y) → Factor r → T (finite v) → T (finite w) → T (le x y) → T (le v w) → T (le (fma f x r v) (fma f y r w))
+factor-fma-rises : (f : Format) (x y r v w : Float) → T (finite x) → T (finite y) → Factor r → T (finite v) → T (finite w) → T (le x y) → T (le v w)
+    → T (le (fma f x r v) (fma f y r w))
 factor-fma-rises f x y r v w p q (inl u) a b h k = fma-rises f x y r v w p q u a b h k
 factor-fma-rises f x y r v w p q (inr o) a b h k = fma-zero-rises f x y r r v w p q o o a b k
 
 -- all three by one factor, with three in order added
-pub mid-fma : (f : Format) (x y z r u v w : Float) → Mid x y z → Factor r → Mid u v w → T (finite (fma f x r u)) → T (finite (fma f z r w)) → Mid (fma f x r u) (fma f y r v) (fma f z r w)
+pub mid-fma : (f : Format) (x y z r u v w : Float) → Mid x y z → Factor r → Mid u v w → T (finite (fma f x r u)) → T (finite (fma f z r w))
+    → Mid (fma f x r u) (fma f y r v) (fma f z r w)
 mid-fma f x y z r u v w h o k a b = mid (fma f x r u) (fma f y r v) (fma f z r w) a b
-    (factor-fma-rises f x y r u v (h .first) (h .real) o (k .first) (k .real) (h .rise) (k .rise)) (factor-fma-rises f y z r v w (h .real) (h .last) o (k .real) (k .last) (h .on) (k .on))
-
--- x * r with a zero of either sign added, for an r above 0
-pub scale-mono : (f : Format) (x y r z : Float) → T (finite x) → T (finite y) → T (finite r) → lt +0 r ≡ true → T (isZero z) → T (le x y) → T (le (fma f x r z) (fma f y r z))
-scale-mono f x y r z p q k o n h = fma-rises f x y r z z p q (positive-unsigned r k o) (zero-finite z n) (zero-finite z n) h (zero-le-zero z z n n)
+    (factor-fma-rises f x y r u v (h .first) (h .real) o (k .first) (k .real) (h .rise) (k .rise))
+    (factor-fma-rises f y z r v w (h .real) (h .last) o (k .real) (k .last) (h .on) (k .on))

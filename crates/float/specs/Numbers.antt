@@ -1,10 +1,10 @@
--- What a result can be: each fits its format, and sums, differences and products of finite numbers are no NaN.
+-- What a result can be: each fits its format, and a sum of finite numbers is no NaN.
 use mathlib.Core.Path.{_≡_, refl, ap, _∙_}
 use Prim.Native.Nat.{ℕ, zero, suc, _+_, _-_, _*_, _/_, _^_}
 use mathlib.Core.Bool.{Bool, true, false, _&&_, Bool·beq, cond}
 use lib.IntN.{ℤ}
 use lib.Dec.{T, ltb}
-use lib.Ieee.{Float, nan, inf, fin, Format, binary32, prec, emax, low, up, down, unlike, odd, units, round, sum, neg, add, sub, mul, fits, isNan}
+use lib.Ieee.{Float, nan, inf, fin, Format, binary32, prec, emax, low, up, down, unlike, odd, units, round, sum, add, mul, fits, isNan}
 use lib.Ieee.Fits.{round-is, round-fits, cond-fits, nan-fits, inf-fits, add-fits}
 use lib.Ieee.Order.{drop, kept}
 use lib.Ieee.Scale.{finite}
@@ -34,35 +34,10 @@ sum-number f s a t b c = go (Bool·beq s t) (ltb a b)
     go false true = round-number f t (b - a) c
     go false false = round-number f (s && ltb b a) (a - b) c
 
--- a sum, a difference, a product and a `mul_add` of finite numbers
+-- a sum of finite numbers
 pub add-number : (f : Format) (x y : Float) → T (finite x) → T (finite y) → isNan (add f x y) ≡ false
 unfolding add
 add-number f (fin s m e) (fin t n d) p q = sum-number f s (m * up e * down d) t (n * up d * down e) (down e * down d)
-
-pub sub-number : (f : Format) (x y : Float) → T (finite x) → T (finite y) → isNan (sub f x y) ≡ false
-unfolding sub neg
-sub-number f x (fin t n d) p q = add-number f x (neg (fin t n d)) p tt
-
-pub mul-number : (f : Format) (x y : Float) → T (finite x) → T (finite y) → isNan (mul f x y) ≡ false
-unfolding mul
-mul-number f (fin s m e) (fin t n d) p q = round-number f (unlike s t) (m * up e * (n * up d)) (down e * down d)
-
-pub fma-number : (f : Format) (x y z : Float) → T (finite x) → T (finite y) → T (finite z) → isNan (fma f x y z) ≡ false
-unfolding fma plus
-fma-number f (fin s m e) (fin t n d) (fin u k g) p q r = sum-number f (unlike s t) (m * up e * (n * up d) * down g) u (k * up g * (down e * down d)) (down e * down d * down g)
-
--- `trunc` and `narrow` of a number are numbers
-pub trunc-nan-only : (f : Format) (x : Float) → isNan (trunc f x) ≡ isNan x
-unfolding trunc isNan
-trunc-nan-only f nan = refl
-trunc-nan-only f (inf s) = refl
-trunc-nan-only f (fin s m e) = round-number f s (m * up e / down e) 1
-
-pub narrow-nan-only : (x : Float) → isNan (narrow x) ≡ isNan x
-unfolding narrow isNan
-narrow-nan-only nan = refl
-narrow-nan-only (inf s) = refl
-narrow-nan-only (fin s m e) = round-number binary32 s (m * up e) (down e)
 
 -- ---- each fits
 pub trunc-fits : (f : Format) (x : Float) → T (fits f (trunc f x))
@@ -98,7 +73,8 @@ fma-fits f (fin s m e) nan z = nan-fits f
 fma-fits f (fin s m e) (inf t) z = add-fits f (mul f (fin s m e) (inf t)) z
 fma-fits f (fin s m e) (fin t n d) nan = nan-fits f
 fma-fits f (fin s m e) (fin t n d) (inf u) = inf-fits f u
-fma-fits f (fin s m e) (fin t n d) (fin u k g) = sum-fits f (unlike s t) (m * up e * (n * up d) * down g) u (k * up g * (down e * down d)) (down e * down d * down g)
+fma-fits f (fin s m e) (fin t n d) (fin u k g) =
+    sum-fits f (unlike s t) (m * up e * (n * up d) * down g) u (k * up g * (down e * down d)) (down e * down d * down g)
 
 -- the sign does not matter
 pub fits-plain : (f : Format) (s : Bool) (m : ℕ) (e : ℤ) → T (fits f (fin s m e)) → T (fits f (fin false m e))

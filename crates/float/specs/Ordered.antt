@@ -55,10 +55,14 @@ sle→not-below true A false B h = is-false (ltb 0 (A + B)) (λ t. omega (arith,
 sle→not-below true A true B h = is-false (ltb B A) (λ t. omega (arith, ltb→lt B A t))
 
 sle-unscale : (s : Bool) (a : ℕ) (t : Bool) (b k : ℕ) → 0 < k → Sle s (a * k) t (b * k) → Sle s a t b
-sle-unscale false a false b k K h = le-of-mul-le-mul-right (le-trans (le-of-eq (add-mul a 0 k ∙ ap (λ (x : ℕ). a * k + x) (zero-mul k))) (le-trans h (le-of-eq (sym (add-mul b 0 k ∙ ap (λ (x : ℕ). b * k + x) (zero-mul k)))))) K
+sle-unscale false a false b k K h =
+    le-of-mul-le-mul-right (le-trans (le-of-eq (add-mul a 0 k ∙ ap (λ (x : ℕ). a * k + x) (zero-mul k)))
+    (le-trans h (le-of-eq (sym (add-mul b 0 k ∙ ap (λ (x : ℕ). b * k + x) (zero-mul k)))))) K
 sle-unscale false a true b k K h = le-of-mul-le-mul-right (le-trans (le-of-eq (add-mul a b k)) (le-trans h zero-le)) K
 sle-unscale true a false b k K h = zero-le
-sle-unscale true a true b k K h = le-of-mul-le-mul-right (le-trans (le-of-eq (add-mul 0 b k ∙ ap (λ (x : ℕ). x + b * k) (zero-mul k))) (le-trans h (le-of-eq (sym (add-mul 0 a k ∙ ap (λ (x : ℕ). x + a * k) (zero-mul k)))))) K
+sle-unscale true a true b k K h =
+    le-of-mul-le-mul-right (le-trans (le-of-eq (add-mul 0 b k ∙ ap (λ (x : ℕ). x + b * k) (zero-mul k)))
+    (le-trans h (le-of-eq (sym (add-mul 0 a k ∙ ap (λ (x : ℕ). x + a * k) (zero-mul k)))))) K
 
 sle-trans : (s : Bool) (a : ℕ) (t : Bool) (b : ℕ) (u : Bool) (c : ℕ) → Sle s a t b → Sle t b u c → Sle s a u c
 sle-trans s a t b u c h k = through (over s a) (under s a) (over t b) (under t b) (over u c) (under u c) h k
@@ -104,8 +108,11 @@ le-through (fin s m e) (fin t n d) (inf false) h k = tt
 le-through (fin s m e) (fin t n d) (fin u l g) h k =
     sle→le s (m * up e * down g) u (l * up g * down e) (sle-unscale s (m * up e * down g) u (l * up g * down e) (down d) (down-pos d)
     (sle-trans s (m * up e * down g * down d) t (n * up d * down e * down g) u (l * up g * down e * down d)
-    (subst (λ (x : ℕ). Sle s x t (n * up d * down e * down g)) (turn (m * up e) (down d) (down g)) (sle-scale s (m * up e * down d) t (n * up d * down e) (down g) (le→signed s m e t n d h)))
-    (subst (λ (x : ℕ). Sle t x u (l * up g * down e * down d)) (turn (n * up d) (down g) (down e)) (subst (λ (x : ℕ). Sle t (n * up d * down g * down e) u x) (turn (l * up g) (down d) (down e)) (sle-scale t (n * up d * down g) u (l * up g * down d) (down e) (le→signed t n d u l g k))))))
+    (subst (λ (x : ℕ). Sle s x t (n * up d * down e * down g)) (turn (m * up e) (down d) (down g))
+    (sle-scale s (m * up e * down d) t (n * up d * down e) (down g) (le→signed s m e t n d h)))
+    (subst (λ (x : ℕ). Sle t x u (l * up g * down e * down d)) (turn (n * up d) (down g) (down e))
+    (subst (λ (x : ℕ). Sle t (n * up d * down g * down e) u x) (turn (l * up g) (down d) (down e))
+    (sle-scale t (n * up d * down g) u (l * up g * down d) (down e) (le→signed t n d u l g k))))))
   where
     turn : (X a b : ℕ) → X * a * b ≡ X * b * a
     turn X a b = mul-right-comm X a b
@@ -215,7 +222,8 @@ lt-through x y z h k = go (lt x z) refl
     go false e = sym (not-lt-through y x z (number-l x y (lt-le x y h)) (lt-turned x y h) e) ∙ k
 
 -- ---- v lies between the first and the last of a row of numbers, and so between two that stand side by side
-pub found : (f : ℕ → Float) (v : Float) (n : ℕ) → T (not (isNan v)) → ((k : ℕ) → k ≤ suc n → T (not (isNan (f k)))) → T (le (f 0) v) → T (le v (f (suc n))) → (k : ℕ) × (k < suc n) × T (le (f k) v) × T (le v (f (suc k)))
+pub found : (f : ℕ → Float) (v : Float) (n : ℕ) → T (not (isNan v)) → ((k : ℕ) → k ≤ suc n → T (not (isNan (f k)))) → T (le (f 0) v)
+    → T (le v (f (suc n))) → (k : ℕ) × (k < suc n) × T (le (f k) v) × T (le v (f (suc k)))
 found f v zero p q h k = (0, lit< tt, h, k)
 found f v (suc n) p q h k = go (le (f (suc n)) v) refl (found f v n p (λ i l. q i (more i (suc n) l)) h)
   where
@@ -228,7 +236,8 @@ found f v (suc n) p q h k = go (le (f (suc n)) v) refl (found f v n p (λ i l. q
     grown : (i n : ℕ) → i < suc n → i < suc (suc n)
     grown i n h = omega arith
 
-    go : (b : Bool) → le (f (suc n)) v ≡ b → (T (le v (f (suc n))) → (k : ℕ) × (k < suc n) × T (le (f k) v) × T (le v (f (suc k)))) → (k : ℕ) × (k < suc (suc n)) × T (le (f k) v) × T (le v (f (suc k)))
+    go : (b : Bool) → le (f (suc n)) v ≡ b → (T (le v (f (suc n))) → (k : ℕ) × (k < suc n) × T (le (f k) v) × T (le v (f (suc k))))
+        → (k : ℕ) × (k < suc (suc n)) × T (le (f k) v) × T (le v (f (suc k)))
     go true e r = (suc n, last n, yes e, k)
     go false e r =
         let (i, l, a, b) = r (not-le→le (f (suc n)) v (q (suc n) (le-suc (suc n))) p e) in

@@ -1,7 +1,7 @@
 -- From a pattern to its value and back.
 use mathlib.Core.Path.{_≡_, refl, sym, ap, _∙_}
 use Prim.Native.Nat.{ℕ, _+_, _*_, _/_, _%_, _≤_, _<_}
-use mathlib.Core.Bool.{Bool, true, false, not, false≢true}
+use mathlib.Core.Bool.{true, false, not, false≢true}
 use lib.Dec.{T}
 use lib.Ieee.{Float, nan, inf, fin, Format, binary32, binary64, hid, ones, top, div, fits, isNan, nanBits, ofBits, toBits}
 use lib.Ieee.Bits.{ofBits-toBits, toBits-ofBits, nanBits-is, nanBits-above}

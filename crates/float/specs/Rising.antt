@@ -1,9 +1,11 @@
--- Rounding, sums, `sub`, `mul_add` and `narrow` keep the order, with signs: of two finite values the larger gives a result that is no smaller. Zeros of either sign are equal.
+-- Rounding, sums, `sub` and `mul_add` keep the order, with signs: of two finite values the larger gives a result that is no smaller.
+-- Zeros of either sign are equal.
 use lib.Count.{trailingZeros}
 use mathlib.Core.Path.{_≡_, refl, sym, ap, _∙_, subst}
 use mathlib.Core.Logic.{_⊎_, inl, inr}
 use Prim.Native.Nat.{ℕ, zero, suc, _+_, _-_, _*_, _/_, _^_, _≤_, _<_, zero-le}
-use native.Mathlib.Nat.{le-trans, le-of-eq, eq-or-lt-of-le, mul-comm, mul-assoc, mul-left-comm, mul-le-mul-right, mul-pos, add-mul, zero-mul, le-of-lt, zero-lt-suc}
+use native.Mathlib.Nat.{le-trans, le-of-eq, eq-or-lt-of-le, mul-comm, mul-assoc, mul-left-comm, mul-le-mul-right, mul-pos, add-mul, zero-mul}
+use native.Mathlib.Nat.{le-of-lt, zero-lt-suc}
 use native.Mathlib.Omega.{arith}
 use mathlib.Core.Bool.{_||_, Bool, true, false, not, _&&_, cond}
 use lib.IntN.{ℤ, pos}
@@ -13,7 +15,7 @@ use lib.Ieee.Fits.{round-is, down-pos, and-i, and-l, and-r}
 use lib.Ieee.Order.{round-mono, drop, kept}
 use lib.Ieee.Scale.{finite, round-same}
 use Rattle.float.specs.Tests.{or-l, or-r, or-split}
-use Rattle.float.specs.Fused.{plus, fma, narrow}
+use Rattle.float.specs.Fused.{plus, fma}
 use Rattle.float.specs.Sums.{sum-alike, sum-above, sum-below, sum-level, sum-same, order, below, level, above}
 
 -- ---- the sign of what `round` makes
@@ -53,12 +55,18 @@ le-of : (a b : ℕ) → T (ltb a b || (eqb a b && true)) → a ≤ b
 le-of a b t = elim (or-split (ltb a b) (eqb a b && true) t) [ inl x ↦ le-of-lt (ltb→lt a b x) | inr x ↦ le-of-eq (eqb→eq a b (and-l (eqb a b) true x)) ]
 
 of-le : (a b : ℕ) → a ≤ b → T (ltb a b || (eqb a b && true))
-of-le a b h = elim (eq-or-lt-of-le h) [ inl p ↦ or-r (ltb a b) (eqb a b && true) (and-i (eqb a b) true (subst (λ (x : ℕ). T (eqb a x)) p (eqb-refl a)) tt) | inr q ↦ or-l (ltb a b) (eqb a b && true) (lt→ltb a b q) ]
+of-le a b h =
+    elim (eq-or-lt-of-le h) [
+      | inl p ↦ or-r (ltb a b) (eqb a b && true)
+          (and-i (eqb a b) true (subst (λ (x : ℕ). T (eqb a x)) p (eqb-refl a)) tt)
+      | inr q ↦ or-l (ltb a b) (eqb a b && true) (lt→ltb a b q)
+    ]
 
 -- `le` of two finite values
 pub le→signed : (s : Bool) (m : ℕ) (e : ℤ) (t : Bool) (n : ℕ) (d : ℤ) → T (le (fin s m e) (fin t n d)) → Sle s (m * up e * down d) t (n * up d * down e)
 unfolding le lt eq
-le→signed false m e false n d h = le-trans (le-of-eq (zero-r (m * up e * down d))) (le-trans (le-of (m * up e * down d) (n * up d * down e) h) (le-of-eq (sym (zero-r (n * up d * down e)))))
+le→signed false m e false n d h =
+    le-trans (le-of-eq (zero-r (m * up e * down d))) (le-trans (le-of (m * up e * down d) (n * up d * down e) h) (le-of-eq (sym (zero-r (n * up d * down e)))))
   where
     zero-r : (a : ℕ) → a + 0 ≡ a
     zero-r a = omega arith
@@ -72,7 +80,9 @@ le→signed false m e true n d h =
     both : (X Y : ℕ) → X ≡ 0 → X ≡ Y → X + Y ≤ 0 + 0
     both X Y a b = omega arith
 le→signed true m e false n d h = zero-le
-le→signed true m e true n d h = flip (m * up e * down d) (n * up d * down e) (or-split (ltb (n * up d * down e) (m * up e * down d)) (eqb (m * up e * down d) (n * up d * down e) && true) h)
+le→signed true m e true n d h =
+    flip (m * up e * down d) (n * up d * down e)
+    (or-split (ltb (n * up d * down e) (m * up e * down d)) (eqb (m * up e * down d) (n * up d * down e) && true) h)
   where
     flip : (X Y : ℕ) → T (ltb Y X) ⊎ T (eqb X Y && true) → 0 + Y ≤ 0 + X
     flip X Y (inl t) = omega (arith, ltb→lt Y X t)
@@ -95,7 +105,12 @@ le-neg (fin s m e) (inf false) h = tt
 le-neg (fin false m e) (fin false n d) h = of-neg (m * up e * down d) (n * up d * down e) (le-of (m * up e * down d) (n * up d * down e) h)
   where
     of-neg : (X Y : ℕ) → X ≤ Y → T (ltb X Y || (eqb Y X && true))
-    of-neg X Y h = elim (eq-or-lt-of-le h) [ inl p ↦ or-r (ltb X Y) (eqb Y X && true) (and-i (eqb Y X) true (subst (λ (x : ℕ). T (eqb Y x)) (sym p) (eqb-refl Y)) tt) | inr q ↦ or-l (ltb X Y) (eqb Y X && true) (lt→ltb X Y q) ]
+    of-neg X Y h =
+        elim (eq-or-lt-of-le h) [
+          | inl p ↦ or-r (ltb X Y) (eqb Y X && true)
+              (and-i (eqb Y X) true (subst (λ (x : ℕ). T (eqb Y x)) (sym p) (eqb-refl Y)) tt)
+          | inr q ↦ or-l (ltb X Y) (eqb Y X && true) (lt→ltb X Y q)
+        ]
 le-neg (fin false m e) (fin true n d) h = zeros (m * up e * down d) (n * up d * down e) (le→signed false m e true n d h)
   where
     zeros : (X Y : ℕ) → X + Y ≤ 0 + 0 → T (false || (eqb Y X && (false || eqb Y 0)))
@@ -129,11 +144,14 @@ negative-le f q j r k = go q r (ltb (q * 2 ^ j) (2 ^ (low f + suc (emax f)))) (l
     fins : (m : ℕ) (e : ℤ) (n : ℕ) (d : ℤ) → T (le (fin true m e) (fin false n d))
     fins m e n d = apart (m * up e * down d) (n * up d * down e)
 
-    go : (q r : ℕ) (a b : Bool) → T (le (neg (cond a (odd (suc (prec f)) false q j (low f)) (inf false))) (cond b (odd (suc (prec f)) false r k (low f)) (inf false)))
+    go : (q r : ℕ) (a b : Bool)
+        → T (le (neg (cond a (odd (suc (prec f)) false q j (low f)) (inf false))) (cond b (odd (suc (prec f)) false r k (low f)) (inf false)))
     go zero zero true true = tt
     go zero (suc r) true true = fins 0 (pos 0) (suc r / 2 ^ trailingZeros (suc (prec f)) (suc r)) (minus (k + trailingZeros (suc (prec f)) (suc r)) (low f))
     go (suc q) zero true true = fins (suc q / 2 ^ trailingZeros (suc (prec f)) (suc q)) (minus (j + trailingZeros (suc (prec f)) (suc q)) (low f)) 0 (pos 0)
-    go (suc q) (suc r) true true = fins (suc q / 2 ^ trailingZeros (suc (prec f)) (suc q)) (minus (j + trailingZeros (suc (prec f)) (suc q)) (low f)) (suc r / 2 ^ trailingZeros (suc (prec f)) (suc r)) (minus (k + trailingZeros (suc (prec f)) (suc r)) (low f))
+    go (suc q) (suc r) true true =
+        fins (suc q / 2 ^ trailingZeros (suc (prec f)) (suc q)) (minus (j + trailingZeros (suc (prec f)) (suc q)) (low f))
+        (suc r / 2 ^ trailingZeros (suc (prec f)) (suc r)) (minus (k + trailingZeros (suc (prec f)) (suc r)) (low f))
     go zero r true false = tt
     go (suc q) r true false = tt
     go q zero false true = tt
@@ -166,7 +184,8 @@ round-rises f false a false b c C h = round-mono f a c b c C C (mul-le-mul-right
 round-rises f false a true b c C h =
     let x : a ≡ 0 = omega arith in
     let y : b ≡ 0 = omega arith in
-    subst (λ (z : ℕ). T (le (round f false z c) (round f true b c))) (sym x) (subst (λ (z : ℕ). T (le (round f false 0 c) (round f true z c))) (sym y) (round-zeros f c c C C))
+    subst (λ (z : ℕ). T (le (round f false z c) (round f true b c))) (sym x)
+    (subst (λ (z : ℕ). T (le (round f false 0 c) (round f true z c))) (sym y) (round-zeros f c c C C))
 round-rises f true a false b c C h = round-across f a c b c
 round-rises f true a true b c C h =
     subst (λ (x : Float). T (le x (round f true b c))) (sym (round-neg f a c))
@@ -195,15 +214,24 @@ net f true a false b c = elim (order a b) [
 ]
 
 net-rises : (f : Format) (x y : Float) (P N P' N' c : ℕ) → 0 < c → Net f x P N c → Net f y P' N' c → P + N' ≤ P' + N → T (le x y)
-net-rises f x y P N P' N' c C (μ, inl p) (ν, inl q) h = subst (λ (z : Float). T (le z y)) (sym (p .0)) (subst (λ (z : Float). T (le (round f false μ c) z)) (sym (q .0)) (round-rises f false μ false ν c C (omega arith)))
-net-rises f x y P N P' N' c C (μ, inl p) (ν, inr q) h = subst (λ (z : Float). T (le z y)) (sym (p .0)) (subst (λ (z : Float). T (le (round f false μ c) z)) (sym (q .0)) (round-rises f false μ true ν c C (omega arith)))
-net-rises f x y P N P' N' c C (μ, inr p) (ν, inl q) h = subst (λ (z : Float). T (le z y)) (sym (p .0)) (subst (λ (z : Float). T (le (round f true μ c) z)) (sym (q .0)) (round-rises f true μ false ν c C (omega arith)))
-net-rises f x y P N P' N' c C (μ, inr p) (ν, inr q) h = subst (λ (z : Float). T (le z y)) (sym (p .0)) (subst (λ (z : Float). T (le (round f true μ c) z)) (sym (q .0)) (round-rises f true μ true ν c C (omega arith)))
+net-rises f x y P N P' N' c C (μ, inl p) (ν, inl q) h =
+    subst (λ (z : Float). T (le z y)) (sym (p .0))
+    (subst (λ (z : Float). T (le (round f false μ c) z)) (sym (q .0)) (round-rises f false μ false ν c C (omega arith)))
+net-rises f x y P N P' N' c C (μ, inl p) (ν, inr q) h =
+    subst (λ (z : Float). T (le z y)) (sym (p .0))
+    (subst (λ (z : Float). T (le (round f false μ c) z)) (sym (q .0)) (round-rises f false μ true ν c C (omega arith)))
+net-rises f x y P N P' N' c C (μ, inr p) (ν, inl q) h =
+    subst (λ (z : Float). T (le z y)) (sym (p .0))
+    (subst (λ (z : Float). T (le (round f true μ c) z)) (sym (q .0)) (round-rises f true μ false ν c C (omega arith)))
+net-rises f x y P N P' N' c C (μ, inr p) (ν, inr q) h =
+    subst (λ (z : Float). T (le z y)) (sym (p .0))
+    (subst (λ (z : Float). T (le (round f true μ c) z)) (sym (q .0)) (round-rises f true μ true ν c C (omega arith)))
 
 -- and so does a sum of two of them
 pub sum-rises : (f : Format) (s s' t t' : Bool) (a a' b b' c : ℕ) → 0 < c → Sle s a s' a' → Sle t b t' b' → T (le (sum f s a t b c) (sum f s' a' t' b' c))
 sum-rises f s s' t t' a a' b b' c C h k =
-    net-rises f (sum f s a t b c) (sum f s' a' t' b' c) (over s a + over t b) (under s a + under t b) (over s' a' + over t' b') (under s' a' + under t' b') c C (net f s a t b c) (net f s' a' t' b' c)
+    net-rises f (sum f s a t b c) (sum f s' a' t' b' c) (over s a + over t b) (under s a + under t b) (over s' a' + over t' b')
+    (under s' a' + under t' b') c C (net f s a t b c) (net f s' a' t' b' c)
     (shift (over s a) (under s' a') (over s' a') (under s a) (over t b) (under t' b') (over t' b') (under t b) h k)
   where
     shift : (p n p' n' x y x' y' : ℕ) → p + n ≤ p' + n' → x + y ≤ x' + y' → p + x + (n + y) ≤ p' + x' + (n' + y')
@@ -213,8 +241,12 @@ sum-rises f s s' t t' a a' b b' c C h k =
 
 pub sle-scale : (s : Bool) (a : ℕ) (t : Bool) (b k : ℕ) → Sle s a t b → Sle s (a * k) t (b * k)
 sle-scale s a t b k h =
-    le-trans (le-of-eq (ap (λ (x : ℕ). x + under t (b * k)) (over-mul s a k) ∙ ap (λ (x : ℕ). over s a * k + x) (under-mul t b k) ∙ sym (add-mul (over s a) (under t b) k)))
-    (le-trans (mul-le-mul-right k h) (le-of-eq (add-mul (over t b) (under s a) k ∙ sym (ap (λ (x : ℕ). x + under s (a * k)) (over-mul t b k) ∙ ap (λ (x : ℕ). over t b * k + x) (under-mul s a k)))))
+    le-trans
+    (le-of-eq (ap (λ (x : ℕ). x + under t (b * k)) (over-mul s a k) ∙ ap (λ (x : ℕ). over s a * k + x) (under-mul t b k)
+    ∙ sym (add-mul (over s a) (under t b) k)))
+    (le-trans (mul-le-mul-right k h)
+    (le-of-eq (add-mul (over t b) (under s a) k
+    ∙ sym (ap (λ (x : ℕ). x + under s (a * k)) (over-mul t b k) ∙ ap (λ (x : ℕ). over t b * k + x) (under-mul s a k)))))
   where
     over-mul : (s : Bool) (a k : ℕ) → over s (a * k) ≡ over s a * k
     over-mul false a k = refl
@@ -231,23 +263,29 @@ plus-rises f s s' t t' X e Y d Z g W i E D G I h k =
     let c = e * d * (g * i) in
     let C : 0 < c = mul-pos (mul-pos E D) (mul-pos G I) in
     subst (λ (v : Float). T (le v (sum f s' (Y * i) t' (W * d) (d * i))))
-    (sum-same f s t (X * d * (g * i)) (Z * i * (e * d)) c (X * g) (Z * e) (e * g) C (mul-pos E G) (simp (mul-assoc, mul-comm, mul-left-comm)) (simp (mul-assoc, mul-comm, mul-left-comm)))
+    (sum-same f s t (X * d * (g * i)) (Z * i * (e * d)) c (X * g) (Z * e) (e * g) C (mul-pos E G) (simp (mul-assoc, mul-comm, mul-left-comm))
+    (simp (mul-assoc, mul-comm, mul-left-comm)))
     (subst (λ (v : Float). T (le (sum f s (X * d * (g * i)) t (Z * i * (e * d)) c) v))
-    (sum-same f s' t' (Y * e * (g * i)) (W * g * (e * d)) c (Y * i) (W * d) (d * i) C (mul-pos D I) (simp (mul-assoc, mul-comm, mul-left-comm)) (simp (mul-assoc, mul-comm, mul-left-comm)))
-    (sum-rises f s s' t t' (X * d * (g * i)) (Y * e * (g * i)) (Z * i * (e * d)) (W * g * (e * d)) c C (sle-scale s (X * d) s' (Y * e) (g * i) h) (sle-scale t (Z * i) t' (W * g) (e * d) k)))
+    (sum-same f s' t' (Y * e * (g * i)) (W * g * (e * d)) c (Y * i) (W * d) (d * i) C (mul-pos D I) (simp (mul-assoc, mul-comm, mul-left-comm))
+    (simp (mul-assoc, mul-comm, mul-left-comm)))
+    (sum-rises f s s' t t' (X * d * (g * i)) (Y * e * (g * i)) (Z * i * (e * d)) (W * g * (e * d)) c C (sle-scale s (X * d) s' (Y * e) (g * i) h)
+    (sle-scale t (Z * i) t' (W * g) (e * d) k)))
 
 -- a larger x and a larger z
-pub add-rises : (f : Format) (x y z w : Float) → T (finite x) → T (finite y) → T (finite z) → T (finite w) → T (le x y) → T (le z w) → T (le (add f x z) (add f y w))
+pub add-rises : (f : Format) (x y z w : Float) → T (finite x) → T (finite y) → T (finite z) → T (finite w) → T (le x y) → T (le z w)
+    → T (le (add f x z) (add f y w))
 unfolding add
 add-rises f (fin s m e) (fin t n d) (fin u k g) (fin v l i) p q r o h b =
-    plus-rises f s t u v (m * up e) (down e) (n * up d) (down d) (k * up g) (down g) (l * up i) (down i) (down-pos e) (down-pos d) (down-pos g) (down-pos i) (le→signed s m e t n d h) (le→signed u k g v l i b)
+    plus-rises f s t u v (m * up e) (down e) (n * up d) (down d) (k * up g) (down g) (l * up i) (down i) (down-pos e) (down-pos d) (down-pos g)
+    (down-pos i) (le→signed s m e t n d h) (le→signed u k g v l i b)
 
 pub finite-neg : (x : Float) → T (finite x) → T (finite (neg x))
 unfolding neg
 finite-neg (fin s m e) h = tt
 
 -- a larger x and a smaller z
-pub sub-rises : (f : Format) (x y z w : Float) → T (finite x) → T (finite y) → T (finite z) → T (finite w) → T (le x y) → T (le w z) → T (le (sub f x z) (sub f y w))
+pub sub-rises : (f : Format) (x y z w : Float) → T (finite x) → T (finite y) → T (finite z) → T (finite w) → T (le x y) → T (le w z)
+    → T (le (sub f x z) (sub f y w))
 unfolding sub
 sub-rises f x y z w p q r o h b = add-rises f x y (neg z) (neg w) p q (finite-neg z r) (finite-neg w o) h (le-neg w z b)
 
@@ -262,14 +300,19 @@ keep true = refl
 keep false = refl
 
 -- a larger x, by one factor, and a larger z
-pub fma-rises : (f : Format) (x y r z w : Float) → T (finite x) → T (finite y) → T (unsigned r) → T (finite z) → T (finite w) → T (le x y) → T (le z w) → T (le (fma f x r z) (fma f y r w))
+pub fma-rises : (f : Format) (x y r z w : Float) → T (finite x) → T (finite y) → T (unsigned r) → T (finite z) → T (finite w) → T (le x y)
+    → T (le z w) → T (le (fma f x r z) (fma f y r w))
 unfolding fma plus
 fma-rises f (fin s m e) (fin t n d) (fin false a j) (fin u k g) (fin v l i) p q r z w h b =
-    subst (λ (o : Bool). T (le (sum f o (m * up e * (a * up j) * down g) u (k * up g * (down e * down j)) (down e * down j * down g)) (sum f (unlike t false) (n * up d * (a * up j) * down i) v (l * up i * (down d * down j)) (down d * down j * down i)))) (sym (keep s))
-    (subst (λ (o : Bool). T (le (sum f s (m * up e * (a * up j) * down g) u (k * up g * (down e * down j)) (down e * down j * down g)) (sum f o (n * up d * (a * up j) * down i) v (l * up i * (down d * down j)) (down d * down j * down i)))) (sym (keep t))
-    (plus-rises f s t u v (m * up e * (a * up j)) (down e * down j) (n * up d * (a * up j)) (down d * down j) (k * up g) (down g) (l * up i) (down i) (mul-pos (down-pos e) (down-pos j)) (mul-pos (down-pos d) (down-pos j)) (down-pos g) (down-pos i)
+    subst (λ (o : Bool). T (le (sum f o (m * up e * (a * up j) * down g) u (k * up g * (down e * down j)) (down e * down j * down g))
+    (sum f (unlike t false) (n * up d * (a * up j) * down i) v (l * up i * (down d * down j)) (down d * down j * down i)))) (sym (keep s))
+    (subst (λ (o : Bool). T (le (sum f s (m * up e * (a * up j) * down g) u (k * up g * (down e * down j)) (down e * down j * down g))
+    (sum f o (n * up d * (a * up j) * down i) v (l * up i * (down d * down j)) (down d * down j * down i)))) (sym (keep t))
+    (plus-rises f s t u v (m * up e * (a * up j)) (down e * down j) (n * up d * (a * up j)) (down d * down j) (k * up g) (down g) (l * up i) (down i)
+    (mul-pos (down-pos e) (down-pos j)) (mul-pos (down-pos d) (down-pos j)) (down-pos g) (down-pos i)
     (subst (λ (o : ℕ). Sle s o t (n * up d * (a * up j) * (down e * down j))) (regroup (m * up e) (down d) (a * up j) (down j))
-    (subst (λ (o : ℕ). Sle s (m * up e * down d * (a * up j * down j)) t o) (regroup (n * up d) (down e) (a * up j) (down j)) (sle-scale s (m * up e * down d) t (n * up d * down e) (a * up j * down j) (le→signed s m e t n d h))))
+    (subst (λ (o : ℕ). Sle s (m * up e * down d * (a * up j * down j)) t o) (regroup (n * up d) (down e) (a * up j) (down j))
+    (sle-scale s (m * up e * down d) t (n * up d * down e) (a * up j * down j) (le→signed s m e t n d h))))
     (le→signed u k g v l i b)))
   where
     regroup : (X D W I : ℕ) → X * D * (W * I) ≡ X * W * (D * I)
@@ -282,13 +325,3 @@ finite-between (fin s m e) nan z p q h k = absurd h
 finite-between (fin s m e) (inf true) z p q h k = absurd h
 finite-between (fin s m e) (inf false) (fin t n d) p q h k = absurd k
 finite-between (fin s m e) (fin u a i) z p q h k = tt
-
--- bringing a value to binary32
-pub narrow-rises : (x y : Float) → T (finite x) → T (finite y) → T (le x y) → T (le (narrow x) (narrow y))
-unfolding narrow
-narrow-rises (fin s m e) (fin t n d) p q h =
-    subst (λ (v : Float). T (le v (round binary32 t (n * up d) (down d))))
-    (round-same binary32 s (m * up e * down d) (down e * down d) (m * up e) (down e) (mul-pos (down-pos e) (down-pos d)) (down-pos e) (simp (mul-assoc, mul-comm, mul-left-comm)))
-    (subst (λ (v : Float). T (le (round binary32 s (m * up e * down d) (down e * down d)) v))
-    (round-same binary32 t (n * up d * down e) (down e * down d) (n * up d) (down d) (mul-pos (down-pos e) (down-pos d)) (down-pos d) (simp (mul-assoc, mul-comm, mul-left-comm)))
-    (round-rises binary32 s (m * up e * down d) t (n * up d * down e) (down e * down d) (mul-pos (down-pos e) (down-pos d)) (le→signed s m e t n d h)))

@@ -2,7 +2,8 @@
 use mathlib.Core.Path.{_≡_, refl, sym, ap, _∙_, subst}
 use mathlib.Core.Logic.{_⊎_, inl, inr}
 use Prim.Native.Nat.{ℕ, _+_, _-_, _*_, _≤_, _<_}
-use native.Mathlib.Nat.{add-comm, add-mul, mul-comm, mul-sub, eq-or-lt-of-le, sub-self, mul-lt-mul-of-pos-right, lt-of-mul-lt-mul-right, eq-of-mul-eq-mul-right, zero-mul, add-zero}
+use native.Mathlib.Nat.{add-comm, add-mul, mul-comm, mul-sub, eq-or-lt-of-le, sub-self, mul-lt-mul-of-pos-right, lt-of-mul-lt-mul-right}
+use native.Mathlib.Nat.{eq-of-mul-eq-mul-right, zero-mul, add-zero}
 use native.Mathlib.Omega.{arith}
 use mathlib.Core.Bool.{Bool, true, false, _&&_, Bool·beq, cond}
 use lib.Dec.{ltb, ltb→lt, nltb→le}
@@ -95,7 +96,8 @@ split false false = inl refl
 -- a sum does not turn on the order
 pub sum-comm : (f : Format) (s t : Bool) (a b c : ℕ) → sum f s a t b c ≡ sum f t b s a c
 sum-comm f s t a b c = elim (split s t) [
-  | inl e ↦ sum-alike f s t a b c e ∙ ap (λ (x : ℕ). round f s x c) (add-comm a b) ∙ ap (λ (x : Bool). round f x (b + a) c) (alike s t e) ∙ sym (sum-alike f t s b a c (flip-alike s t e))
+  | inl e ↦ sum-alike f s t a b c e ∙ ap (λ (x : ℕ). round f s x c) (add-comm a b) ∙ ap (λ (x : Bool). round f x (b + a) c) (alike s t e)
+      ∙ sym (sum-alike f t s b a c (flip-alike s t e))
   | inr e ↦ elim (order a b) [
     | below l ↦ sum-below f s t a b c e l ∙ sym (sum-above f t s b a c (flip s t e) l)
     | level l ↦ sum-level f s t a b c e l ∙ sym (sum-level f t s b a c (flip s t e) (sym l))
@@ -109,11 +111,16 @@ sub-mul A W E = ap (λ (x : ℕ). x - W * E) (mul-comm A E) ∙ ap (λ (x : ℕ)
 -- the fractions a / c and b / c, written anew as a' / c' and b' / c'
 pub sum-same : (f : Format) (s t : Bool) (a b c a' b' c' : ℕ) → 0 < c → 0 < c' → a * c' ≡ a' * c → b * c' ≡ b' * c → sum f s a t b c ≡ sum f s a' t b' c'
 sum-same f s t a b c a' b' c' C C' p q = elim (split s t) [
-  | inl e ↦ sum-alike f s t a b c e ∙ round-same f s (a + b) c (a' + b') c' C C' (add-mul a b c' ∙ ap (λ (x : ℕ). x + b * c') p ∙ ap (λ (x : ℕ). a' * c + x) q ∙ sym (add-mul a' b' c)) ∙ sym (sum-alike f s t a' b' c' e)
+  | inl e ↦ sum-alike f s t a b c e
+      ∙ round-same f s (a + b) c (a' + b') c' C C'
+      (add-mul a b c' ∙ ap (λ (x : ℕ). x + b * c') p ∙ ap (λ (x : ℕ). a' * c + x) q ∙ sym (add-mul a' b' c)) ∙ sym (sum-alike f s t a' b' c' e)
   | inr e ↦ elim (order a b) [
-    | below l ↦ sum-below f s t a b c e l ∙ round-same f t (b - a) c (b' - a') c' C C' (diff b a b' a' q p) ∙ sym (sum-below f s t a' b' c' e (carry a b a' b' p q l))
-    | level l ↦ sum-level f s t a b c e l ∙ round-same f false 0 c 0 c' C C' (zero-mul c' ∙ sym (zero-mul c)) ∙ sym (sum-level f s t a' b' c' e (eq-of-mul-eq-mul-right c C a' b' (sym p ∙ ap (λ (x : ℕ). x * c') l ∙ q)))
-    | above l ↦ sum-above f s t a b c e l ∙ round-same f s (a - b) c (a' - b') c' C C' (diff a b a' b' p q) ∙ sym (sum-above f s t a' b' c' e (carry b a b' a' q p l))
+    | below l ↦ sum-below f s t a b c e l ∙ round-same f t (b - a) c (b' - a') c' C C' (diff b a b' a' q p)
+        ∙ sym (sum-below f s t a' b' c' e (carry a b a' b' p q l))
+    | level l ↦ sum-level f s t a b c e l ∙ round-same f false 0 c 0 c' C C' (zero-mul c' ∙ sym (zero-mul c))
+        ∙ sym (sum-level f s t a' b' c' e (eq-of-mul-eq-mul-right c C a' b' (sym p ∙ ap (λ (x : ℕ). x * c') l ∙ q)))
+    | above l ↦ sum-above f s t a b c e l ∙ round-same f s (a - b) c (a' - b') c' C C' (diff a b a' b' p q)
+        ∙ sym (sum-above f s t a' b' c' e (carry b a b' a' q p l))
   ]
 ]
   where

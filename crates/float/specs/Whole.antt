@@ -13,7 +13,8 @@ use Rattle.float.specs.Fused.{narrow}
 
 narrow-value : (x : Float) (s : Bool) (n : ℕ) → HasValue x s n 1 → narrow x ≡ round binary32 s n 1
 unfolding narrow
-narrow-value (fin t m e) s n v = ap (λ (b : Bool). round binary32 b (m * up e) (down e)) (v .0) ∙ round-same binary32 s (m * up e) (down e) n 1 (down-pos e) (zero-lt-suc 0) (v .1)
+narrow-value (fin t m e) s n v =
+    ap (λ (b : Bool). round binary32 b (m * up e) (down e)) (v .0) ∙ round-same binary32 s (m * up e) (down e) n 1 (down-pos e) (zero-lt-suc 0) (v .1)
 narrow-value nan s n v = absurd v
 narrow-value (inf t) s n v = absurd v
 

@@ -58,10 +58,15 @@ mul-zero-right f (fin s m e) (fin t n d) p q =
 pub fma-zero : (f : Format) (x r z : Float) → T (finite x) → T (isZero r) → T (isZero z) → T (isZero (fma f x r z))
 unfolding fma plus
 fma-zero f (fin s m e) (fin t n d) (fin u k g) p q r =
-    let a : m * up e * (n * up d) * down g ≡ 0 = ap (λ (x : ℕ). m * up e * (x * up d) * down g) (eqb→eq n 0 q) ∙ ap (λ (x : ℕ). m * up e * x * down g) (zero-mul (up d)) ∙ ap (λ (x : ℕ). x * down g) (mul-zero (m * up e)) ∙ zero-mul (down g) in
-    let b : k * up g * (down e * down d) ≡ 0 = ap (λ (x : ℕ). x * up g * (down e * down d)) (eqb→eq k 0 r) ∙ ap (λ (x : ℕ). x * (down e * down d)) (zero-mul (up g)) ∙ zero-mul (down e * down d) in
+    let a : m * up e * (n * up d) * down g ≡ 0 =
+    ap (λ (x : ℕ). m * up e * (x * up d) * down g) (eqb→eq n 0 q) ∙ ap (λ (x : ℕ). m * up e * x * down g) (zero-mul (up d))
+    ∙ ap (λ (x : ℕ). x * down g) (mul-zero (m * up e)) ∙ zero-mul (down g) in
+    let b : k * up g * (down e * down d) ≡ 0 =
+    ap (λ (x : ℕ). x * up g * (down e * down d)) (eqb→eq k 0 r) ∙ ap (λ (x : ℕ). x * (down e * down d)) (zero-mul (up g)) ∙ zero-mul (down e * down d) in
     let c = down e * down d * down g in
-    subst (λ (x : Float). T (isZero x)) (sym (ap (λ (x : ℕ). sum f (unlike s t) x u (k * up g * (down e * down d)) c) a ∙ ap (λ (x : ℕ). sum f (unlike s t) 0 u x c) b ∙ sum-zeros f (unlike s t) u c))
+    subst (λ (x : Float). T (isZero x))
+    (sym (ap (λ (x : ℕ). sum f (unlike s t) x u (k * up g * (down e * down d)) c) a ∙ ap (λ (x : ℕ). sum f (unlike s t) 0 u x c) b
+    ∙ sum-zeros f (unlike s t) u c))
     (round-zero f (unlike s t && u) 0 c (mul-pos (mul-pos (down-pos e) (down-pos d)) (down-pos g)) refl)
 
 -- a zero is finite
@@ -69,12 +74,14 @@ pub zero-finite : (x : Float) → T (isZero x) → T (finite x)
 zero-finite (fin s m e) h = tt
 
 -- x * 0 + z, in the order of z
-pub fma-zero-rises : (f : Format) (x y r r' z w : Float) → T (finite x) → T (finite y) → T (isZero r) → T (isZero r') → T (finite z) → T (finite w) → T (le z w) → T (le (fma f x r z) (fma f y r' w))
+pub fma-zero-rises : (f : Format) (x y r r' z w : Float) → T (finite x) → T (finite y) → T (isZero r) → T (isZero r') → T (finite z) → T (finite w)
+    → T (le z w) → T (le (fma f x r z) (fma f y r' w))
 unfolding fma plus
 fma-zero-rises f (fin s m e) (fin t n d) (fin o a j) (fin o' a' j') (fin u k g) (fin v l i) p q r r' z w h =
     let X : m * up e * (a * up j) ≡ 0 = flat (m * up e) a (up j) (eqb→eq a 0 r) in
     let Y : n * up d * (a' * up j') ≡ 0 = flat (n * up d) a' (up j') (eqb→eq a' 0 r') in
-    plus-rises f (unlike s o) (unlike t o') u v (m * up e * (a * up j)) (down e * down j) (n * up d * (a' * up j')) (down d * down j') (k * up g) (down g) (l * up i) (down i) (mul-pos (down-pos e) (down-pos j)) (mul-pos (down-pos d) (down-pos j')) (down-pos g) (down-pos i)
+    plus-rises f (unlike s o) (unlike t o') u v (m * up e * (a * up j)) (down e * down j) (n * up d * (a' * up j')) (down d * down j') (k * up g)
+    (down g) (l * up i) (down i) (mul-pos (down-pos e) (down-pos j)) (mul-pos (down-pos d) (down-pos j')) (down-pos g) (down-pos i)
     (subst (λ (A : ℕ). Sle (unlike s o) (A * (down d * down j')) (unlike t o') (n * up d * (a' * up j') * (down e * down j))) (sym X)
     (subst (λ (B : ℕ). Sle (unlike s o) (0 * (down d * down j')) (unlike t o') (B * (down e * down j))) (sym Y)
     (subst (λ (A : ℕ). Sle (unlike s o) A (unlike t o') (0 * (down e * down j))) (sym (zero-mul (down d * down j')))
@@ -100,6 +107,9 @@ mul-rises f (fin s m e) (fin t n d) (fin false a j) p q r h =
     let C : 0 < c = mul-pos (mul-pos (down-pos e) (down-pos d)) (down-pos j) in
     subst (λ (o : Bool). T (le (round f o (m * up e * W) (down e * J)) (round f (unlike t false) (n * up d * W) (down d * J)))) (sym (keep s))
     (subst (λ (o : Bool). T (le (round f s (m * up e * W) (down e * J)) (round f o (n * up d * W) (down d * J)))) (sym (keep t))
-    (subst (λ (v : Float). T (le v (round f t (n * up d * W) (down d * J)))) (round-same f s (m * up e * down d * W) c (m * up e * W) (down e * J) C (mul-pos (down-pos e) (down-pos j)) (simp (mul-assoc, mul-comm, mul-left-comm)))
-    (subst (λ (v : Float). T (le (round f s (m * up e * down d * W) c) v)) (round-same f t (n * up d * down e * W) c (n * up d * W) (down d * J) C (mul-pos (down-pos d) (down-pos j)) (simp (mul-assoc, mul-comm, mul-left-comm)))
-    (round-rises f s (m * up e * down d * W) t (n * up d * down e * W) c C (sle-scale s (m * up e * down d) t (n * up d * down e) W (le→signed s m e t n d h))))))
+    (subst (λ (v : Float). T (le v (round f t (n * up d * W) (down d * J))))
+    (round-same f s (m * up e * down d * W) c (m * up e * W) (down e * J) C (mul-pos (down-pos e) (down-pos j)) (simp (mul-assoc, mul-comm, mul-left-comm)))
+    (subst (λ (v : Float). T (le (round f s (m * up e * down d * W) c) v))
+    (round-same f t (n * up d * down e * W) c (n * up d * W) (down d * J) C (mul-pos (down-pos d) (down-pos j)) (simp (mul-assoc, mul-comm, mul-left-comm)))
+    (round-rises f s (m * up e * down d * W) t (n * up d * down e * W) c C
+    (sle-scale s (m * up e * down d) t (n * up d * down e) W (le→signed s m e t n d h))))))

@@ -1,9 +1,11 @@
 // Whole parts: trunc, floor, and the checked coordinate.
 ghost use mathlib.Core.Path.{_≡_};
+ghost use lib.IntN.{pos};
 ghost use lib.Ieee.{binary64, ofBits, toBits};
+ghost use Rattle.refusals.specs.Results.{said};
 ghost use Rattle.float.specs.Fused.{trunc, floor};
 ghost use Rattle.float.specs.Coordinate.{coordinate};
-ghost use Rattle.float.specs.Answers.{coordinateOf};
+ghost use Rattle.float.specs.Answers.{coordinateSaid};
 use crate::Coordinate;
 use crate::pattern::INFINITY_64;
 use crate::pattern::LEADING_64;
@@ -53,7 +55,7 @@ pub fn floor_bits(b: u64) -> u64
 
 // The whole part of v as an i32, or 16 where v is not finite or lies outside i32.
 pub fn checked_coordinate(v: f64) -> Coordinate
-    ensures { λ r. ⌜ coordinateOf r ≡ coordinate v ⌝ }
+    ensures { λ r. ⌜ coordinateSaid r ≡ said (pos 0) (coordinate v) ⌝ }
 {
     if v >= -2147483648.0 {
         if v <= 2147483647.0 {
@@ -68,7 +70,7 @@ pub fn checked_coordinate(v: f64) -> Coordinate
 
 // The same of a binary64 pattern.
 pub fn checked_coordinate_bits(b: u64) -> Coordinate
-    ensures { λ r. ⌜ coordinateOf r ≡ coordinate (ofBits binary64 b) ⌝ }
+    ensures { λ r. ⌜ coordinateSaid r ≡ said (pos 0) (coordinate (ofBits binary64 b)) ⌝ }
 {
     checked_coordinate(f64_of(b))
 }

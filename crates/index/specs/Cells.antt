@@ -43,7 +43,12 @@ cellsOn n zAxis = n .z
 
 -- the corner of cell k with + 0 or + 1
 abbrev pub cellCorner : Medium → Cells → ℕ → ℕ → Point
-cellCorner m n k o = record { x = corner m xAxis (n .x) (cellAxis n k xAxis + o); y = corner m yAxis (n .y) (cellAxis n k yAxis + o); z = corner m zAxis (n .z) (cellAxis n k zAxis + o) }
+cellCorner m n k o =
+    record {
+      x = corner m xAxis (n .x) (cellAxis n k xAxis + o);
+      y = corner m yAxis (n .y) (cellAxis n k yAxis + o);
+      z = corner m zAxis (n .z) (cellAxis n k zAxis + o);
+    }
 
 abbrev pub maxZ : ℤ → ℤ → ℤ
 maxZ a b = cond (leZ a b) b a

@@ -36,7 +36,9 @@ unfolding boundsFault
 bounds-finite m a e =
     let l = onPoint a (m .low) in
     let h = onPoint a (m .high) in
-    let t : T (finite l && finite h) = and-l (finite l && finite h) (lt l h) (and-l (finite l && finite h && lt l h) (finite (sub binary32 h l)) (unless-zero (finite l && finite h && lt l h && finite (sub binary32 h l)) 3 e)) in
+    let t : T (finite l && finite h) =
+    and-l (finite l && finite h) (lt l h)
+    (and-l (finite l && finite h && lt l h) (finite (sub binary32 h l)) (unless-zero (finite l && finite h && lt l h && finite (sub binary32 h l)) 3 e)) in
     (and-l (finite l) (finite h) t, and-r (finite l) (finite h) t)
 
 -- ---- the number of a cell, and its three numbers on the axes
@@ -123,8 +125,10 @@ met-ends m n p a i e l =
     let N = cellsOn n a in
     let v = onPoint a p in
     let t : T (holdsOn low high N i v) = yes (ap (λ (k : ℕ). holdsOn low high N k v) e ∙ found-holds low high N v l) in (
-      ap (λ (c : Float). le c v) (corner-on m a N (i + 0) ∙ ap (cornerOn low high N) (NatL.add-zero i)) ∙ is-true (le (cornerOn low high N i) v) (and-l (le (cornerOn low high N i) v) (le v (cornerOn low high N (i + 1))) t),
-      ap (le v) (corner-on m a N (i + 1)) ∙ is-true (le v (cornerOn low high N (i + 1))) (and-r (le (cornerOn low high N i) v) (le v (cornerOn low high N (i + 1))) t),
+      ap (λ (c : Float). le c v) (corner-on m a N (i + 0) ∙ ap (cornerOn low high N) (NatL.add-zero i))
+          ∙ is-true (le (cornerOn low high N i) v) (and-l (le (cornerOn low high N i) v) (le v (cornerOn low high N (i + 1))) t),
+      ap (le v) (corner-on m a N (i + 1))
+          ∙ is-true (le v (cornerOn low high N (i + 1))) (and-r (le (cornerOn low high N i) v) (le v (cornerOn low high N (i + 1))) t),
     )
 
 -- a number that is a cell's is that of one which encloses the point
@@ -151,8 +155,11 @@ cell-encloses m n p l = subst (λ (k : ℕ). EnclosesIn m n k p) (sym (cell-met 
     k = cellOf n x y z
 
 -- of a point of the world box it is a cell's number
-pub cell-found : (m : Medium) (n : Cells) → Numbered n → Fitting m → ((a : Axis) → boundsFault m a ≡ 0) → (p : Point) → Between (m .low) (m .high) p → cellAt m n p < n .x * n .y * n .z
-cell-found m n c f e p h = subst (λ (k : ℕ). k < n .x * n .y * n .z) (sym (cell-met m n p on)) (cell-lt n (cellOn m n p xAxis) (cellOn m n p yAxis) (cellOn m n p zAxis) (on xAxis) (on yAxis) (on zAxis))
+pub cell-found : (m : Medium) (n : Cells) → Numbered n → Fitting m → ((a : Axis) → boundsFault m a ≡ 0) → (p : Point) → Between (m .low) (m .high) p
+    → cellAt m n p < n .x * n .y * n .z
+cell-found m n c f e p h =
+    subst (λ (k : ℕ). k < n .x * n .y * n .z) (sym (cell-met m n p on))
+    (cell-lt n (cellOn m n p xAxis) (cellOn m n p yAxis) (cellOn m n p zAxis) (on xAxis) (on yAxis) (on zAxis))
   where
     on : Met m n p
     on a =
@@ -160,11 +167,15 @@ cell-found m n c f e p h = subst (λ (k : ℕ). k < n .x * n .y * n .z) (sym (ce
         let high = onPoint a (m .high) in
         let N = cellsOn n a in
         let v = onPoint a p in
-        let (k, K, l, r) = on-axis m a N (c .some a) (c .few a) (bounds-finite m a (e a) .0, f .low a) (bounds-finite m a (e a) .1, f .high a) v (yes (h a .0)) (yes (h a .1)) in
+        let (k, K, l, r) =
+        on-axis m a N (c .some a) (c .few a) (bounds-finite m a (e a) .0, f .low a) (bounds-finite m a (e a) .1, f .high a) v (yes (h a .0))
+        (yes (h a .1)) in
         let l₁ : T (le (cornerOn low high N k) v) = subst (λ (x : Float). T (le x v)) (corner-on m a N k) l in
-        let r₁ : T (le v (cornerOn low high N (k + 1))) = subst (λ (x : Float). T (le v x)) (corner-on m a N (suc k) ∙ ap (cornerOn low high N) (sym (add-one k))) r in
+        let r₁ : T (le v (cornerOn low high N (k + 1))) =
+        subst (λ (x : Float). T (le v x)) (corner-on m a N (suc k) ∙ ap (cornerOn low high N) (sym (add-one k))) r in
         found-some low high N v k K (is-true (holdsOn low high N k v) (and-i (le (cornerOn low high N k) v) (le v (cornerOn low high N (k + 1))) l₁ r₁))
 
 -- some cell encloses each point of the world box
-pub enclosed : (m : Medium) (n : Cells) → Numbered n → Fitting m → ((a : Axis) → boundsFault m a ≡ 0) → (p : Point) → Between (m .low) (m .high) p → (k : ℕ) × (k < n .x * n .y * n .z) × EnclosesIn m n k p
+pub enclosed : (m : Medium) (n : Cells) → Numbered n → Fitting m → ((a : Axis) → boundsFault m a ≡ 0) → (p : Point) → Between (m .low) (m .high) p
+    → (k : ℕ) × (k < n .x * n .y * n .z) × EnclosesIn m n k p
 enclosed m n c f e p h = let l = cell-found m n c f e p h in (cellAt m n p, l, cell-encloses m n p l)

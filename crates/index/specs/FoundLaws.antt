@@ -47,7 +47,9 @@ module _ (low high : Float) (n : ℕ) (v : Float) where
   from-holds zero k l = absurd (omega (arith, l, found-none k))
   from-holds (suc c) k l = go (holdsOn low high n k v) refl (from-holds c (k + 1))
     where
-      go : (t : Bool) → holdsOn low high n k v ≡ t → (cellFrom low high n v c (k + 1) < k + 1 + c → holdsOn low high n (cellFrom low high n v c (k + 1)) v ≡ true) → holdsOn low high n (cellFrom low high n v (suc c) k) v ≡ true
+      go : (t : Bool) → holdsOn low high n k v ≡ t
+          → (cellFrom low high n v c (k + 1) < k + 1 + c → holdsOn low high n (cellFrom low high n v c (k + 1)) v ≡ true)
+          → holdsOn low high n (cellFrom low high n v (suc c) k) v ≡ true
       go true e later = subst (λ (i : ℕ). holdsOn low high n i v ≡ true) (sym (found-here c k e)) e
       go false e later = subst (λ (i : ℕ). holdsOn low high n i v ≡ true) (sym (found-later c k e)) (later (omega (arith, l, found-later c k e)))
 
@@ -58,7 +60,8 @@ module _ (low high : Float) (n : ℕ) (v : Float) where
   from-some : (c k i : ℕ) → i < c → holdsOn low high n (k + i) v ≡ true → cellFrom low high n v c k < k + c
   from-some zero k i l h = absurd (omega (arith, l))
   from-some (suc c) k zero l h = omega (arith, found-here c k (subst (λ (j : ℕ). holdsOn low high n j v ≡ true) (NatL.add-zero k) h))
-  from-some (suc c) k (suc i) l h = go (holdsOn low high n k v) refl (from-some c (k + 1) i (omega (arith, l)) (subst (λ (j : ℕ). holdsOn low high n j v ≡ true) (next k i) h))
+  from-some (suc c) k (suc i) l h =
+      go (holdsOn low high n k v) refl (from-some c (k + 1) i (omega (arith, l)) (subst (λ (j : ℕ). holdsOn low high n j v ≡ true) (next k i) h))
     where
       next : (k i : ℕ) → k + suc i ≡ k + 1 + i
       next k i = omega arith
@@ -68,4 +71,6 @@ module _ (low high : Float) (n : ℕ) (v : Float) where
       go false e later = omega (arith, found-later c k e, later)
 
   pub found-some : (k : ℕ) → k < n → holdsOn low high n k v ≡ true → axisCell low high n v < n
-  found-some k l h = subst (λ (j : ℕ). axisCell low high n v < j) (NatL.zero-add n) (from-some n 0 k l (subst (λ (j : ℕ). holdsOn low high n j v ≡ true) (sym (NatL.zero-add k)) h))
+  found-some k l h =
+      subst (λ (j : ℕ). axisCell low high n v < j) (NatL.zero-add n)
+      (from-some n 0 k l (subst (λ (j : ℕ). holdsOn low high n j v ≡ true) (sym (NatL.zero-add k)) h))

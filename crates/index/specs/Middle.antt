@@ -27,7 +27,8 @@ pub record Scaled (m : Medium) : Type 0 where
   pub moved : (a : Axis) → T (finite (onPoint a (m .translation)))
 
 diagonal-unsigned : (v : Float) → T (diagonal v) → T (unsigned v)
-diagonal-unsigned v h = positive-unsigned v (and-l (lib.Ieee.Scale.finite v) (lt +0 v) h) (lib.Ieee.Bits.is-true (lt +0 v) (and-r (lib.Ieee.Scale.finite v) (lt +0 v) h))
+diagonal-unsigned v h =
+    positive-unsigned v (and-l (lib.Ieee.Scale.finite v) (lt +0 v) h) (lib.Ieee.Bits.is-true (lt +0 v) (and-r (lib.Ieee.Scale.finite v) (lt +0 v) h))
 
 zeroes-zero : (v : Float) → T (zeroes v) → T (isZero v)
 zeroes-zero v h = equals-zero v h
@@ -53,7 +54,8 @@ real v = lib.Ieee.Scale.finite v
 abbrev rest : Medium → List Bool
 rest m =
     let at : ℕ → Float = λ i. getD (m .map) i +0 in
-    zeroes (at 1) ∷ zeroes (at 2) ∷ zeroes (at 3) ∷ diagonal (at 4) ∷ zeroes (at 5) ∷ zeroes (at 6) ∷ zeroes (at 7) ∷ diagonal (at 8) ∷ real (m .translation .x) ∷ real (m .translation .y) ∷ real (m .translation .z) ∷ []
+    zeroes (at 1) ∷ zeroes (at 2) ∷ zeroes (at 3) ∷ diagonal (at 4) ∷ zeroes (at 5) ∷ zeroes (at 6) ∷ zeroes (at 7) ∷ diagonal (at 8)
+    ∷ real (m .translation .x) ∷ real (m .translation .y) ∷ real (m .translation .z) ∷ []
 
 all-passed : (m : Medium) → mapFault m ≡ 0 → T (tests (diagonal (getD (m .map) 0 +0)) (rest m))
 unfolding mapFault
@@ -72,7 +74,12 @@ scaled m e =
     let d : (i : ℕ) → T (diagonal (at i)) → Factor (at i) = λ i t. inl (diagonal-unsigned (at i) t) in
     let t : (i : ℕ) → T (getD (rest m) i true) = passed m e in
     record {
-      factor = λ a. elim a [ xAxis ↦ (d 0 (first-passed m e), z 1 (t 0), z 2 (t 1)) | yAxis ↦ (z 3 (t 2), d 4 (t 3), z 5 (t 4)) | zAxis ↦ (z 6 (t 5), z 7 (t 6), d 8 (t 7)) ];
+      factor =
+          λ a. elim a [
+            | xAxis ↦ (d 0 (first-passed m e), z 1 (t 0), z 2 (t 1))
+            | yAxis ↦ (z 3 (t 2), d 4 (t 3), z 5 (t 4))
+            | zAxis ↦ (z 6 (t 5), z 7 (t 6), d 8 (t 7))
+          ];
       moved = λ a. elim a [ xAxis ↦ t 8 | yAxis ↦ t 9 | zAxis ↦ t 10 ];
     }
 
@@ -94,10 +101,21 @@ straight m e =
     let z : (i : ℕ) → T (zeroes (at i)) → T (isZero (at i)) = λ i t. zeroes-zero (at i) t in
     let d : (i : ℕ) → T (diagonal (at i)) → T (finite (at i)) = λ i t. and-l (finite (at i)) (lt +0 (at i)) t in
     let t : (i : ℕ) → T (getD (rest m) i true) = passed m e in
-    record { xx = d 0 (first-passed m e); xy = z 1 (t 0); xz = z 2 (t 1); yx = z 3 (t 2); yy = d 4 (t 3); yz = z 5 (t 4); zx = z 6 (t 5); zy = z 7 (t 6); zz = d 8 (t 7) }
+    record {
+      xx = d 0 (first-passed m e);
+      xy = z 1 (t 0);
+      xz = z 2 (t 1);
+      yx = z 3 (t 2);
+      yy = d 4 (t 3);
+      yz = z 5 (t 4);
+      zx = z 6 (t 5);
+      zy = z 7 (t 6);
+      zz = d 8 (t 7);
+    }
 
 -- ---- one axis of the map. Nothing but this axis's two ends need be finite: an infinity or a NaN on the way would be seen in the end
-pub index-mid : (m : Medium) → Scaled m → (l h p : Point) → Between l h p → (a : Axis) → T (finite (worldToIndex m l a)) → T (finite (worldToIndex m h a)) → Mid (worldToIndex m l a) (worldToIndex m p a) (worldToIndex m h a)
+pub index-mid : (m : Medium) → Scaled m → (l h p : Point) → Between l h p → (a : Axis) → T (finite (worldToIndex m l a))
+    → T (finite (worldToIndex m h a)) → Mid (worldToIndex m l a) (worldToIndex m p a) (worldToIndex m h a)
 unfolding worldToIndex
 index-mid m s l h p b a L H =
     let t = m .translation in
@@ -121,9 +139,12 @@ index-mid m s l h p b a L H =
     mid-fma binary32 (sub binary32 (l .x) (t .x)) (sub binary32 (p .x) (t .x)) (sub binary32 (h .x) (t .x)) r0 ly py hy
     (less xAxis (fma-left binary32 (sub binary32 (l .x) (t .x)) r0 ly L) (fma-left binary32 (sub binary32 (h .x) (t .x)) r0 hy H)) (s .factor a .0) y L H
   where
-    less : (a : Axis) → T (finite (sub binary32 (onPoint a l) (onPoint a (m .translation)))) → T (finite (sub binary32 (onPoint a h) (onPoint a (m .translation))))
-        → Mid (sub binary32 (onPoint a l) (onPoint a (m .translation))) (sub binary32 (onPoint a p) (onPoint a (m .translation))) (sub binary32 (onPoint a h) (onPoint a (m .translation)))
+    less : (a : Axis) → T (finite (sub binary32 (onPoint a l) (onPoint a (m .translation))))
+        → T (finite (sub binary32 (onPoint a h) (onPoint a (m .translation))))
+        → Mid (sub binary32 (onPoint a l) (onPoint a (m .translation))) (sub binary32 (onPoint a p) (onPoint a (m .translation)))
+        (sub binary32 (onPoint a h) (onPoint a (m .translation)))
     less a x y =
         mid-sub binary32 (onPoint a l) (onPoint a p) (onPoint a h) (onPoint a (m .translation))
-        (mid (onPoint a l) (onPoint a p) (onPoint a h) (sub-left binary32 (onPoint a l) (onPoint a (m .translation)) x) (sub-left binary32 (onPoint a h) (onPoint a (m .translation)) y) (yes (b a .0)) (yes (b a .1)))
+        (mid (onPoint a l) (onPoint a p) (onPoint a h) (sub-left binary32 (onPoint a l) (onPoint a (m .translation)) x)
+        (sub-left binary32 (onPoint a h) (onPoint a (m .translation)) y) (yes (b a .0)) (yes (b a .1)))
         (s .moved a) x y

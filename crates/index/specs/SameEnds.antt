@@ -1,7 +1,6 @@
 -- The sign of a zero is not seen in the ends of a box. Assumes nothing.
 use mathlib.Core.Path.{_≡_, sym, ap, _∙_}
 use mathlib.Core.Logic.{inl, inr}
-use Prim.Native.Nat.{zero}
 use lib.Ieee.{Float, binary64}
 use Rattle.float.specs.Fused.{trunc, floor}
 use Rattle.float.specs.Coordinate.{coordinate}

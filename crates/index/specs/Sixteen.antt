@@ -27,4 +27,6 @@ only-coordinate v = only-need (finite v && le (ofInt binary64 (negsuc 2147483647
 
 -- two coordinates, one after the other
 pub only-two : {A : Type 0} (v w : Float) (make : ℤ → ℤ → A) → Only (bind (coordinate v) (λ (l : ℤ). bind (coordinate w) (λ (h : ℤ). ok (make l h))))
-only-two {A} v w make = only-bind (coordinate v) (λ (l : ℤ). bind (coordinate w) (λ (h : ℤ). ok (make l h))) (only-coordinate v) (λ l. only-bind (coordinate w) (λ (h : ℤ). ok (make l h)) (only-coordinate w) (λ h. inl (make l h, refl)))
+only-two {A} v w make =
+    only-bind (coordinate v) (λ (l : ℤ). bind (coordinate w) (λ (h : ℤ). ok (make l h))) (only-coordinate v)
+    (λ l. only-bind (coordinate w) (λ (h : ℤ). ok (make l h)) (only-coordinate w) (λ h. inl (make l h, refl)))

@@ -10,7 +10,7 @@ ghost use Rattle.medium.specs.Record.{asMedium};
 ghost use Rattle.index.specs.Cells.{maxZ, minZ};
 ghost use Rattle.index.specs.Axes.{cornerOn, indexOn, majorantOn, firstLow, firstHigh, secondLow, secondHigh, firstOn, secondOn, axisEnds, lineOf};
 ghost use Rattle.index.specs.Found.{holdsOn, axisCell};
-ghost use Rattle.index.specs.Answers.{indexBits, positionOf, asLine, endsOf, bothOf};
+ghost use Rattle.index.specs.Answers.{indexBits, positionOf, asLine, endsOf, axisEndsOf};
 use float::Coordinate;
 use float::bits_of;
 use float::checked_coordinate;
@@ -46,7 +46,7 @@ pub struct Range {
     pub hi: i32,
 }
 
-// The ends of a cell's two boxes on one axis, or the fault.
+// The ends of a cell's two boxes on one axis. After a refusal its number, and zeros.
 pub struct AxisEnds {
     pub fault: u32,
     pub first_lo: i32,
@@ -212,19 +212,28 @@ fn second_range(l: Line, p: f32, q: f32) -> Range
 
 // The ends of cell k of n on one axis; 16 where one is no coordinate.
 pub fn axis_ends(l: Line, n: u32, k: u32) -> AxisEnds
-    ensures { λ r. ⌜ bothOf r ≡ axisEnds (asLine l) n k ⌝ }
+    ensures { λ r. ⌜ r ≡ axisEndsOf (axisEnds (asLine l) n k) ⌝ }
 {
     let p = corner(l.low, l.high, n as u64, k as u64);
     let q = corner(l.low, l.high, n as u64, k as u64 + 1);
     let first = first_range(l, p, q);
     let second = second_range(l, p, q);
     let fault = first_fault(first.fault, second.fault);
+    if fault == 0 {
+        return AxisEnds {
+            fault: fault,
+            first_lo: first.lo,
+            first_hi: first.hi,
+            second_lo: second.lo,
+            second_hi: second.hi,
+        };
+    }
     AxisEnds {
         fault: fault,
-        first_lo: first.lo,
-        first_hi: first.hi,
-        second_lo: second.lo,
-        second_hi: second.hi,
+        first_lo: 0,
+        first_hi: 0,
+        second_lo: 0,
+        second_hi: 0,
     }
 }
 

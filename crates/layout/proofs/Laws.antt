@@ -7,7 +7,7 @@ use native.Mathlib.Omega.{arith}
 use mathlib.Core.List.{List}
 use lib.Dec.{leb}
 use lib.ListN.{length, getD, List·getD-eq-default}
-use Rattle.refusals.specs.Results.{ok, refused}
+use Rattle.refusals.specs.Results.{ok, refused, said}
 use Rattle.layout.specs.Bytes.{u32At, u64At}
 use Rattle.layout.specs.FieldLaws.{u64-halves}
 use Rattle.layout.specs.Reads.{readField}
@@ -36,10 +36,10 @@ past-end b i h = sym (List·getD-eq-default b 0 h)
 pub cut-halves : (b : List ℕ) (at low high : ℕ) → low ≡ u32At b (at + 0) → high ≡ u32At b (at + 4) → low + high * 4294967296 ≡ u64At b at
 cut-halves b at low high e f = rw u64-halves (omega (arith, rw add-zero at e))
 
--- the two ways out of a read, after its end test
-module _ {A : Type 0} (field : List ℕ → ℕ → A) (width : ℕ) (b : List ℕ) (at : ℕ) {t : Bool} where
-  pub read-value : (v : A) → t ≡ leb (at + width) (length b) → t ≡ true → v ≡ field b at → ok v ≡ readField field width b at
-  read-value v e h f = ap ok f ∙ sym (read-inside field width b at (within (at + width) (length b) e h))
+-- the two ways out of a read, after its end test; z is the type's zero
+module _ {A : Type 0} (z : A) (field : List ℕ → ℕ → A) (width : ℕ) (b : List ℕ) (at : ℕ) {t : Bool} (e : t ≡ leb (at + width) (length b)) where
+  pub read-value : {v : A} → t ≡ true → v ≡ field b at → said z (ok v) ≡ said z (readField field width b at)
+  read-value h f = ap (said z) (ap ok f ∙ sym (read-inside field width b at (within (at + width) (length b) e h)))
 
-  pub read-refused : t ≡ leb (at + width) (length b) → t ≡ false → refused 5 ≡ readField field width b at
-  read-refused e h = sym (read-past field width b at (leb-false (at + width) (length b) (sym e ∙ h)))
+  pub read-refused : t ≡ false → said z (refused 5) ≡ said z (readField field width b at)
+  read-refused h = ap (said z) (sym (read-past field width b at (leb-false (at + width) (length b) (sym e ∙ h))))

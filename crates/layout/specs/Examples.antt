@@ -58,6 +58,7 @@ tile-key : key (record { x = negsuc 7; y = pos 0; z = pos 0 }) ≡ 0x3ffffc00000
 tile-key = refl
 
 -- 0.5 where the coordinate has the tile's key, and the background everywhere else
-pub sample-walk : (c : Coord) → walk sample c ≡ cond (eqb 0x3ffffc0000000000 (key c)) (record { bits = 0x3f000000; level = ofRoot }) (record { bits = 0; level = ofBackground })
+pub sample-walk : (c : Coord)
+    → walk sample c ≡ cond (eqb 0x3ffffc0000000000 (key c)) (record { bits = 0x3f000000; level = ofRoot }) (record { bits = 0; level = ofBackground })
 unfolding sample walk le
 sample-walk c = refl

@@ -42,9 +42,6 @@ u64-halves b at = le-parts 4 4 b at ∙ omega arith
 pub u32-below : (b : List ℕ) (at : ℕ) → ((i : ℕ) → getD b i 0 < 256) → u32At b at < 2 ^ 32
 u32-below b at h = le-below 4 b at h
 
-pub u64-below : (b : List ℕ) (at : ℕ) → ((i : ℕ) → getD b i 0 < 256) → u64At b at < 2 ^ 64
-u64-below b at h = le-below 8 b at h
-
 -- a number with its top bit clear, and with it set
 pub signed-low : (w u : ℕ) → u < 2 ^ (w - 1) → signed w u ≡ pos u
 unfolding signed

@@ -5,7 +5,7 @@ use mathlib.Core.List.{List}
 use Prim.Native.Nat.{ℕ, _+_, _<_, _≤_}
 use lib.ListN.{length}
 use borrow.Author.Tests.{le-leb, lt-leb}
-use Rattle.refusals.specs.Results.{Result, ok, refused, need}
+use Rattle.refusals.specs.Results.{ok, refused, need}
 use Rattle.layout.specs.Reads.{readField}
 
 module _ {A : Type 0} (field : List ℕ → ℕ → A) (width : ℕ) (b : List ℕ) (at : ℕ) where

@@ -3,9 +3,10 @@ use Prim.Native.Nat.{ℕ, _+_}
 use mathlib.Core.List.{List}
 use lib.ListN.{length}
 use lib.Dec.{leb}
-use lib.IntN.{ℤ}
-use lib.Ieee.{Float}
-use Rattle.refusals.specs.Results.{Result, ok, refused, need}
+use mathlib.Core.Bool.{false}
+use lib.IntN.{ℤ, pos}
+use lib.Ieee.{Float, fin}
+use Rattle.refusals.specs.Results.{Result, ok, refused, need, Said, said}
 use Rattle.layout.specs.declared.ReadU32 as U32
 use Rattle.layout.specs.declared.ReadU64 as U64
 use Rattle.layout.specs.declared.ReadI32 as I32
@@ -17,7 +18,7 @@ use Rattle.layout.specs.declared.ReadF64 as F64
 unfoldable pub readField : {A : Type 0} → (List ℕ → ℕ → A) → ℕ → List ℕ → ℕ → Result A
 readField field width b at = need (leb (at + width) (length b)) 5 (ok (field b at))
 
--- the answers of the six reads: a value, or the number of the refusal
+-- the outcomes of the six reads: a value, or the number of the refusal
 abbrev pub ofReadU32 : U32.ReadU32 → Result ℕ
 ofReadU32 (U32.the-variants.Value v) = ok v
 ofReadU32 (U32.the-variants.Refused n) = refused n
@@ -41,3 +42,25 @@ ofReadF32 (F32.the-variants.Refused n) = refused n
 abbrev pub ofReadF64 : F64.ReadF64 → Result Float
 ofReadF64 (F64.the-variants.Value v) = ok v
 ofReadF64 (F64.the-variants.Refused n) = refused n
+
+-- the number and the value of each answer: beside a refusal the value is zero
+abbrev pub zero : Float
+zero = fin false 0 (pos 0)
+
+abbrev pub saidU32 : U32.ReadU32 → Said ℕ
+saidU32 r = said 0 (ofReadU32 r)
+
+abbrev pub saidU64 : U64.ReadU64 → Said ℕ
+saidU64 r = said 0 (ofReadU64 r)
+
+abbrev pub saidI32 : I32.ReadI32 → Said ℤ
+saidI32 r = said (pos 0) (ofReadI32 r)
+
+abbrev pub saidI64 : I64.ReadI64 → Said ℤ
+saidI64 r = said (pos 0) (ofReadI64 r)
+
+abbrev pub saidF32 : F32.ReadF32 → Said Float
+saidF32 r = said zero (ofReadF32 r)
+
+abbrev pub saidF64 : F64.ReadF64 → Said Float
+saidF64 r = said zero (ofReadF64 r)

@@ -3,10 +3,12 @@
 ghost use mathlib.Core.Path.{_≡_};
 ghost use Prim.Native.Nat.{_+_, _*_, _<_, _≤_};
 ghost use lib.Dec.{leb};
+ghost use lib.IntN.{pos};
 ghost use lib.Ieee.{binary32, binary64, ofBits};
 ghost use lib.ListN.{getD, length};
+ghost use Rattle.refusals.specs.Results.{said};
 ghost use Rattle.layout.specs.Bytes.{signed, u32At, u64At, i32At, i64At, f32At, f64At, maskBit};
-ghost use Rattle.layout.specs.Reads.{readField, ofReadU32, ofReadU64, ofReadI32, ofReadI64, ofReadF32, ofReadF64};
+ghost use Rattle.layout.specs.Reads.{readField, zero, saidU32, saidU64, saidI32, saidI64, saidF32, saidF64};
 
 const U32_BYTES: usize = 4;
 
@@ -198,7 +200,7 @@ pub fn mask_bit(b: &[u8], at: usize, i: usize) -> u32
 }
 
 pub fn read_u32(b: &[u8], at: usize) -> ReadU32
-    ensures { λ r. ⌜ ofReadU32 r ≡ readField u32At 4 (now (b .entry)) at ⌝ }
+    ensures { λ r. ⌜ saidU32 r ≡ said 0 (readField u32At 4 (now (b .entry)) at) ⌝ }
 {
     if inside(b.len(), at, U32_BYTES) {
         return ReadU32::Value(u32_at(b, at));
@@ -207,7 +209,7 @@ pub fn read_u32(b: &[u8], at: usize) -> ReadU32
 }
 
 pub fn read_u64(b: &[u8], at: usize) -> ReadU64
-    ensures { λ r. ⌜ ofReadU64 r ≡ readField u64At 8 (now (b .entry)) at ⌝ }
+    ensures { λ r. ⌜ saidU64 r ≡ said 0 (readField u64At 8 (now (b .entry)) at) ⌝ }
 {
     if inside(b.len(), at, U64_BYTES) {
         return ReadU64::Value(u64_at(b, at));
@@ -216,7 +218,7 @@ pub fn read_u64(b: &[u8], at: usize) -> ReadU64
 }
 
 pub fn read_i32(b: &[u8], at: usize) -> ReadI32
-    ensures { λ r. ⌜ ofReadI32 r ≡ readField i32At 4 (now (b .entry)) at ⌝ }
+    ensures { λ r. ⌜ saidI32 r ≡ said (pos 0) (readField i32At 4 (now (b .entry)) at) ⌝ }
 {
     if inside(b.len(), at, U32_BYTES) {
         return ReadI32::Value(i32_at(b, at));
@@ -225,7 +227,7 @@ pub fn read_i32(b: &[u8], at: usize) -> ReadI32
 }
 
 pub fn read_i64(b: &[u8], at: usize) -> ReadI64
-    ensures { λ r. ⌜ ofReadI64 r ≡ readField i64At 8 (now (b .entry)) at ⌝ }
+    ensures { λ r. ⌜ saidI64 r ≡ said (pos 0) (readField i64At 8 (now (b .entry)) at) ⌝ }
 {
     if inside(b.len(), at, U64_BYTES) {
         return ReadI64::Value(i64_at(b, at));
@@ -234,7 +236,7 @@ pub fn read_i64(b: &[u8], at: usize) -> ReadI64
 }
 
 pub fn read_f32(b: &[u8], at: usize) -> ReadF32
-    ensures { λ r. ⌜ ofReadF32 r ≡ readField f32At 4 (now (b .entry)) at ⌝ }
+    ensures { λ r. ⌜ saidF32 r ≡ said zero (readField f32At 4 (now (b .entry)) at) ⌝ }
 {
     if inside(b.len(), at, U32_BYTES) {
         return ReadF32::Value(f32_at(b, at));
@@ -243,7 +245,7 @@ pub fn read_f32(b: &[u8], at: usize) -> ReadF32
 }
 
 pub fn read_f64(b: &[u8], at: usize) -> ReadF64
-    ensures { λ r. ⌜ ofReadF64 r ≡ readField f64At 8 (now (b .entry)) at ⌝ }
+    ensures { λ r. ⌜ saidF64 r ≡ said zero (readField f64At 8 (now (b .entry)) at) ⌝ }
 {
     if inside(b.len(), at, U64_BYTES) {
         return ReadF64::Value(f64_at(b, at));

@@ -16,14 +16,14 @@ use Rattle.layout.specs.Coordinates.{Coord}
 use Rattle.sparse_grid.specs.Tables.{Grid}
 use Rattle.sparse_grid.specs.Lookup.{readIn}
 use Rattle.sparse_grid.specs.Biased.{back, place, back-le, back-between}
-use Rattle.majorant.specs.declared.range_max.Span.{Span}
-use Rattle.majorant.specs.Boxes.{Greatest, boxMaximum, between}
-use Rattle.majorant.specs.Maximum.{greatest}
-use Rattle.majorant.specs.Greatest.{greatest-one}
+use Rattle.boxes.specs.declared.Span.{Span}
+use Rattle.boxes.specs.Boxes.{Greatest, boxMaximum, between}
+use Rattle.boxes.specs.Maximum.{greatest}
+use Rattle.boxes.specs.Greatest.{greatest-one}
 use Rattle.majorant.specs.FitLaws.{zero-fits, box-fits}
-use Rattle.majorant.specs.Most.{Most}
-use Rattle.majorant.specs.RangeMax.{Within, Full, Ends, empty, readAt}
-use Rattle.majorant.proofs.MostLaws.{none}
+use Rattle.boxes.specs.Most.{Most}
+use Rattle.boxes.specs.RangeMax.{Within, Full, Ends, empty, readAt}
+use Rattle.boxes.specs.MostLaws.{none}
 use Rattle.sparse_grid.specs.Signs.{seen}
 
 -- ---- spans with a place, and without
@@ -38,8 +38,23 @@ some x y z h =
     let q = or-false (leb (x .hi) (x .lo)) (leb (y .hi) (y .lo)) (p .0) in
     (leb-false (x .hi) (x .lo) (q .0), leb-false (y .hi) (y .lo) (q .1), leb-false (z .hi) (z .lo) (p .1))
 
-pub filled : (x y z : Span) → empty x y z ≡ false → x .hi ≤ 4294967296 → y .hi ≤ 4294967296 → z .hi ≤ 4294967296 → Full x y z
-filled x y z h a b c = let s = some x y z h in record { x-some = s .0; y-some = s .1; z-some = s .2; x-top = a; y-top = b; z-top = c }
+-- the spans of a box from its low corner to its high one
+pub record Spans (lx ly lz hx hy hz : ℤ) (x y z : Span) : Type 0 where
+  pub along-x : Ends lx hx x
+  pub along-y : Ends ly hy y
+  pub along-z : Ends lz hz z
+
+pub filled : {lx ly lz hx hy hz : ℤ} {x y z : Span} → Spans lx ly lz hx hy hz x y z → empty x y z ≡ false → Full x y z
+filled {x = x} {y = y} {z = z} e h =
+    let s = some x y z h in
+    record {
+      x-some = s .0;
+      y-some = s .1;
+      z-some = s .2;
+      x-top = e .along-x .top;
+      y-top = e .along-y .top;
+      z-top = e .along-z .top;
+    }
 
 -- an empty span on some axis
 module _ {P : Type 0} where
@@ -58,7 +73,7 @@ no-place x y z h a b c s = lacking x y z h (λ k. omega arith) (λ k. omega arit
 
 -- ---- the box
 
-module _ (g : Grid) {lx ly lz hx hy hz : ℤ} (x y z : Span) (ex : Ends lx hx x) (ey : Ends ly hy y) (ez : Ends lz hz z) where
+module _ (g : Grid) {lx ly lz hx hy hz : ℤ} {x y z : Span} (spans : Spans lx ly lz hx hy hz x y z) where
   -- a coordinate between two ends is a place of their span
   axis : {lo hi : ℤ} (s : Span) → Ends lo hi s → (c : ℤ) → lo ≤ℤ c → c ≤ℤ hi → (n : ℕ) × (c ≡ back 2147483648 n) × (s .lo ≤ n) × (n < s .hi)
   axis s e c l u =
@@ -75,9 +90,9 @@ module _ (g : Grid) {lx ly lz hx hy hz : ℤ} (x y z : Span) (ex : Ends lx hx x)
   unfolding readAt
   most-greatest {r} m = record {
     covers = λ c i.
-        let a = axis x ex (c .x) (i .x-low) (i .x-high) in
-        let b = axis y ey (c .y) (i .y-low) (i .y-high) in
-        let d = axis z ez (c .z) (i .z-low) (i .z-high) in
+        let a = axis x (spans .along-x) (c .x) (i .x-low) (i .x-high) in
+        let b = axis y (spans .along-y) (c .y) (i .y-low) (i .y-high) in
+        let d = axis z (spans .along-z) (c .z) (i .z-low) (i .z-high) in
         let e : c ≡ place (a .0) (b .0) (d .0) = λ j. record { x = a .1 j; y = b .1 j; z = d .1 j } in
         ap (λ (k : Coord). lt r (readIn g k)) e
         ∙ m .covers (a .0) (b .0) (d .0) (record { x-low = a .2; x-high = a .3; y-low = b .2; y-high = b .3; z-low = d .2; z-high = d .3 });
@@ -85,26 +100,29 @@ module _ (g : Grid) {lx ly lz hx hy hz : ℤ} (x y z : Span) (ex : Ends lx hx x)
         (λ w. inr (
           place (w .0) (w .1) (w .2),
           record {
-            x-low = low-end x ex (w .0) (w .3 .x-low);
-            x-high = high-end x ex (w .0) (w .3 .x-high);
-            y-low = low-end y ey (w .1) (w .3 .y-low);
-            y-high = high-end y ey (w .1) (w .3 .y-high);
-            z-low = low-end z ez (w .2) (w .3 .z-low);
-            z-high = high-end z ez (w .2) (w .3 .z-high);
+            x-low = low-end x (spans .along-x) (w .0) (w .3 .x-low);
+            x-high = high-end x (spans .along-x) (w .0) (w .3 .x-high);
+            y-low = low-end y (spans .along-y) (w .1) (w .3 .y-low);
+            y-high = high-end y (spans .along-y) (w .1) (w .3 .y-high);
+            z-low = low-end z (spans .along-z) (w .2) (w .3 .z-low);
+            z-high = high-end z (spans .along-z) (w .2) (w .3 .z-high);
           },
           w .4,
           w .5,
         )) (m .reached);
   }
 
-  pub is-maximum : {r : Float} → T (fits binary32 r) → ((c : Coord) → T (fits binary32 (readIn g c))) → Most (readAt g) (Within x y z) r → r ≡ boxMaximum (readIn g) (between lx ly lz hx hy hz)
+  pub is-maximum : {r : Float} → T (fits binary32 r) → ((c : Coord) → T (fits binary32 (readIn g c))) → Most (readAt g) (Within x y z) r
+      → r ≡ boxMaximum (readIn g) (between lx ly lz hx hy hz)
   is-maximum p h m =
       let b = between lx ly lz hx hy hz in
       greatest-one (readIn g) binary32 b p (box-fits (readIn g) b h) (most-greatest m) (greatest (readIn g) b)
 
   -- an empty box: the code's 0.0
-  pub is-none : empty x y z ≡ true → ((c : Coord) → T (fits binary32 (readIn g c))) → ofBits binary32 0 ≡ boxMaximum (readIn g) (between lx ly lz hx hy hz)
-  is-none o h = is-maximum (subst (λ (r : Float). T (fits binary32 r)) (sym (zero-literal binary32)) zero-fits) h (none (no-place x y z o))
+  pub is-none : empty x y z ≡ true → ((c : Coord) → T (fits binary32 (readIn g c)))
+      → ofBits binary32 0 ≡ boxMaximum (readIn g) (between lx ly lz hx hy hz)
+  is-none o h =
+      is-maximum (subst (λ (r : Float). T (fits binary32 r)) (sym (zero-literal binary32)) zero-fits) h (none (no-place x y z o))
 
 -- the ends as a callee is handed them
 pub seen-ends : {lo hi : ℤ} (s : Span) → SFits w32 lo → SFits w32 hi → Ends (toZ w32 (ofZ w32 lo)) (toZ w32 (ofZ w32 hi)) s → Ends lo hi s

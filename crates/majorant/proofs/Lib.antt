@@ -1,6 +1,3 @@
-pub mod MostLaws
-pub mod NodeCells
-pub mod RootReads
 pub mod RootsMet
 pub mod Corners
 pub mod Signs

@@ -18,11 +18,12 @@ use Rattle.sparse_grid.specs.Validate.{earlier}
 use Rattle.sparse_grid.specs.Biased.{eqZ-back}
 use Rattle.sparse_grid.specs.Sound.{Sound}
 use Rattle.sparse_grid.specs.Count.{sum, bit, split-lt, sum-same, sum-one, sum-most, sum-full, sum-gap, sum-nil, bit-most, bit-one, bit-none}
-use Rattle.majorant.specs.Boxes.{greater}
-use Rattle.majorant.specs.Most.{Most, Inside}
-use Rattle.majorant.specs.RangeMax.{apart, entryRead, upperRead, readAt, corner, blockAtPlace, Clip, Met, wide, met, Covered}
-use Rattle.majorant.proofs.MostLaws.{most-set, most-join, most-flat, most-up, most-none, zero-beside}
-use Rattle.majorant.proofs.RootReads.{missed, found}
+use Rattle.boxes.specs.declared.Span.{Span}
+use Rattle.boxes.specs.Boxes.{greater}
+use Rattle.boxes.specs.Most.{Most, Inside}
+use Rattle.boxes.specs.RangeMax.{apart, Within, Full, entryRead, upperRead, readAt, corner, blockAtPlace, Clip, Met, wide, met, Covered, CoveredIn}
+use Rattle.boxes.specs.MostLaws.{most-set, most-join, most-flat, most-up, most-none, zero-beside}
+use Rattle.boxes.specs.RootReads.{missed, found}
 
 -- ---- tests
 
@@ -32,10 +33,6 @@ same-corners a b c x y z = rw (eqZ-back 524288 a x, eqZ-back 524288 b y, eqZ-bac
 and-true : (a b : Bool) → (a && b) ≡ true → (a ≡ true) × (b ≡ true)
 and-true true b h = (refl, h)
 and-true false b h = absurd (subst T (sym h) tt)
-
-and-false-right : (a : Bool) → (a && false) ≡ false
-and-false-right true = refl
-and-false-right false = refl
 
 or-true-right : (a : Bool) → (a || true) ≡ true
 or-true-right true = refl
@@ -80,14 +77,17 @@ module _ (g : Grid) (i a b c x0 x1 y0 y1 z0 z1 : ℕ) (here : blockAt g i ≡ co
       ∙ or-true-right (earlier g i (corner a b c))
 
   -- a root that does not meet the box
-  module _ (out : (x y z : ℕ) → x0 / 4096 ≤ x → x ≤ (x1 - 1) / 4096 → y0 / 4096 ≤ y → y ≤ (y1 - 1) / 4096 → z0 / 4096 ≤ z → z ≤ (z1 - 1) / 4096 → (a ≡ x) × (b ≡ y) × (c ≡ z) → ⊥) where
+  module _ (out : (x y z : ℕ) → x0 / 4096 ≤ x → x ≤ (x1 - 1) / 4096 → y0 / 4096 ≤ y → y ≤ (y1 - 1) / 4096 → z0 / 4096 ≤ z → z ≤ (z1 - 1) / 4096
+      → (a ≡ x) × (b ≡ y) × (c ≡ z) → ⊥) where
     pub apart-most : {m : Float} → Most (readAt g) (Met g i x0 x1 y0 y1 z0 z1) m → Most (readAt g) (Met g (suc i) x0 x1 y0 y1 z0 z1) m
     apart-most =
         most-set (λ x y z s. record { inside = s .inside; block = same x y z (s .inside) ∙ s .block })
         (λ x y z s. record { inside = s .inside; block = sym (same x y z (s .inside)) ∙ s .block })
       where
         same : (x y z : ℕ) → Inside x0 x1 y0 y1 z0 z1 x y z → earlier g (suc i) (blockAtPlace x y z) ≡ earlier g i (blockAtPlace x y z)
-        same x y z s = elsewhere (x / 4096) (y / 4096) (z / 4096) (out (x / 4096) (y / 4096) (z / 4096) (omega arith) (omega arith) (omega arith) (omega arith) (omega arith) (omega arith))
+        same x y z s =
+            elsewhere (x / 4096) (y / 4096) (z / 4096)
+            (out (x / 4096) (y / 4096) (z / 4096) (omega arith) (omega arith) (omega arith) (omega arith) (omega arith) (omega arith))
 
     pub apart-met : x0 < x1 → y0 < y1 → z0 < z1 → met g (suc i) x0 x1 y0 y1 z0 z1 ≡ met g i x0 x1 y0 y1 z0 z1
     unfolding met
@@ -98,7 +98,8 @@ module _ (g : Grid) (i a b c x0 x1 y0 y1 z0 z1 : ℕ) (here : blockAt g i ≡ co
 
   -- a root that meets it
   module _ (ax ex ay ey az ez : ℕ) (cx : Clip a x0 x1 ax ex) (cy : Clip b y0 y1 ay ey) (cz : Clip c z0 z1 az ez) where
-    pub meets-most : {m v : Float} → Most (readAt g) (Met g i x0 x1 y0 y1 z0 z1) m → Most (readAt g) (Inside ax ex ay ey az ez) v → Most (readAt g) (Met g (suc i) x0 x1 y0 y1 z0 z1) (greater m v)
+    pub meets-most : {m v : Float} → Most (readAt g) (Met g i x0 x1 y0 y1 z0 z1) m → Most (readAt g) (Inside ax ex ay ey az ez) v
+        → Most (readAt g) (Met g (suc i) x0 x1 y0 y1 z0 z1) (greater m v)
     meets-most = most-join old new both
       where
         old : (x y z : ℕ) → Met g i x0 x1 y0 y1 z0 z1 x y z → Met g (suc i) x0 x1 y0 y1 z0 z1 x y z
@@ -111,7 +112,8 @@ module _ (g : Grid) (i a b c x0 x1 y0 y1 z0 z1 : ℕ) (here : blockAt g i ≡ co
         new x y z s =
             let px : x / 4096 ≡ a = omega arith in let py : y / 4096 ≡ b = omega arith in let pz : z / 4096 ≡ c = omega arith in
             record {
-              inside = record { x-low = omega arith; x-high = omega arith; y-low = omega arith; y-high = omega arith; z-low = omega arith; z-high = omega arith };
+              inside =
+                  record { x-low = omega arith; x-high = omega arith; y-low = omega arith; y-high = omega arith; z-low = omega arith; z-high = omega arith };
               block = rw (px, py, pz) there;
             }
 
@@ -121,7 +123,8 @@ module _ (g : Grid) (i a b c x0 x1 y0 y1 z0 z1 : ℕ) (here : blockAt g i ≡ co
             go : (t : Bool) → earlier g i (blockAtPlace x y z) ≡ t → Met g i x0 x1 y0 y1 z0 z1 x y z ⊎ Inside ax ex ay ey az ez x y z
             go true e = inl (record { inside = s .inside; block = e })
             go false e =
-                let w : sameBlock (blockAt g i) (blockAtPlace x y z) ≡ true = sym (ap (λ (t : Bool). t || sameBlock (blockAt g i) (blockAtPlace x y z)) e) ∙ sym (more g i (blockAtPlace x y z)) ∙ s .block in
+                let w : sameBlock (blockAt g i) (blockAtPlace x y z)
+                ≡ true = sym (ap (λ (t : Bool). t || sameBlock (blockAt g i) (blockAtPlace x y z)) e) ∙ sym (more g i (blockAtPlace x y z)) ∙ s .block in
                 let q = same-yes a b c (x / 4096) (y / 4096) (z / 4096) (sym (ap (λ (k : Coord). sameBlock k (blockAtPlace x y z)) here) ∙ w) in
                 let p = s .inside in
                 let kx = cx .all x (p .x-low) (p .x-high) (sym (q .0)) in
@@ -152,7 +155,9 @@ module _ (g : Grid) (x0 x1 y0 y1 z0 z1 : ℕ) where
   pub covered-none : Covered g 0 x0 x1 y0 y1 z0 z1 (ofBits binary32 0) 0
   unfolding earlier met
   covered-none = record {
-    most = subst (λ (r : Float). Most (readAt g) (Met g 0 x0 x1 y0 y1 z0 z1) r) (sym (zero-literal binary32)) (most-none (λ x y z s. absurd (subst T (sym (s .block)) tt)));
+    most =
+        subst (λ (r : Float). Most (readAt g) (Met g 0 x0 x1 y0 y1 z0 z1) r) (sym (zero-literal binary32))
+        (most-none (λ x y z s. absurd (subst T (sym (s .block)) tt)));
     count = sym (sum-nil (wide x0 x1) _ (λ a. sum-nil (wide y0 y1) _ (λ b. sum-nil (wide z0 z1) _ (λ c. refl))));
     small = omega arith;
   }
@@ -175,24 +180,31 @@ module _ (g : Grid) (x0 x1 y0 y1 z0 z1 : ℕ) where
   total = ap (λ (n : ℕ). wide x0 x1 * (wide y0 y1 * n)) (mul-one (wide z0 z1))
 
   -- as many as there are: every block of the box has a root
-  pub every : (i : ℕ) → blocksIn x0 x1 y0 y1 z0 z1 ≤ met g i x0 x1 y0 y1 z0 z1 → (x y z : ℕ) → Inside x0 x1 y0 y1 z0 z1 x y z → earlier g i (blockAtPlace x y z) ≡ true
+  pub every : (i : ℕ) → blocksIn x0 x1 y0 y1 z0 z1 ≤ met g i x0 x1 y0 y1 z0 z1 → (x y z : ℕ) → Inside x0 x1 y0 y1 z0 z1 x y z
+      → earlier g i (blockAtPlace x y z) ≡ true
   unfolding met plane row
   every i h x y z s =
       let p = x / 4096 - x0 / 4096 in let q = y / 4096 - y0 / 4096 in let r = z / 4096 - z0 / 4096 in
       let ep : x0 / 4096 + p ≡ x / 4096 = omega arith in let eq : y0 / 4096 + q ≡ y / 4096 = omega arith in let er : z0 / 4096 + r ≡ z / 4096 = omega arith in
-      let a = sum-full (wide x0 x1) (wide y0 y1 * (wide z0 z1 * 1)) (plane i) (λ t l. plane-most i t) (subst (λ (n : ℕ). n ≤ met g i x0 x1 y0 y1 z0 z1) (sym total) h) p (omega arith) in
+      let a = sum-full (wide x0 x1) (wide y0 y1 * (wide z0 z1 * 1)) (plane i) (λ t l. plane-most i t)
+      (subst (λ (n : ℕ). n ≤ met g i x0 x1 y0 y1 z0 z1) (sym total) h) p (omega arith) in
       let b = sum-full (wide y0 y1) (wide z0 z1 * 1) (row i p) (λ t l. row-most i p t) a q (omega arith) in
-      let c = sum-full (wide z0 z1) 1 (λ c. bit (earlier g i (corner (x0 / 4096 + p) (y0 / 4096 + q) (z0 / 4096 + c)))) (λ t l. bit-most (earlier g i (corner (x0 / 4096 + p) (y0 / 4096 + q) (z0 / 4096 + t)))) b r (omega arith) in
+      let c = sum-full (wide z0 z1) 1 (λ c. bit (earlier g i (corner (x0 / 4096 + p) (y0 / 4096 + q) (z0 / 4096 + c))))
+      (λ t l. bit-most (earlier g i (corner (x0 / 4096 + p) (y0 / 4096 + q) (z0 / 4096 + t)))) b r (omega arith) in
       rw (ep, eq, er) at (bit-one (earlier g i (corner (x0 / 4096 + p) (y0 / 4096 + q) (z0 / 4096 + r))) c)
 
-  pub whole : (i : ℕ) {m : Float} → blocksIn x0 x1 y0 y1 z0 z1 ≤ met g i x0 x1 y0 y1 z0 z1 → Most (readAt g) (Met g i x0 x1 y0 y1 z0 z1) m → Most (readAt g) (Inside x0 x1 y0 y1 z0 z1) m
+  pub whole : (i : ℕ) {m : Float} → blocksIn x0 x1 y0 y1 z0 z1 ≤ met g i x0 x1 y0 y1 z0 z1 → Most (readAt g) (Met g i x0 x1 y0 y1 z0 z1) m
+      → Most (readAt g) (Inside x0 x1 y0 y1 z0 z1) m
   whole i h = most-set (λ x y z s. s .inside) (λ x y z s. record { inside = s; block = every i h x y z s })
 
   -- fewer: some place of the box lies in a block that no root has
   start : (lo hi t : ℕ) → lo < hi → t < wide lo hi → (x : ℕ) × (lo ≤ x) × (x < hi) × (x / 4096 ≡ lo / 4096 + t)
-  start lo hi t h l = split-lt lo ((lo / 4096 + t) * 4096) (λ k. ((lo / 4096 + t) * 4096, omega arith, omega arith, omega arith)) (λ k. (lo, omega arith, omega arith, omega arith))
+  start lo hi t h l =
+      split-lt lo ((lo / 4096 + t) * 4096) (λ k. ((lo / 4096 + t) * 4096, omega arith, omega arith, omega arith))
+      (λ k. (lo, omega arith, omega arith, omega arith))
 
-  pub some : (i : ℕ) → x0 < x1 → y0 < y1 → z0 < z1 → met g i x0 x1 y0 y1 z0 z1 < blocksIn x0 x1 y0 y1 z0 z1 → (x : ℕ) × (y : ℕ) × (z : ℕ) × Inside x0 x1 y0 y1 z0 z1 x y z × (earlier g i (blockAtPlace x y z) ≡ false)
+  pub some : (i : ℕ) → x0 < x1 → y0 < y1 → z0 < z1 → met g i x0 x1 y0 y1 z0 z1 < blocksIn x0 x1 y0 y1 z0 z1
+      → (x : ℕ) × (y : ℕ) × (z : ℕ) × Inside x0 x1 y0 y1 z0 z1 x y z × (earlier g i (blockAtPlace x y z) ≡ false)
   unfolding met plane row
   some i hx hy hz h =
       let a = sum-gap (wide x0 x1) (wide y0 y1 * (wide z0 z1 * 1)) (plane i) (subst (λ (n : ℕ). met g i x0 x1 y0 y1 z0 z1 < n) (sym total) h) in
@@ -216,10 +228,14 @@ module _ (g : Grid) (x0 x1 y0 y1 z0 z1 : ℕ) where
       w : (x : ℕ) × (y : ℕ) × (z : ℕ) × Inside x0 x1 y0 y1 z0 z1 x y z × (earlier g (length (g .rootLinks)) (blockAtPlace x y z) ≡ false)
       w = some (length (g .rootLinks)) hx hy hz h
 
-      side : (x y z : ℕ) → Inside x0 x1 y0 y1 z0 z1 x y z → Met g (length (g .rootLinks)) x0 x1 y0 y1 z0 z1 x y z ⊎ (Inside x0 x1 y0 y1 z0 z1 x y z × (earlier g (length (g .rootLinks)) (blockAtPlace x y z) ≡ false))
+      side : (x y z : ℕ) → Inside x0 x1 y0 y1 z0 z1 x y z
+          → Met g (length (g .rootLinks)) x0 x1 y0 y1 z0 z1 x y z
+          ⊎ (Inside x0 x1 y0 y1 z0 z1 x y z × (earlier g (length (g .rootLinks)) (blockAtPlace x y z) ≡ false))
       side x y z s = go (earlier g (length (g .rootLinks)) (blockAtPlace x y z)) refl
         where
-          go : (b : Bool) → earlier g (length (g .rootLinks)) (blockAtPlace x y z) ≡ b → Met g (length (g .rootLinks)) x0 x1 y0 y1 z0 z1 x y z ⊎ (Inside x0 x1 y0 y1 z0 z1 x y z × (earlier g (length (g .rootLinks)) (blockAtPlace x y z) ≡ false))
+          go : (b : Bool) → earlier g (length (g .rootLinks)) (blockAtPlace x y z) ≡ b
+              → Met g (length (g .rootLinks)) x0 x1 y0 y1 z0 z1 x y z
+              ⊎ (Inside x0 x1 y0 y1 z0 z1 x y z × (earlier g (length (g .rootLinks)) (blockAtPlace x y z) ≡ false))
           go true e = inl (record { inside = s; block = e })
           go false e = inr (s, e)
 
@@ -248,7 +264,8 @@ clip-some {b} {lo} {hi} {a} {e} l h c = go (ltb b (lo / 4096)) refl h
 
 module _ (g : Grid) (i a b c x0 x1 y0 y1 z0 z1 : ℕ) (here : blockAt g i ≡ corner a b c) where
   -- a root that misses the box on some axis
-  pub step-apart : {m : Float} {k : ℕ} → x0 < x1 → y0 < y1 → z0 < z1 → (apart a x0 x1 ≡ true) ⊎ ((apart b y0 y1 ≡ true) ⊎ (apart c z0 z1 ≡ true)) → Covered g i x0 x1 y0 y1 z0 z1 m k → Covered g (i + 1) x0 x1 y0 y1 z0 z1 m k
+  pub step-apart : {m : Float} {k : ℕ} → x0 < x1 → y0 < y1 → z0 < z1 → (apart a x0 x1 ≡ true) ⊎ ((apart b y0 y1 ≡ true) ⊎ (apart c z0 z1 ≡ true))
+      → Covered g i x0 x1 y0 y1 z0 z1 m k → Covered g (i + 1) x0 x1 y0 y1 z0 z1 m k
   step-apart {m} {k} hx hy hz o v =
       subst (λ (n : ℕ). Covered g n x0 x1 y0 y1 z0 z1 m k) (sym (add-one i))
       (record {
@@ -257,7 +274,8 @@ module _ (g : Grid) (i a b c x0 x1 y0 y1 z0 z1 : ℕ) (here : blockAt g i ≡ co
         small = let h = v .small in omega arith;
       })
     where
-      out : (x y z : ℕ) → x0 / 4096 ≤ x → x ≤ (x1 - 1) / 4096 → y0 / 4096 ≤ y → y ≤ (y1 - 1) / 4096 → z0 / 4096 ≤ z → z ≤ (z1 - 1) / 4096 → (a ≡ x) × (b ≡ y) × (c ≡ z) → ⊥
+      out : (x y z : ℕ) → x0 / 4096 ≤ x → x ≤ (x1 - 1) / 4096 → y0 / 4096 ≤ y → y ≤ (y1 - 1) / 4096 → z0 / 4096 ≤ z → z ≤ (z1 - 1) / 4096
+          → (a ≡ x) × (b ≡ y) × (c ≡ z) → ⊥
       out x y z p q p' q' p'' q'' e =
           ⊎-elim (λ h. apart-out a x0 x1 h x p q (e .0))
           (λ w. ⊎-elim (λ h. apart-out b y0 y1 h y p' q' (e .1)) (λ h. apart-out c z0 z1 h z p'' q'' (e .2)) w) o
@@ -266,33 +284,47 @@ module _ (g : Grid) (s : Sound g) (i a b c x0 x1 y0 y1 z0 z1 ax ex ay ey az ez :
     (cx : Clip a x0 x1 ax ex) (cy : Clip b y0 y1 ay ey) (cz : Clip c z0 z1 az ez) where
   -- what is read in the part that it holds
   pub root-read : (x y z : ℕ) → Inside ax ex ay ey az ez x y z
-      → readAt g x y z ≡ entryRead (entryAt (g .rootLinks) (g .rootValues) i) (λ j. upperRead (g .upperLinks) (g .upperValues) (g .lowerLinks) (g .lowerValues) (g .leafValues) j x y z)
+      → readAt g x y z ≡ entryRead (entryAt (g .rootLinks) (g .rootValues) i)
+      (λ j. upperRead (g .upperLinks) (g .upperValues) (g .lowerLinks) (g .lowerValues) (g .leafValues) j x y z)
   root-read x y z t =
       let px : x / 4096 ≡ a = omega arith in let py : y / 4096 ≡ b = omega arith in let pz : z / 4096 ≡ c = omega arith in
       let e : blockAtPlace x y z ≡ blockAt g i = (λ i. corner (px i) (py i) (pz i)) ∙ sym here in
       found g s x y z i l (ap (earlier g i) e ∙ s .apart i l) (rw (px, py, pz) (ap (λ (k : Coord). sameBlock k (corner a b c)) here ∙ same-at a b c))
 
-  pub step-meets : {m v r : Float} {k : ℕ} → ax < ex → ay < ey → az < ez → Covered g i x0 x1 y0 y1 z0 z1 m k → Most (readAt g) (Inside ax ex ay ey az ez) v → r ≡ greater m v → Covered g (i + 1) x0 x1 y0 y1 z0 z1 r (k + 1)
+  pub step-meets : {m v r : Float} {k : ℕ} → ax < ex → ay < ey → az < ez → Covered g i x0 x1 y0 y1 z0 z1 m k
+      → Most (readAt g) (Inside ax ex ay ey az ez) v → r ≡ greater m v → Covered g (i + 1) x0 x1 y0 y1 z0 z1 r (k + 1)
   step-meets {m} {v} {r} {k} hx hy hz o w e =
       subst (λ (n : ℕ). Covered g n x0 x1 y0 y1 z0 z1 r (k + 1)) (sym (add-one i))
       (record {
-        most = subst (λ (q : Float). Most (readAt g) (Met g (suc i) x0 x1 y0 y1 z0 z1) q) (sym e) (meets-most g i a b c x0 x1 y0 y1 z0 z1 here ax ex ay ey az ez cx cy cz (o .most) w);
+        most =
+            subst (λ (q : Float). Most (readAt g) (Met g (suc i) x0 x1 y0 y1 z0 z1) q) (sym e)
+            (meets-most g i a b c x0 x1 y0 y1 z0 z1 here ax ex ay ey az ez cx cy cz (o .most) w);
         count = ap (λ (n : ℕ). n + 1) (o .count) ∙ sym (meets-met g i a b c x0 x1 y0 y1 z0 z1 here ax ex ay ey az ez cx cy cz (s .apart i l) hx hy hz);
         small = let h = o .small in omega arith;
       })
 
 -- ---- the end of the loop
 
-module _ (g : Grid) (s : Sound g) (i x0 x1 y0 y1 z0 z1 : ℕ) (m : Float) (k a b c : ℕ) (end : i ≡ length (g .rootLinks)) (o : Covered g i x0 x1 y0 y1 z0 z1 m k)
-    (ea : a ≡ wide x0 x1) (eb : b ≡ wide y0 y1) (ec : c ≡ wide z0 z1) where
-  as-many : a * (b * c) ≡ blocksIn x0 x1 y0 y1 z0 z1
-  as-many = rw (ea, eb, ec)
+-- all roots were gone through; a, b and c blocks lie along the three spans
+pub record Ended (g : Grid) (x y z : Span) (m : Float) (k a b c : ℕ) : Type 0 where
+  pub sound : Sound g
+  pub full : Full x y z
+  pub all : CoveredIn g (length (g .rootLinks)) x y z m k
+  pub along-x : a ≡ wide (x .lo) (x .hi)
+  pub along-y : b ≡ wide (y .lo) (y .hi)
+  pub along-z : c ≡ wide (z .lo) (z .hi)
 
-  pub ends-whole : a * (b * c) ≤ k → Most (readAt g) (Inside x0 x1 y0 y1 z0 z1) m
-  ends-whole h = whole g x0 x1 y0 y1 z0 z1 i (let e = o .count in let f = as-many in omega arith) (o .most)
+module _ {g : Grid} {x y z : Span} {m : Float} {k a b c : ℕ} (o : Ended g x y z m k a b c) where
+  as-many : a * (b * c) ≡ blocksIn (x .lo) (x .hi) (y .lo) (y .hi) (z .lo) (z .hi)
+  as-many = rw (o .along-x, o .along-y, o .along-z)
 
-  pub ends-gap : {r : Float} → x0 < x1 → y0 < y1 → z0 < z1 → k < a * (b * c) → r ≡ greater m (g .background) → Most (readAt g) (Inside x0 x1 y0 y1 z0 z1) r
-  ends-gap hx hy hz h e =
-      let v = subst (λ (n : ℕ). Covered g n x0 x1 y0 y1 z0 z1 m k) end o in
-      subst (λ (q : Float). Most (readAt g) (Inside x0 x1 y0 y1 z0 z1) q) (sym e)
-      (gap g x0 x1 y0 y1 z0 z1 s hx hy hz (let e = v .count in let f = as-many in omega arith) (v .most))
+  pub ends-whole : a * (b * c) ≤ k → Most (readAt g) (Within x y z) m
+  ends-whole h =
+      whole g (x .lo) (x .hi) (y .lo) (y .hi) (z .lo) (z .hi) (length (g .rootLinks))
+      (let e = o .all .count in let f = as-many in omega arith) (o .all .most)
+
+  pub ends-gap : {r : Float} → k < a * (b * c) → r ≡ greater m (g .background) → Most (readAt g) (Within x y z) r
+  ends-gap h e =
+      subst (λ (q : Float). Most (readAt g) (Within x y z) q) (sym e)
+      (gap g (x .lo) (x .hi) (y .lo) (y .hi) (z .lo) (z .hi) (o .sound) (o .full .x-some) (o .full .y-some) (o .full .z-some)
+      (let e = o .all .count in let f = as-many in omega arith) (o .all .most))

@@ -18,7 +18,7 @@ use Rattle.medium.specs.Medium.{Medium, Axis, xAxis, yAxis, zAxis, mediumFault}
 use Rattle.index.specs.Cells.{Cells, Ends, firstEnds, secondEnds}
 use Rattle.index.specs.Sixteen.{Only}
 use Rattle.index.specs.Alone.{only-first, only-second}
-use Rattle.majorant.specs.Boxes.{Box, boxMaximum}
+use Rattle.boxes.specs.Boxes.{Box, boxMaximum}
 use Rattle.majorant.specs.Figures.{boxOf, figure, figures}
 use Rattle.majorant.specs.Build.{build, buildInto}
 
@@ -57,8 +57,11 @@ given-box f h =
 given-figure : (maximum : Box → Float) (m : Medium) (n : Cells) (k : ℕ) → Given (figure maximum m n k)
 unfolding figure
 given-figure maximum m n k =
-    given-bind (boxOf (firstEnds m n k)) (λ (f : Box). bind (boxOf (secondEnds m n k)) (λ (s : Box). need (not (lt (maximum f) (maximum s))) 17 (ok (maximum f)))) (given-box (firstEnds m n k) (λ a. given-only (firstEnds m n k a) (only-first m n k a))) (λ f.
-    given-bind (boxOf (secondEnds m n k)) (λ (s : Box). need (not (lt (maximum f) (maximum s))) 17 (ok (maximum f))) (given-box (secondEnds m n k) (λ a. given-only (secondEnds m n k a) (only-second m n k a))) (λ s.
+    given-bind (boxOf (firstEnds m n k))
+    (λ (f : Box). bind (boxOf (secondEnds m n k)) (λ (s : Box). need (not (lt (maximum f) (maximum s))) 17 (ok (maximum f))))
+    (given-box (firstEnds m n k) (λ a. given-only (firstEnds m n k a) (only-first m n k a))) (λ f.
+    given-bind (boxOf (secondEnds m n k)) (λ (s : Box). need (not (lt (maximum f) (maximum s))) 17 (ok (maximum f)))
+    (given-box (secondEnds m n k) (λ a. given-only (secondEnds m n k a) (only-second m n k a))) (λ s.
     given-need (not (lt (maximum f) (maximum s))) 16 (ok (maximum f)) (given-ok (maximum f))))
 
 given-figures : (maximum : Box → Float) (m : Medium) (n : Cells) (c : ℕ) → Given (figures maximum m n c)

@@ -27,18 +27,19 @@ use Rattle.sparse_grid.specs.Tables.{Grid}
 use Rattle.sparse_grid.specs.Validate.{validate, densityFault}
 use Rattle.sparse_grid.specs.Lookup.{readIn}
 use Rattle.medium.specs.Medium.{Point, Medium, Axis, onCoord, boundsFault, indexFault, mapFault, mediumFault, each}
-use Rattle.majorant.specs.Boxes.{Box, boxMaximum}
+use Rattle.boxes.specs.Boxes.{Box, boxMaximum}
 use Rattle.majorant.specs.Figures.{boxOf, figure, figures}
 use Rattle.index.specs.Cells.{Cells, cellCorner, Ends, one, secondEnds, firstEnds, AroundIn, EnclosesIn}
 use Rattle.index.specs.Index.{worldToIndex}
 use Rattle.majorant.specs.Build.{build}
-use Rattle.majorant.specs.Offsets.{leZ-through, leZ-suc, suc-rises}
-use Rattle.majorant.specs.Maximum.{greatest, max-number}
+use Rattle.boxes.specs.Offsets.{leZ-through, leZ-suc, suc-rises}
+use Rattle.boxes.specs.Maximum.{greatest, max-number}
 use Rattle.index.specs.Middle.{Scaled, scaled, index-mid}
 use Rattle.refusals.specs.Results.{Result, ok, bind, need}
 
 -- ---- the figures, one by one
-figures-at : (maximum : Box → Float) (m : Medium) (n : Cells) (c : ℕ) (l : List Float) → figures maximum m n c ≡ ok l → (length l ≡ c) × ((k : ℕ) → k < c → figure maximum m n k ≡ ok (getD l k +0))
+figures-at : (maximum : Box → Float) (m : Medium) (n : Cells) (c : ℕ) (l : List Float) → figures maximum m n c ≡ ok l
+    → (length l ≡ c) × ((k : ℕ) → k < c → figure maximum m n k ≡ ok (getD l k +0))
 unfolding figures
 figures-at maximum m n zero l e = (ap length (sym (ok-injective e)), λ k h. absurd (native.Mathlib.Nat.not-suc-le-zero h))
 figures-at maximum m n (suc c) l e =
@@ -46,11 +47,13 @@ figures-at maximum m n (suc c) l e =
     let (v, r, s) = bind-ok (figure maximum m n c) (λ (v : Float). ok (l' ++ (v ∷ []))) q in
     more l' v (figures-at maximum m n c l' p) r (ok-injective s)
   where
-    more : (l' : List Float) (v : Float) → (length l' ≡ c) × ((k : ℕ) → k < c → figure maximum m n k ≡ ok (getD l' k +0)) → figure maximum m n c ≡ ok v → l' ++ (v ∷ []) ≡ l → (length l ≡ suc c) × ((k : ℕ) → k < suc c → figure maximum m n k ≡ ok (getD l k +0))
+    more : (l' : List Float) (v : Float) → (length l' ≡ c) × ((k : ℕ) → k < c → figure maximum m n k ≡ ok (getD l' k +0))
+        → figure maximum m n c ≡ ok v → l' ++ (v ∷ []) ≡ l → (length l ≡ suc c) × ((k : ℕ) → k < suc c → figure maximum m n k ≡ ok (getD l k +0))
     more l' v (z, f) r s = (
       ap length (sym s) ∙ length-append l' (v ∷ []) ∙ ap (λ (x : ℕ). x + 1) z ∙ native.Mathlib.Numerals.add-one c,
       λ k h. elim (eq-or-lt-of-le (le-of-suc-le-suc h)) [
-        | inl e ↦ ap (figure maximum m n) e ∙ r ∙ ap ok (sym (ap (λ (x : List Float). getD x k +0) (sym s) ∙ ap (λ (i : ℕ). getD (l' ++ (v ∷ [])) i +0) (e ∙ sym z) ∙ getD-append-seam l' v [] +0))
+        | inl e ↦ ap (figure maximum m n) e ∙ r
+            ∙ ap ok (sym (ap (λ (x : List Float). getD x k +0) (sym s) ∙ ap (λ (i : ℕ). getD (l' ++ (v ∷ [])) i +0) (e ∙ sym z) ∙ getD-append-seam l' v [] +0))
         | inr j ↦ f k j ∙ ap ok (sym (ap (λ (x : List Float). getD x k +0) (sym s) ∙ List·getD-append l' (v ∷ []) +0 k (subst (λ (i : ℕ). k < i) (sym z) j)))
       ],
     )
@@ -66,7 +69,8 @@ record Cell (maximum : Box → Float) (m : Medium) (n : Cells) (k : ℕ) (v : Fl
 cell : (maximum : Box → Float) (m : Medium) (n : Cells) (k : ℕ) (v : Float) → figure maximum m n k ≡ ok v → Cell maximum m n k v
 unfolding figure
 cell maximum m n k v e =
-    let (f, p, q) = bind-ok (boxOf (firstEnds m n k)) (λ (f : Box). bind (boxOf (secondEnds m n k)) (λ (s : Box). need (not (lt (maximum f) (maximum s))) 17 (ok (maximum f)))) e in
+    let (f, p, q) = bind-ok (boxOf (firstEnds m n k))
+    (λ (f : Box). bind (boxOf (secondEnds m n k)) (λ (s : Box). need (not (lt (maximum f) (maximum s))) 17 (ok (maximum f)))) e in
     let (s, r, t) = bind-ok (boxOf (secondEnds m n k)) (λ (s : Box). need (not (lt (maximum f) (maximum s))) 17 (ok (maximum f))) q in
     let u = need-ok (not (lt (maximum f) (maximum s))) 17 (ok (maximum f)) t in
     record { first = f; second = s; accepted = r; is = sym (ok-injective (u .1)); above = is-false (lt (maximum f) (maximum s)) (u .0) }
@@ -95,7 +99,8 @@ record Floored (m : Medium) (n : Cells) (k : ℕ) (s : Box) (a : Axis) : Type 0 
 floored : (m : Medium) (n : Cells) (k : ℕ) (s : Box) (a : Axis) → EndsOf (secondEnds m n k) s a → Floored m n k s a
 unfolding secondEnds
 floored m n k s a e =
-    let (l, p, q) = bind-ok (coordinate (floor binary64 (worldToIndex m (cellCorner m n k 0) a))) (λ (l : ℤ). bind (coordinate (add binary64 (floor binary64 (worldToIndex m (cellCorner m n k 1) a)) one)) (λ (h : ℤ). ok (made l h))) e in
+    let (l, p, q) = bind-ok (coordinate (floor binary64 (worldToIndex m (cellCorner m n k 0) a)))
+    (λ (l : ℤ). bind (coordinate (add binary64 (floor binary64 (worldToIndex m (cellCorner m n k 1) a)) one)) (λ (h : ℤ). ok (made l h))) e in
     let (h, r, t) = bind-ok (coordinate (add binary64 (floor binary64 (worldToIndex m (cellCorner m n k 1) a)) one)) (λ (h : ℤ). ok (made l h)) q in
     let o = ok-injective t in
     record {
@@ -112,23 +117,36 @@ record Inside (s : Box) (c : Coord) (a : Axis) : Type 0 where
   high : T (leZ (onCoord a c) (onCoord a (s .hi)))
   small : mag (onCoord a c) < 2 ^ 31
 
-inside : (m : Medium) (n : Cells) (k : ℕ) (s : Box) (p : Point) (c : Coord) → Scaled m → EnclosesIn m n k p → AroundIn m p c → (a : Axis) → Floored m n k s a → Inside s c a
+inside : (m : Medium) (n : Cells) (k : ℕ) (s : Box) (p : Point) (c : Coord) → Scaled m → EnclosesIn m n k p → AroundIn m p c → (a : Axis)
+    → Floored m n k s a → Inside s c a
 inside m n k s p c S e r a f =
     let i = index-mid m S (cellCorner m n k 0) (cellCorner m n k 1) p e a (f .low .0) (f .high .0) in
     let lo = worldToIndex m (cellCorner m n k 0) a in
     let hi = worldToIndex m (cellCorner m n k 1) a in
     let at = worldToIndex m p a in
-    let l : T (leZ (onCoord a (s .lo)) (floorZ at)) = subst (λ (z : ℤ). T (leZ z (floorZ at))) (sym (f .low .1)) (floorZ-rises lo at (i .first) (i .real) (i .rise)) in
-    let h : T (leZ (sucℤ (floorZ at)) (onCoord a (s .hi))) = subst (λ (z : ℤ). T (leZ (sucℤ (floorZ at)) z)) (sym (f .high .1)) (suc-rises (floorZ at) (floorZ hi) (floorZ-rises at hi (i .real) (i .last) (i .on))) in
+    let l : T (leZ (onCoord a (s .lo)) (floorZ at)) = subst (λ (z : ℤ). T (leZ z (floorZ at))) (sym (f .low .1))
+    (floorZ-rises lo at (i .first) (i .real) (i .rise)) in
+    let h : T (leZ (sucℤ (floorZ at)) (onCoord a (s .hi))) = subst (λ (z : ℤ). T (leZ (sucℤ (floorZ at)) z)) (sym (f .high .1))
+    (suc-rises (floorZ at) (floorZ hi) (floorZ-rises at hi (i .real) (i .last) (i .on))) in
     let b = both l h (r a) in
-    record { low = b .0; high = b .1; small = mag-between (onCoord a (s .lo)) (onCoord a c) (onCoord a (s .hi)) (2 ^ 31) (b .0) (b .1) (f .low .2) (f .high .2) }
+    record {
+      low = b .0;
+      high = b .1;
+      small = mag-between (onCoord a (s .lo)) (onCoord a c) (onCoord a (s .hi)) (2 ^ 31) (b .0) (b .1) (f .low .2) (f .high .2);
+    }
   where
-    both : T (leZ (onCoord a (s .lo)) (floorZ (worldToIndex m p a))) → T (leZ (sucℤ (floorZ (worldToIndex m p a))) (onCoord a (s .hi))) → (onCoord a c ≡ floorZ (worldToIndex m p a)) ⊎ (onCoord a c ≡ sucℤ (floorZ (worldToIndex m p a)))
+    both : T (leZ (onCoord a (s .lo)) (floorZ (worldToIndex m p a))) → T (leZ (sucℤ (floorZ (worldToIndex m p a))) (onCoord a (s .hi)))
+        → (onCoord a c ≡ floorZ (worldToIndex m p a)) ⊎ (onCoord a c ≡ sucℤ (floorZ (worldToIndex m p a)))
         → T (leZ (onCoord a (s .lo)) (onCoord a c)) × T (leZ (onCoord a c) (onCoord a (s .hi)))
-    both l h (inl e) = subst (λ (z : ℤ). T (leZ (onCoord a (s .lo)) z) × T (leZ z (onCoord a (s .hi)))) (sym e) (l, leZ-through (floorZ (worldToIndex m p a)) (sucℤ (floorZ (worldToIndex m p a))) (onCoord a (s .hi)) (leZ-suc (floorZ (worldToIndex m p a))) h)
-    both l h (inr e) = subst (λ (z : ℤ). T (leZ (onCoord a (s .lo)) z) × T (leZ z (onCoord a (s .hi)))) (sym e) (leZ-through (onCoord a (s .lo)) (floorZ (worldToIndex m p a)) (sucℤ (floorZ (worldToIndex m p a))) l (leZ-suc (floorZ (worldToIndex m p a))), h)
+    both l h (inl e) =
+        subst (λ (z : ℤ). T (leZ (onCoord a (s .lo)) z) × T (leZ z (onCoord a (s .hi)))) (sym e)
+        (l, leZ-through (floorZ (worldToIndex m p a)) (sucℤ (floorZ (worldToIndex m p a))) (onCoord a (s .hi)) (leZ-suc (floorZ (worldToIndex m p a))) h)
+    both l h (inr e) =
+        subst (λ (z : ℤ). T (leZ (onCoord a (s .lo)) z) × T (leZ z (onCoord a (s .hi)))) (sym e)
+        (leZ-through (onCoord a (s .lo)) (floorZ (worldToIndex m p a)) (sucℤ (floorZ (worldToIndex m p a))) l (leZ-suc (floorZ (worldToIndex m p a))), h)
 
-pub figure-bounds : (read : Coord → Float) (m : Medium) (n : Cells) (k : ℕ) (v : Float) → Scaled m → figure (boxMaximum read) m n k ≡ ok v → (p : Point) → EnclosesIn m n k p → (c : Coord) → AroundIn m p c → Signed32 c × (lt v (read c) ≡ false)
+pub figure-bounds : (read : Coord → Float) (m : Medium) (n : Cells) (k : ℕ) (v : Float) → Scaled m → figure (boxMaximum read) m n k ≡ ok v
+    → (p : Point) → EnclosesIn m n k p → (c : Coord) → AroundIn m p c → Signed32 c × (lt v (read c) ≡ false)
 figure-bounds read m n k v S e p i c r =
     let C = cell (boxMaximum read) m n k v e in
     let s = C .second in
@@ -136,7 +154,15 @@ figure-bounds read m n k v S e p i c r =
       record { x = on xAxis .small; y = on yAxis .small; z = on zAxis .small },
       subst (λ (x : Float). lt x (read c) ≡ false) (sym (C .is))
           (not-lt-through (boxMaximum read (C .first)) (boxMaximum read s) (read c) (max-number read s) (C .above)
-          (greatest read s .covers c (record { x-low = leZ-yes (on xAxis .low); x-high = leZ-yes (on xAxis .high); y-low = leZ-yes (on yAxis .low); y-high = leZ-yes (on yAxis .high); z-low = leZ-yes (on zAxis .low); z-high = leZ-yes (on zAxis .high) }))),
+          (greatest read s .covers c
+          (record {
+            x-low = leZ-yes (on xAxis .low);
+            x-high = leZ-yes (on xAxis .high);
+            y-low = leZ-yes (on yAxis .low);
+            y-high = leZ-yes (on yAxis .high);
+            z-low = leZ-yes (on zAxis .low);
+            z-high = leZ-yes (on zAxis .high);
+          }))),
     )
 
 -- ---- a table that was built
@@ -162,5 +188,6 @@ built g m n l e =
     record { bounds = each-none (boundsFault m) (b .0); scale = scaled m (then-zero (each (indexFault m)) (mapFault m) (b .1) .1); size = f .0; figure = f .1 }
 
 -- of a table that was built
-pub bounded : (g : Grid) (m : Medium) (n : Cells) (l : List Float) → build g m n ≡ ok l → (p : Point) (k : ℕ) → k < n .x * n .y * n .z → EnclosesIn m n k p → (c : Coord) → AroundIn m p c → Signed32 c × (lt (getD l k +0) (readIn g c) ≡ false)
+pub bounded : (g : Grid) (m : Medium) (n : Cells) (l : List Float) → build g m n ≡ ok l → (p : Point) (k : ℕ) → k < n .x * n .y * n .z
+    → EnclosesIn m n k p → (c : Coord) → AroundIn m p c → Signed32 c × (lt (getD l k +0) (readIn g c) ≡ false)
 bounded g m n l e p k h i c r = let b = built g m n l e in figure-bounds (readIn g) m n k (getD l k +0) (b .scale) (b .figure k h) p i c r

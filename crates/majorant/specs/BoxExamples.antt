@@ -14,7 +14,7 @@ use Rattle.sparse_grid.specs.Tables.{Grid, gridOf}
 use Rattle.sparse_grid.specs.Validate.{pairFault, shapeFault, validate}
 use Rattle.sparse_grid.specs.Lookup.{readIn, valueIn}
 use Rattle.sparse_grid.specs.Examples.{no-roots}
-use Rattle.majorant.specs.Boxes.{Box, greater, greatestRun, span, boxMaximum}
+use Rattle.boxes.specs.Boxes.{Box, greater, greatestRun, span, boxMaximum}
 use Rattle.majorant.specs.Build.{publicMaximum}
 
 -- nothing above +0 raises it
@@ -42,7 +42,8 @@ none-above read b h =
     below : {v : Float} → v ≡ +0 → lt +0 v ≡ false
     below e = ap (lt +0) e ∙ zero-below
 
-    plane : (x : ℤ) → greatestRun (span (b .lo .y) (b .hi .y)) (b .lo .y) (λ y. greatestRun (span (b .lo .z) (b .hi .z)) (b .lo .z) (λ z. read (record { x = x; y = y; z = z }))) ≡ +0
+    plane : (x : ℤ) → greatestRun (span (b .lo .y) (b .hi .y)) (b .lo .y)
+        (λ y. greatestRun (span (b .lo .z) (b .hi .z)) (b .lo .z) (λ z. read (record { x = x; y = y; z = z }))) ≡ +0
     plane x = flat (span (b .lo .y) (b .hi .y)) (b .lo .y) _ (λ y. below (line x y))
 
 -- no roots: every lookup reads the background, so the maximum of any box is +0 where the background is not above it

@@ -10,7 +10,7 @@ use Rattle.sparse_grid.specs.Validate.{validate, densityFault}
 use Rattle.sparse_grid.specs.Lookup.{readIn}
 use Rattle.medium.specs.Medium.{Medium, mediumFault}
 use Rattle.index.specs.Cells.{Cells}
-use Rattle.majorant.specs.Boxes.{Box, boxMaximum}
+use Rattle.boxes.specs.Boxes.{Box, boxMaximum}
 use Rattle.majorant.specs.Figures.{figures}
 
 -- validate first, an added step

@@ -15,7 +15,7 @@ use Rattle.medium.specs.Medium.{Point, Medium, boundsFault, indexFault, mapFaul
 use Rattle.index.specs.Cells.{Cells, corner, firstEnds, secondEnds}
 use Rattle.majorant.specs.Figures.{figure, figures}
 use Rattle.index.specs.Index.{worldToIndex, majorantIndex}
-use Rattle.majorant.specs.Boxes.{boxMaximum}
+use Rattle.boxes.specs.Boxes.{boxMaximum}
 use Rattle.majorant.specs.Build.{build, buildInto}
 use Rattle.float.specs.Zero.{+0}
 use Rattle.float.specs.Coordinate.{coordinate}
@@ -35,16 +35,36 @@ here v = record { x = v; y = v; z = v }
 
 -- no roots, background 1 / 2
 abbrev smoke : Grid
-smoke = record { background = half; blocks = []; rootLinks = []; rootValues = []; upperLinks = []; upperValues = []; lowerLinks = []; lowerValues = []; leafValues = [] }
+smoke =
+    record {
+      background = half;
+      blocks = [];
+      rootLinks = [];
+      rootValues = [];
+      upperLinks = [];
+      upperValues = [];
+      lowerLinks = [];
+      lowerValues = [];
+      leafValues = [];
+    }
 
 abbrev box : Medium
-box = record { low = at +0; high = at (whole 1); indexLow = here (pos 0); indexHigh = here (pos 3); map = whole 1 ∷ +0 ∷ +0 ∷ +0 ∷ whole 1 ∷ +0 ∷ +0 ∷ +0 ∷ whole 1 ∷ []; translation = at +0 }
+box =
+    record {
+      low = at +0;
+      high = at (whole 1);
+      indexLow = here (pos 0);
+      indexHigh = here (pos 3);
+      map = whole 1 ∷ +0 ∷ +0 ∷ +0 ∷ whole 1 ∷ +0 ∷ +0 ∷ +0 ∷ whole 1 ∷ [];
+      translation = at +0;
+    }
 
 two : Cells
 two = record { x = 2; y = 1; z = 1 }
 
 accepted : build smoke box two ≡ ok (half ∷ half ∷ [])
-unfolding build two validate densityFault boundsFault indexFault mapFault figures figure firstEnds secondEnds coordinate majorantIndex worldToIndex corner boxMaximum lookup F.trunc F.floor F.fma F.plus F.narrow add sub mul div lt le eq ofInt toSigned
+unfolding build two validate densityFault boundsFault indexFault mapFault figures figure firstEnds secondEnds coordinate majorantIndex worldToIndex
+    corner boxMaximum lookup F.trunc F.floor F.fma F.plus F.narrow add sub mul div lt le eq ofInt toSigned
 accepted = refl
 
 -- a table of another length than the cells
@@ -57,7 +77,8 @@ abbrev aside : Medium
 aside = record { low = at +0; high = at (whole 1); indexLow = here (pos 5); indexHigh = here (pos 7); map = box .map; translation = at +0 }
 
 missed : build smoke aside two ≡ refused 17
-unfolding build two validate densityFault boundsFault indexFault mapFault figures figure firstEnds secondEnds coordinate majorantIndex worldToIndex corner boxMaximum lookup F.trunc F.floor F.fma F.plus F.narrow add sub mul div lt le eq ofInt toSigned
+unfolding build two validate densityFault boundsFault indexFault mapFault figures figure firstEnds secondEnds coordinate majorantIndex worldToIndex
+    corner boxMaximum lookup F.trunc F.floor F.fma F.plus F.narrow add sub mul div lt le eq ofInt toSigned
 missed = refl
 
 -- a zero width
@@ -65,12 +86,21 @@ abbrev flat : Medium
 flat = record { low = at +0; high = at +0; indexLow = here (pos 0); indexHigh = here (pos 3); map = box .map; translation = at +0 }
 
 no-width : build smoke flat two ≡ refused 4
-unfolding build two validate densityFault boundsFault indexFault mapFault figures figure firstEnds secondEnds coordinate majorantIndex worldToIndex corner boxMaximum lookup F.trunc F.floor F.fma F.plus F.narrow add sub mul div lt le eq ofInt toSigned
+unfolding build two validate densityFault boundsFault indexFault mapFault figures figure firstEnds secondEnds coordinate majorantIndex worldToIndex
+    corner boxMaximum lookup F.trunc F.floor F.fma F.plus F.narrow add sub mul div lt le eq ofInt toSigned
 no-width = refl
 
 -- a thin world box: corner 63 lies below corner 62, so corners do not rise with k, and cell 62 encloses nothing
 abbrev thin : Medium
-thin = record { low = at (ofBits binary32 1068668056); high = at (ofBits binary32 1068668065); indexLow = here (pos 0); indexHigh = here (pos 3); map = box .map; translation = at +0 }
+thin =
+    record {
+      low = at (ofBits binary32 1068668056);
+      high = at (ofBits binary32 1068668065);
+      indexLow = here (pos 0);
+      indexHigh = here (pos 3);
+      map = box .map;
+      translation = at +0;
+    }
 
 swapped : lt (corner thin xAxis 64 63) (corner thin xAxis 64 62) ≡ true
 unfolding corner add sub mul div lt ofInt ofBits

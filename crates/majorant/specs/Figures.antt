@@ -6,7 +6,7 @@ use lib.Ieee.{Float, lt}
 use Rattle.refusals.specs.Results.{Result, ok, bind, need}
 use Rattle.medium.specs.Medium.{Medium, Axis, xAxis, yAxis, zAxis}
 use Rattle.index.specs.Cells.{Cells, Ends, firstEnds, secondEnds}
-use Rattle.majorant.specs.Boxes.{Box}
+use Rattle.boxes.specs.Boxes.{Box}
 
 -- the box of its three axes, or the fault of the first axis that has one
 abbrev pub boxOf : (Axis → Result Ends) → Result Box

@@ -15,7 +15,7 @@ use Rattle.sparse_grid.specs.Tables.{Grid, entryOf, blockAt}
 use Rattle.sparse_grid.specs.Validate.{pairFault}
 use Rattle.sparse_grid.specs.Lookup.{Found, refused, lookup, rootsFrom, rootEntry, upperEntry, lowerEntry, upperAt, lowerAt, leafAt, valueIn, readIn}
 use Rattle.sparse_grid.specs.Count.{split-lt}
-use Rattle.majorant.specs.Boxes.{Box, greatestRun, span, boxMaximum}
+use Rattle.boxes.specs.Boxes.{Box, greatestRun, span, boxMaximum}
 
 abbrev pub Fine : List Float → Type 0
 Fine xs = (i : ℕ) → T (fits binary32 (getD xs i +0))
@@ -28,7 +28,8 @@ pick : (b : Bool) (p q : Found) → T (fits binary32 (valueIn p)) → T (fits bi
 pick true p q h k = h
 pick false p q h k = k
 
-module _ (g : Grid) (c : Coord) (back : T (fits binary32 (g .background))) (roots : Fine (g .rootValues)) (upper : Fine (g .upperValues)) (lower : Fine (g .lowerValues)) (leaf : Fine (g .leafValues)) where
+module _ (g : Grid) (c : Coord) (back : T (fits binary32 (g .background))) (roots : Fine (g .rootValues)) (upper : Fine (g .upperValues))
+    (lower : Fine (g .lowerValues)) (leaf : Fine (g .leafValues)) where
   leaf-fits : (k : ℕ) → T (fits binary32 (valueIn (leafAt g k c)))
   leaf-fits k = pick (leb (512 * (k + 1)) (length (g .leafValues))) _ (refused 11) (leaf (512 * k + slot 8 1 c)) zero-fits
 
@@ -37,14 +38,18 @@ module _ (g : Grid) (c : Coord) (back : T (fits binary32 (g .background))) (root
   lower-entry (suc j) v h = leaf-fits j
 
   lower-fits : (k : ℕ) → T (fits binary32 (valueIn (lowerAt g k c)))
-  lower-fits k = pick (leb (4096 * (k + 1)) (length (g .lowerLinks))) _ (refused 11) (lower-entry (getD (g .lowerLinks) (4096 * k + slot 16 8 c) 0) _ (lower (4096 * k + slot 16 8 c))) zero-fits
+  lower-fits k =
+      pick (leb (4096 * (k + 1)) (length (g .lowerLinks))) _ (refused 11)
+      (lower-entry (getD (g .lowerLinks) (4096 * k + slot 16 8 c) 0) _ (lower (4096 * k + slot 16 8 c))) zero-fits
 
   upper-entry : (l : ℕ) (v : Float) → T (fits binary32 v) → T (fits binary32 (valueIn (upperEntry g c (entryOf l v))))
   upper-entry zero v h = h
   upper-entry (suc j) v h = lower-fits j
 
   upper-fits : (k : ℕ) → T (fits binary32 (valueIn (upperAt g k c)))
-  upper-fits k = pick (leb (32768 * (k + 1)) (length (g .upperLinks))) _ (refused 11) (upper-entry (getD (g .upperLinks) (32768 * k + slot 32 128 c) 0) _ (upper (32768 * k + slot 32 128 c))) zero-fits
+  upper-fits k =
+      pick (leb (32768 * (k + 1)) (length (g .upperLinks))) _ (refused 11)
+      (upper-entry (getD (g .upperLinks) (32768 * k + slot 32 128 c) 0) _ (upper (32768 * k + slot 32 128 c))) zero-fits
 
   root-entry : (l : ℕ) (v : Float) → T (fits binary32 v) → T (fits binary32 (valueIn (rootEntry g c (entryOf l v))))
   root-entry zero v h = h
@@ -53,7 +58,8 @@ module _ (g : Grid) (c : Coord) (back : T (fits binary32 (g .background))) (root
   roots-fit : (n i : ℕ) → T (fits binary32 (valueIn (rootsFrom g n i c)))
   unfolding rootsFrom
   roots-fit zero i = back
-  roots-fit (suc n) i = pick (sameBlock (blockAt g i) (blockOf c)) _ (rootsFrom g n (i + 1) c) (root-entry (getD (g .rootLinks) i 0) _ (roots i)) (roots-fit n (i + 1))
+  roots-fit (suc n) i =
+      pick (sameBlock (blockAt g i) (blockOf c)) _ (rootsFrom g n (i + 1) c) (root-entry (getD (g .rootLinks) i 0) _ (roots i)) (roots-fit n (i + 1))
 
   pub read-fits : T (fits binary32 (readIn g c))
   unfolding lookup
@@ -70,9 +76,12 @@ fine xs h i =
 run-fits : (n : ℕ) (from : ℤ) (f : ℤ → Float) → ((z : ℤ) → T (fits binary32 (f z))) → T (fits binary32 (greatestRun n from f))
 unfolding greatestRun
 run-fits zero from f h = zero-fits
-run-fits (suc n) from f h = cond-fits binary32 (lt (greatestRun n from f) (f (from +ℤ pos n))) (f (from +ℤ pos n)) (greatestRun n from f) (h (from +ℤ pos n)) (run-fits n from f h)
+run-fits (suc n) from f h =
+    cond-fits binary32 (lt (greatestRun n from f) (f (from +ℤ pos n))) (f (from +ℤ pos n)) (greatestRun n from f) (h (from +ℤ pos n)) (run-fits n from f h)
 
 pub box-fits : (read : Coord → Float) (b : Box) → ((c : Coord) → T (fits binary32 (read c))) → T (fits binary32 (boxMaximum read b))
 unfolding boxMaximum
 box-fits read b h =
-    run-fits (span (b .lo .x) (b .hi .x)) (b .lo .x) _ (λ x. run-fits (span (b .lo .y) (b .hi .y)) (b .lo .y) _ (λ y. run-fits (span (b .lo .z) (b .hi .z)) (b .lo .z) _ (λ z. h (record { x = x; y = y; z = z }))))
+    run-fits (span (b .lo .x) (b .hi .x))
+    (b .lo .x) _ (λ x. run-fits (span (b .lo .y) (b .hi .y))
+    (b .lo .y) _ (λ y. run-fits (span (b .lo .z) (b .hi .z)) (b .lo .z) _ (λ z. h (record { x = x; y = y; z = z }))))

@@ -1,18 +1,12 @@
 -- Definitions that the public contracts and the one claim cite.
-pub mod Boxes
 pub mod Figures
 pub mod Build
 -- Definitions that only contracts within the crate cite.
-pub mod Most
-pub mod RangeMax
 pub mod Rows
 -- Worked examples.
 pub mod BoxExamples
 pub mod BuildExamples
 -- Laws.
-pub mod Offsets
-pub mod Maximum
-pub mod Greatest
 pub mod FitLaws
 pub mod RowLaws
 pub mod Accepted

@@ -18,15 +18,16 @@ use Rattle.index.specs.Axes.{Both, axisEnds, lineOf, endsAt}
 use Rattle.index.specs.Alone.{boxes-alone}
 use Rattle.index.specs.Enclosed.{cell-x, cell-y, cell-z}
 use Rattle.index.specs.declared.AxisEnds.{AxisEnds}
-use Rattle.majorant.specs.Boxes.{Box, boxMaximum}
+use Rattle.boxes.specs.Boxes.{Box, boxMaximum}
 use Rattle.majorant.specs.Figures.{figure, figures}
-use Rattle.majorant.specs.Offsets.{leZ-through}
-use Rattle.majorant.specs.Maximum.{greatest}
-use Rattle.majorant.specs.Greatest.{greatest-within}
+use Rattle.boxes.specs.Offsets.{leZ-through}
+use Rattle.boxes.specs.Maximum.{greatest}
+use Rattle.boxes.specs.Greatest.{greatest-within}
 use Rattle.majorant.specs.Rows.{boxMade, firstBox, secondBox, firstHolds, boxFigure, cellFigure, chain, push, rowOf, planeOf, volumeOf}
 
 -- ---- a second box within the first
-pub held : (read : Coord → Float) (x y z : AxisEnds) → (firstHolds x && firstHolds y && firstHolds z) ≡ true → lt (boxMaximum read (firstBox x y z)) (boxMaximum read (secondBox x y z)) ≡ false
+pub held : (read : Coord → Float) (x y z : AxisEnds) → (firstHolds x && firstHolds y && firstHolds z) ≡ true
+    → lt (boxMaximum read (firstBox x y z)) (boxMaximum read (secondBox x y z)) ≡ false
 held read x y z e =
     let t : T (firstHolds x && firstHolds y && firstHolds z) = yes e in
     let xy = and-l (firstHolds x && firstHolds y) (firstHolds z) t in
@@ -49,7 +50,8 @@ held read x y z e =
     high a h = and-r (leZ (a .«first_lo») (a .«second_lo»)) (leZ (a .«second_hi») (a .«first_hi»)) h
 
 -- ---- a cell by its axes
-cell-alone : (maximum : Box → Float) (m : Medium) → mapFault m ≡ 0 → (n : Cells) (k : ℕ) → figure maximum m n k ≡ cellFigure maximum (endsAt m n k xAxis) (endsAt m n k yAxis) (endsAt m n k zAxis)
+cell-alone : (maximum : Box → Float) (m : Medium) → mapFault m ≡ 0 → (n : Cells) (k : ℕ)
+    → figure maximum m n k ≡ cellFigure maximum (endsAt m n k xAxis) (endsAt m n k yAxis) (endsAt m n k zAxis)
 unfolding figure cellFigure
 cell-alone maximum m M n k = boxes-alone m M n k boxMade (boxFigure maximum)
 
@@ -77,7 +79,8 @@ module _ (maximum : Box → Float) (m : Medium) (n : Cells) (start size : ℕ) (
 
       none : (a b : ℕ) → a ≡ a + 0 * b
       none a b = sym (ap (λ (x : ℕ). a + x) (zero-mul b) ∙ add-zero a)
-  run-is (suc c) h = sym (bind-again (F start) (chain step c) (step c)) ∙ ap (λ (r : Result (List Float)). bind r (step c)) (run-is c (λ i l. h i (more i c l))) ∙ h c (last c)
+  run-is (suc c) h =
+      sym (bind-again (F start) (chain step c) (step c)) ∙ ap (λ (r : Result (List Float)). bind r (step c)) (run-is c (λ i l. h i (more i c l))) ∙ h c (last c)
     where
       more : (i c : ℕ) → i < c → i < suc c
       more i c h = omega arith
@@ -86,10 +89,13 @@ module _ (maximum : Box → Float) (m : Medium) (n : Cells) (start size : ℕ) (
       last c = omega arith
 
 module _ (maximum : Box → Float) (m : Medium) (M : mapFault m ≡ 0) (n : Cells) (xs ys zs : ℕ → Result Both)
-    (hx : (i : ℕ) → i < n .x → xs i ≡ axisEnds (lineOf m xAxis) (n .x) i) (hy : (i : ℕ) → i < n .y → ys i ≡ axisEnds (lineOf m yAxis) (n .y) i) (hz : (i : ℕ) → i < n .z → zs i ≡ axisEnds (lineOf m zAxis) (n .z) i) where
+    (hx : (i : ℕ) → i < n .x → xs i ≡ axisEnds (lineOf m xAxis) (n .x) i) (hy : (i : ℕ) → i < n .y → ys i ≡ axisEnds (lineOf m yAxis) (n .y) i)
+    (hz : (i : ℕ) → i < n .z → zs i ≡ axisEnds (lineOf m zAxis) (n .z) i) where
   cell-is : (x y z : ℕ) → x < n .x → y < n .y → z < n .z → cellFigure maximum (xs x) (ys y) (zs z) ≡ figure maximum m n (cellOf n x y z)
   cell-is x y z X Y Z =
-      (λ t. cellFigure maximum ((hx x X ∙ ap (axisEnds (lineOf m xAxis) (n .x)) (sym (cell-x n x y z X Y Z))) t) ((hy y Y ∙ ap (axisEnds (lineOf m yAxis) (n .y)) (sym (cell-y n x y z X Y Z))) t) ((hz z Z ∙ ap (axisEnds (lineOf m zAxis) (n .z)) (sym (cell-z n x y z X Y Z))) t))
+      (λ t. cellFigure maximum ((hx x X ∙ ap (axisEnds (lineOf m xAxis) (n .x)) (sym (cell-x n x y z X Y Z))) t)
+      ((hy y Y ∙ ap (axisEnds (lineOf m yAxis) (n .y)) (sym (cell-y n x y z X Y Z))) t)
+      ((hz z Z ∙ ap (axisEnds (lineOf m zAxis) (n .z)) (sym (cell-z n x y z X Y Z))) t))
       ∙ sym (cell-alone maximum m M n (cellOf n x y z))
 
   abbrev rowStart : ℕ → ℕ → ℕ
@@ -99,11 +105,13 @@ module _ (maximum : Box → Float) (m : Medium) (M : mapFault m ≡ 0) (n : Cell
   unfolding figures
   next-figure c k e = ap (λ (k : ℕ). bind (figures maximum m n c) (push (figure maximum m n k))) (sym e)
 
-  row-is : (y z : ℕ) → y < n .y → z < n .z → bind (figures maximum m n (rowStart y z)) (rowOf maximum xs (ys y) (zs z) (n .x)) ≡ figures maximum m n (rowStart y z + n .x)
+  row-is : (y z : ℕ) → y < n .y → z < n .z
+      → bind (figures maximum m n (rowStart y z)) (rowOf maximum xs (ys y) (zs z) (n .x)) ≡ figures maximum m n (rowStart y z + n .x)
   unfolding rowOf
   row-is y z Y Z =
       run-is maximum m n (rowStart y z) 1 (λ i. push (cellFigure maximum (xs i) (ys y) (zs z))) (n .x) (λ i I.
-      bind-same (figures maximum m n (rowStart y z + i * 1)) (push (cellFigure maximum (xs i) (ys y) (zs z))) (push (figure maximum m n (cellOf n i y z))) (λ l. ap (λ (r : Result Float). push r l) (cell-is i y z I Y Z))
+      bind-same (figures maximum m n (rowStart y z + i * 1)) (push (cellFigure maximum (xs i) (ys y) (zs z)))
+      (push (figure maximum m n (cellOf n i y z))) (λ l. ap (λ (r : Result Float). push r l) (cell-is i y z I Y Z))
       ∙ next-figure (rowStart y z + i * 1) (cellOf n i y z) (once (rowStart y z) i) ∙ ap (figures maximum m n) (sum (rowStart y z) i))
       ∙ ap (figures maximum m n) (once (rowStart y z) (n .x))
     where
@@ -113,7 +121,8 @@ module _ (maximum : Box → Float) (m : Medium) (M : mapFault m ≡ 0) (n : Cell
       sum : (a i : ℕ) → suc (a + i * 1) ≡ a + suc i * 1
       sum a i = omega arith
 
-  plane-is : (z : ℕ) → z < n .z → bind (figures maximum m n (z * (n .y * n .x))) (planeOf maximum xs ys (zs z) (n .x) (n .y)) ≡ figures maximum m n (z * (n .y * n .x) + n .y * n .x)
+  plane-is : (z : ℕ) → z < n .z
+      → bind (figures maximum m n (z * (n .y * n .x))) (planeOf maximum xs ys (zs z) (n .x) (n .y)) ≡ figures maximum m n (z * (n .y * n .x) + n .y * n .x)
   unfolding planeOf
   plane-is z Z = run-is maximum m n (z * (n .y * n .x)) (n .x) (λ j. rowOf maximum xs (ys j) (zs z) (n .x)) (n .y) (λ j J.
       ap (λ (c : ℕ). bind (figures maximum m n c) (rowOf maximum xs (ys j) (zs z) (n .x))) (from z (n .y) (n .x) j)
@@ -123,7 +132,9 @@ module _ (maximum : Box → Float) (m : Medium) (M : mapFault m ≡ 0) (n : Cell
       from z b a j = ap (λ (x : ℕ). x + j * a) (sym (mul-assoc z b a)) ∙ sym (native.Mathlib.Nat.add-mul (z * b) j a)
 
       to : (z b a j : ℕ) → (z * b + j) * a + a ≡ z * (b * a) + suc j * a
-      to z b a j = ap (λ (x : ℕ). x + a) (sym (from z b a j)) ∙ native.Mathlib.Nat.add-assoc (z * (b * a)) (j * a) a ∙ ap (λ (x : ℕ). z * (b * a) + x) (sym (native.Mathlib.Nat.suc-mul j a))
+      to z b a j =
+          ap (λ (x : ℕ). x + a) (sym (from z b a j)) ∙ native.Mathlib.Nat.add-assoc (z * (b * a)) (j * a) a
+          ∙ ap (λ (x : ℕ). z * (b * a) + x) (sym (native.Mathlib.Nat.suc-mul j a))
 
   pub volume-is : volumeOf maximum xs ys zs (n .x) (n .y) (n .z) [] ≡ figures maximum m n (n .x * n .y * n .z)
   unfolding volumeOf figures

@@ -12,7 +12,7 @@ use Rattle.index.specs.Cells.{Ends}
 use Rattle.index.specs.Axes.{Both}
 use Rattle.index.specs.Answers.{bothOf}
 use Rattle.index.specs.declared.AxisEnds.{AxisEnds}
-use Rattle.majorant.specs.Boxes.{Box}
+use Rattle.boxes.specs.Boxes.{Box}
 use Rattle.majorant.specs.declared.build.Figure.{Figure}
 
 abbrev pub figureOf : Figure → Result Float
@@ -23,10 +23,15 @@ abbrev pub boxMade : Ends → Ends → Ends → Box
 boxMade x y z = record { lo = record { x = x .lo; y = y .lo; z = z .lo }; hi = record { x = x .hi; y = y .hi; z = z .hi } }
 
 abbrev pub firstBox : AxisEnds → AxisEnds → AxisEnds → Box
-firstBox x y z = record { lo = record { x = x .«first_lo»; y = y .«first_lo»; z = z .«first_lo» }; hi = record { x = x .«first_hi»; y = y .«first_hi»; z = z .«first_hi» } }
+firstBox x y z =
+    record { lo = record { x = x .«first_lo»; y = y .«first_lo»; z = z .«first_lo» }; hi = record { x = x .«first_hi»; y = y .«first_hi»; z = z .«first_hi» } }
 
 abbrev pub secondBox : AxisEnds → AxisEnds → AxisEnds → Box
-secondBox x y z = record { lo = record { x = x .«second_lo»; y = y .«second_lo»; z = z .«second_lo» }; hi = record { x = x .«second_hi»; y = y .«second_hi»; z = z .«second_hi» } }
+secondBox x y z =
+    record {
+      lo = record { x = x .«second_lo»; y = y .«second_lo»; z = z .«second_lo» };
+      hi = record { x = x .«second_hi»; y = y .«second_hi»; z = z .«second_hi» };
+    }
 
 -- on one axis the second box lies within the first
 abbrev pub firstHolds : AxisEnds → Bool

@@ -13,7 +13,7 @@ ghost use Rattle.medium.specs.Medium.{mediumFault, mapFault};
 ghost use Rattle.medium.specs.Record.{asMedium};
 ghost use Rattle.index.specs.Axes.{axisEnds};
 ghost use Rattle.index.specs.Answers.{asLine, bothOf};
-ghost use Rattle.majorant.specs.Boxes.{boxMaximum};
+ghost use Rattle.boxes.specs.Boxes.{boxMaximum};
 ghost use Rattle.majorant.specs.Figures.{figures};
 ghost use Rattle.majorant.specs.Rows.{figureOf, firstBox, secondBox, firstHolds, endsIn, cellFigure, rowOf, planeOf, volumeOf};
 use crate::range_max::range_max;
@@ -57,8 +57,14 @@ fn first_maximum(
     y: AxisEnds,
     z: AxisEnds,
 ) -> f32
-    requires { ⌜ validate (gridOf background (now blocks) (now «root_links») (now «root_values») (now «upper_links») (now «upper_values») (now «lower_links») (now «lower_values») (now «leaf_values»)) ≡ 0 ⌝ }
-    ensures { λ r. ⌜ r ≡ boxMaximum (readIn (gridOf background (now (blocks .entry)) (now («root_links» .entry)) (now («root_values» .entry)) (now («upper_links» .entry)) (now («upper_values» .entry)) (now («lower_links» .entry)) (now («lower_values» .entry)) (now («leaf_values» .entry)))) (firstBox x y z) ⌝ }
+    requires { let g = gridOf background (now blocks) (now «root_links») (now «root_values») (now «upper_links») (now «upper_values»)
+        (now «lower_links») (now «lower_values») (now «leaf_values») in
+        ⌜ validate g ≡ 0 ⌝ }
+    ensures { λ r.
+        let g = gridOf background (now (blocks .entry)) (now («root_links» .entry)) (now («root_values» .entry))
+        (now («upper_links» .entry)) (now («upper_values» .entry)) (now («lower_links» .entry)) (now («lower_values» .entry))
+        (now («leaf_values» .entry)) in
+        ⌜ r ≡ boxMaximum (readIn g) (firstBox x y z) ⌝ }
 {
     range_max(
         background,
@@ -94,8 +100,14 @@ fn second_maximum(
     y: AxisEnds,
     z: AxisEnds,
 ) -> f32
-    requires { ⌜ validate (gridOf background (now blocks) (now «root_links») (now «root_values») (now «upper_links») (now «upper_values») (now «lower_links») (now «lower_values») (now «leaf_values»)) ≡ 0 ⌝ }
-    ensures { λ r. ⌜ r ≡ boxMaximum (readIn (gridOf background (now (blocks .entry)) (now («root_links» .entry)) (now («root_values» .entry)) (now («upper_links» .entry)) (now («upper_values» .entry)) (now («lower_links» .entry)) (now («lower_values» .entry)) (now («leaf_values» .entry)))) (secondBox x y z) ⌝ }
+    requires { let g = gridOf background (now blocks) (now «root_links») (now «root_values») (now «upper_links») (now «upper_values»)
+        (now «lower_links») (now «lower_values») (now «leaf_values») in
+        ⌜ validate g ≡ 0 ⌝ }
+    ensures { λ r.
+        let g = gridOf background (now (blocks .entry)) (now («root_links» .entry)) (now («root_values» .entry))
+        (now («upper_links» .entry)) (now («upper_values» .entry)) (now («lower_links» .entry)) (now («lower_values» .entry))
+        (now («leaf_values» .entry)) in
+        ⌜ r ≡ boxMaximum (readIn g) (secondBox x y z) ⌝ }
 {
     range_max(
         background,
@@ -132,8 +144,14 @@ fn second_above(
     z: AxisEnds,
     first: f32,
 ) -> bool
-    requires { ⌜ (validate (gridOf background (now blocks) (now «root_links») (now «root_values») (now «upper_links») (now «upper_values») (now «lower_links») (now «lower_values») (now «leaf_values»)) ≡ 0) × (first ≡ boxMaximum (readIn (gridOf background (now blocks) (now «root_links») (now «root_values») (now «upper_links») (now «upper_values») (now «lower_links») (now «lower_values») (now «leaf_values»))) (firstBox x y z)) ⌝ }
-    ensures { λ r. ⌜ r ≡ lt (boxMaximum (readIn (gridOf background (now (blocks .entry)) (now («root_links» .entry)) (now («root_values» .entry)) (now («upper_links» .entry)) (now («upper_values» .entry)) (now («lower_links» .entry)) (now («lower_values» .entry)) (now («leaf_values» .entry)))) (firstBox x y z)) (boxMaximum (readIn (gridOf background (now (blocks .entry)) (now («root_links» .entry)) (now («root_values» .entry)) (now («upper_links» .entry)) (now («upper_values» .entry)) (now («lower_links» .entry)) (now («lower_values» .entry)) (now («leaf_values» .entry)))) (secondBox x y z)) ⌝ }
+    requires { let g = gridOf background (now blocks) (now «root_links») (now «root_values») (now «upper_links») (now «upper_values»)
+        (now «lower_links») (now «lower_values») (now «leaf_values») in
+        ⌜ (validate g ≡ 0) × (first ≡ boxMaximum (readIn g) (firstBox x y z)) ⌝ }
+    ensures { λ r.
+        let g = gridOf background (now (blocks .entry)) (now («root_links» .entry)) (now («root_values» .entry))
+        (now («upper_links» .entry)) (now («upper_values» .entry)) (now («lower_links» .entry)) (now («lower_values» .entry))
+        (now («leaf_values» .entry)) in
+        ⌜ r ≡ lt (boxMaximum (readIn g) (firstBox x y z)) (boxMaximum (readIn g) (secondBox x y z)) ⌝ }
 {
     if both(both(first_holds(x), first_holds(y)), first_holds(z)) {
         return false;
@@ -179,8 +197,14 @@ fn cell_figure(
     y: AxisEnds,
     z: AxisEnds,
 ) -> Figure
-    requires { ⌜ validate (gridOf background (now blocks) (now «root_links») (now «root_values») (now «upper_links») (now «upper_values») (now «lower_links») (now «lower_values») (now «leaf_values»)) ≡ 0 ⌝ }
-    ensures { λ r. ⌜ figureOf r ≡ cellFigure (boxMaximum (readIn (gridOf background (now (blocks .entry)) (now («root_links» .entry)) (now («root_values» .entry)) (now («upper_links» .entry)) (now («upper_values» .entry)) (now («lower_links» .entry)) (now («lower_values» .entry)) (now («leaf_values» .entry))))) (bothOf x) (bothOf y) (bothOf z) ⌝ }
+    requires { let g = gridOf background (now blocks) (now «root_links») (now «root_values») (now «upper_links») (now «upper_values»)
+        (now «lower_links») (now «lower_values») (now «leaf_values») in
+        ⌜ validate g ≡ 0 ⌝ }
+    ensures { λ r.
+        let g = gridOf background (now (blocks .entry)) (now («root_links» .entry)) (now («root_values» .entry))
+        (now («upper_links» .entry)) (now («upper_values» .entry)) (now («lower_links» .entry)) (now («lower_values» .entry))
+        (now («leaf_values» .entry)) in
+        ⌜ figureOf r ≡ cellFigure (boxMaximum (readIn g)) (bothOf x) (bothOf y) (bothOf z) ⌝ }
 {
     let fault = first_fault(x.fault, first_fault(y.fault, z.fault));
     if fault != 0 {
@@ -263,8 +287,15 @@ fn row(
     start: usize,
     majorants: &mut [f32],
 ) -> u32
-    requires { ⌜ (validate (gridOf background (now blocks) (now «root_links») (now «root_values») (now «upper_links») (now «upper_values») (now «lower_links») (now «lower_values») (now «leaf_values»)) ≡ 0) × (n ≤ 64) × (start + n ≤ length (now majorants)) ⌝ }
-    ensures { λ r. ⌜ passing r (ok (take (start + n) (now (majorants .exit)))) ≡ rowOf (boxMaximum (readIn (gridOf background (now (blocks .entry)) (now («root_links» .entry)) (now («root_values» .entry)) (now («upper_links» .entry)) (now («upper_values» .entry)) (now («lower_links» .entry)) (now («lower_values» .entry)) (now («leaf_values» .entry))))) (endsIn xs) (bothOf y) (bothOf z) n (take start (now (majorants .entry))) ⌝ }
+    requires { let g = gridOf background (now blocks) (now «root_links») (now «root_values») (now «upper_links») (now «upper_values»)
+        (now «lower_links») (now «lower_values») (now «leaf_values») in
+        ⌜ (validate g ≡ 0) × (n ≤ 64) × (start + n ≤ length (now majorants)) ⌝ }
+    ensures { λ r.
+        let g = gridOf background (now (blocks .entry)) (now («root_links» .entry)) (now («root_values» .entry))
+        (now («upper_links» .entry)) (now («upper_values» .entry)) (now («lower_links» .entry)) (now («lower_values» .entry))
+        (now («leaf_values» .entry)) in
+        ⌜ passing r (ok (take (start + n) (now (majorants .exit))))
+        ≡ rowOf (boxMaximum (readIn g)) (endsIn xs) (bothOf y) (bothOf z) n (take start (now (majorants .entry))) ⌝ }
 {
     let mut i: usize = 0;
     while i < n {
@@ -310,8 +341,15 @@ fn plane(
     start: usize,
     majorants: &mut [f32],
 ) -> u32
-    requires { ⌜ (validate (gridOf background (now blocks) (now «root_links») (now «root_values») (now «upper_links») (now «upper_values») (now «lower_links») (now «lower_values») (now «leaf_values»)) ≡ 0) × (nx ≤ 64) × (ny ≤ 64) × (start + ny * nx ≤ length (now majorants)) ⌝ }
-    ensures { λ r. ⌜ passing r (ok (take (start + ny * nx) (now (majorants .exit)))) ≡ planeOf (boxMaximum (readIn (gridOf background (now (blocks .entry)) (now («root_links» .entry)) (now («root_values» .entry)) (now («upper_links» .entry)) (now («upper_values» .entry)) (now («lower_links» .entry)) (now («lower_values» .entry)) (now («leaf_values» .entry))))) (endsIn xs) (endsIn ys) (bothOf z) nx ny (take start (now (majorants .entry))) ⌝ }
+    requires { let g = gridOf background (now blocks) (now «root_links») (now «root_values») (now «upper_links») (now «upper_values»)
+        (now «lower_links») (now «lower_values») (now «leaf_values») in
+        ⌜ (validate g ≡ 0) × (nx ≤ 64) × (ny ≤ 64) × (start + ny * nx ≤ length (now majorants)) ⌝ }
+    ensures { λ r.
+        let g = gridOf background (now (blocks .entry)) (now («root_links» .entry)) (now («root_values» .entry))
+        (now («upper_links» .entry)) (now («upper_values» .entry)) (now («lower_links» .entry)) (now («lower_values» .entry))
+        (now («leaf_values» .entry)) in
+        ⌜ passing r (ok (take (start + ny * nx) (now (majorants .exit))))
+        ≡ planeOf (boxMaximum (readIn g)) (endsIn xs) (endsIn ys) (bothOf z) nx ny (take start (now (majorants .entry))) ⌝ }
 {
     let mut at = start;
     let mut j: usize = 0;
@@ -361,8 +399,15 @@ pub(crate) fn volume(
     nz: usize,
     majorants: &mut [f32],
 ) -> u32
-    requires { ⌜ (validate (gridOf background (now blocks) (now «root_links») (now «root_values») (now «upper_links») (now «upper_values») (now «lower_links») (now «lower_values») (now «leaf_values»)) ≡ 0) × (nx ≤ 64) × (ny ≤ 64) × (nz ≤ 64) × (nz * (ny * nx) ≤ length (now majorants)) ⌝ }
-    ensures { λ r. ⌜ passing r (ok (take (nz * (ny * nx)) (now (majorants .exit)))) ≡ volumeOf (boxMaximum (readIn (gridOf background (now (blocks .entry)) (now («root_links» .entry)) (now («root_values» .entry)) (now («upper_links» .entry)) (now («upper_values» .entry)) (now («lower_links» .entry)) (now («lower_values» .entry)) (now («leaf_values» .entry))))) (endsIn xs) (endsIn ys) (endsIn zs) nx ny nz (take 0 (now (majorants .entry))) ⌝ }
+    requires { let g = gridOf background (now blocks) (now «root_links») (now «root_values») (now «upper_links») (now «upper_values»)
+        (now «lower_links») (now «lower_values») (now «leaf_values») in
+        ⌜ (validate g ≡ 0) × (nx ≤ 64) × (ny ≤ 64) × (nz ≤ 64) × (nz * (ny * nx) ≤ length (now majorants)) ⌝ }
+    ensures { λ r.
+        let g = gridOf background (now (blocks .entry)) (now («root_links» .entry)) (now («root_values» .entry))
+        (now («upper_links» .entry)) (now («upper_values» .entry)) (now («lower_links» .entry)) (now («lower_values» .entry))
+        (now («leaf_values» .entry)) in
+        ⌜ passing r (ok (take (nz * (ny * nx)) (now (majorants .exit))))
+        ≡ volumeOf (boxMaximum (readIn g)) (endsIn xs) (endsIn ys) (endsIn zs) nx ny nz (take 0 (now (majorants .entry))) ⌝ }
 {
     let mut at: usize = 0;
     let mut k: usize = 0;
@@ -411,8 +456,15 @@ pub(crate) fn cells(
     nz: u32,
     majorants: &mut [f32],
 ) -> u32
-    requires { ⌜ (validate (gridOf background (now blocks) (now «root_links») (now «root_values») (now «upper_links») (now «upper_values») (now «lower_links») (now «lower_values») (now «leaf_values»)) ≡ 0) × (mapFault (asMedium m) ≡ 0) × (nx ≤ 64) × (ny ≤ 64) × (nz ≤ 64) × (nz * (ny * nx) ≤ length (now majorants)) ⌝ }
-    ensures { λ r. ⌜ passing r (ok (take (nz * (ny * nx)) (now (majorants .exit)))) ≡ figures (boxMaximum (readIn (gridOf background (now (blocks .entry)) (now («root_links» .entry)) (now («root_values» .entry)) (now («upper_links» .entry)) (now («upper_values» .entry)) (now («lower_links» .entry)) (now («lower_values» .entry)) (now («leaf_values» .entry))))) (asMedium m) (record { x = nx; y = ny; z = nz }) (nx * ny * nz) ⌝ }
+    requires { let g = gridOf background (now blocks) (now «root_links») (now «root_values») (now «upper_links») (now «upper_values»)
+        (now «lower_links») (now «lower_values») (now «leaf_values») in
+        ⌜ (validate g ≡ 0) × (mapFault (asMedium m) ≡ 0) × (nx ≤ 64) × (ny ≤ 64) × (nz ≤ 64) × (nz * (ny * nx) ≤ length (now majorants)) ⌝ }
+    ensures { λ r.
+        let g = gridOf background (now (blocks .entry)) (now («root_links» .entry)) (now («root_values» .entry))
+        (now («upper_links» .entry)) (now («upper_values» .entry)) (now («lower_links» .entry)) (now («lower_values» .entry))
+        (now («leaf_values» .entry)) in
+        ⌜ passing r (ok (take (nz * (ny * nx)) (now (majorants .exit))))
+        ≡ figures (boxMaximum (readIn g)) (asMedium m) (record { x = nx; y = ny; z = nz }) (nx * ny * nz) ⌝ }
 {
     let xs = axis_table(x_line(m), nx);
     let ys = axis_table(y_line(m), ny);
@@ -452,7 +504,11 @@ pub(crate) fn build_fault(
     places: usize,
     count: usize,
 ) -> u32
-    ensures { λ r. ⌜ r ≡ (unless (eqb places count) 18 then (validate (gridOf background (now (blocks .entry)) (now («root_links» .entry)) (now («root_values» .entry)) (now («upper_links» .entry)) (now («upper_values» .entry)) (now («lower_links» .entry)) (now («lower_values» .entry)) (now («leaf_values» .entry))) then densityFault (gridOf background (now (blocks .entry)) (now («root_links» .entry)) (now («root_values» .entry)) (now («upper_links» .entry)) (now («upper_values» .entry)) (now («lower_links» .entry)) (now («lower_values» .entry)) (now («leaf_values» .entry))) then mediumFault (asMedium m))) ⌝ }
+    ensures { λ r.
+        let g = gridOf background (now (blocks .entry)) (now («root_links» .entry)) (now («root_values» .entry))
+        (now («upper_links» .entry)) (now («upper_values» .entry)) (now («lower_links» .entry)) (now («lower_values» .entry))
+        (now («leaf_values» .entry)) in
+        ⌜ r ≡ (unless (eqb places count) 18 then (validate g then densityFault g then mediumFault (asMedium m))) ⌝ }
 {
     if places != count {
         return refusals::TABLES;

@@ -93,8 +93,17 @@ pub fn build_majorant(
     m: Medium,
     majorants: &mut [f32],
 ) -> u32
-    ensures number { λ r. ⌜ r ≡ numberOf (buildInto (gridOf background (now (blocks .entry)) (now («root_links» .entry)) (now («root_values» .entry)) (now («upper_links» .entry)) (now («upper_values» .entry)) (now («lower_links» .entry)) (now («lower_values» .entry)) (now («leaf_values» .entry))) (asMedium m) (cube 64) (length (now (majorants .entry)))) ⌝ }
-    ensures table { λ r. ⌜ now (majorants .exit) ≡ valueOr (replicate (length (now (majorants .entry))) +0) (buildInto (gridOf background (now (blocks .entry)) (now («root_links» .entry)) (now («root_values» .entry)) (now («upper_links» .entry)) (now («upper_values» .entry)) (now («lower_links» .entry)) (now («lower_values» .entry)) (now («leaf_values» .entry))) (asMedium m) (cube 64) (length (now (majorants .entry)))) ⌝ }
+    ensures number { λ r.
+        let g = gridOf background (now (blocks .entry)) (now («root_links» .entry)) (now («root_values» .entry))
+        (now («upper_links» .entry)) (now («upper_values» .entry)) (now («lower_links» .entry)) (now («lower_values» .entry))
+        (now («leaf_values» .entry)) in
+        ⌜ r ≡ numberOf (buildInto g (asMedium m) (cube 64) (length (now (majorants .entry)))) ⌝ }
+    ensures table { λ r.
+        let g = gridOf background (now (blocks .entry)) (now («root_links» .entry)) (now («root_values» .entry))
+        (now («upper_links» .entry)) (now («upper_values» .entry)) (now («lower_links» .entry)) (now («lower_values» .entry))
+        (now («leaf_values» .entry)) in
+        let n = length (now (majorants .entry)) in
+        ⌜ now (majorants .exit) ≡ valueOr (replicate n +0) (buildInto g (asMedium m) (cube 64) n) ⌝ }
 {
     let before = build_fault(
         background,

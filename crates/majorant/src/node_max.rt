@@ -3,10 +3,10 @@ ghost use mathlib.Core.Path.{_≡_};
 ghost use Prim.Native.Nat.{_+_, _*_, _/_, _<_, _≤_};
 ghost use lib.ListN.{length};
 ghost use Rattle.sparse_grid.specs.Tables.{entryAt};
-ghost use Rattle.majorant.specs.Boxes.{greater as greaterS};
-ghost use Rattle.majorant.specs.Most.{Most, Inside};
-ghost use Rattle.majorant.specs.RangeMax.{Within, Full, Cut, InCell, entryRead, leafRead, lowerRead, upperRead, LowerIn, UpperIn, Linked, childIn};
-use crate::range_max::Span;
+ghost use Rattle.boxes.specs.Boxes.{greater as greaterS};
+ghost use Rattle.boxes.specs.Most.{Most, Inside};
+ghost use Rattle.boxes.specs.RangeMax.{Within, Full, Cut, InCell, entryRead, leafRead, lowerRead, upperRead, LowerIn, UpperIn, Linked, childIn};
+use boxes::Span;
 use sparse_grid::Entry;
 
 // b where a is less, and a otherwise.
@@ -207,8 +207,12 @@ fn upper_cell(
     y: Span,
     z: Span,
 ) -> f32
-    requires { ⌜ UpperIn (now «upper_links») (now «upper_values») (now «lower_links») (now «lower_values») (now «leaf_values») k × Full x y z × InCell 128 x × InCell 128 y × InCell 128 z ⌝ }
-    ensures { λ r. ⌜ Most (upperRead (now («upper_links» .entry)) (now («upper_values» .entry)) (now («lower_links» .entry)) (now («lower_values» .entry)) (now («leaf_values» .entry)) k) (Within x y z) r ⌝ }
+    requires { ⌜ UpperIn (now «upper_links») (now «upper_values») (now «lower_links») (now «lower_values») (now «leaf_values») k
+        × Full x y z × InCell 128 x × InCell 128 y × InCell 128 z ⌝ }
+    ensures { λ r.
+        let read = upperRead (now («upper_links» .entry)) (now («upper_values» .entry)) (now («lower_links» .entry))
+        (now («lower_values» .entry)) (now («leaf_values» .entry)) k in
+        ⌜ Most read (Within x y z) r ⌝ }
 {
     let i = 32768 * k + table_index(x.lo % 4096 / 128, y.lo % 4096 / 128, z.lo % 4096 / 128, 32);
     match entry_at(upper_links, upper_values, i) {
@@ -228,8 +232,12 @@ fn upper_row(
     y: Span,
     z: Span,
 ) -> f32
-    requires { ⌜ UpperIn (now «upper_links») (now «upper_values») (now «lower_links») (now «lower_values») (now «leaf_values») k × Full x y z × InCell 128 x × InCell 128 y ⌝ }
-    ensures { λ r. ⌜ Most (upperRead (now («upper_links» .entry)) (now («upper_values» .entry)) (now («lower_links» .entry)) (now («lower_values» .entry)) (now («leaf_values» .entry)) k) (Within x y z) r ⌝ }
+    requires { ⌜ UpperIn (now «upper_links») (now «upper_values») (now «lower_links») (now «lower_values») (now «leaf_values») k
+        × Full x y z × InCell 128 x × InCell 128 y ⌝ }
+    ensures { λ r.
+        let read = upperRead (now («upper_links» .entry)) (now («upper_values» .entry)) (now («lower_links» .entry))
+        (now («lower_values» .entry)) (now («leaf_values» .entry)) k in
+        ⌜ Most read (Within x y z) r ⌝ }
 {
     let end = z.hi;
     let mut maximum = 0.0f32;
@@ -268,7 +276,10 @@ fn upper_plane(
     z: Span,
 ) -> f32
     requires { ⌜ UpperIn (now «upper_links») (now «upper_values») (now «lower_links») (now «lower_values») (now «leaf_values») k × Full x y z × InCell 128 x ⌝ }
-    ensures { λ r. ⌜ Most (upperRead (now («upper_links» .entry)) (now («upper_values» .entry)) (now («lower_links» .entry)) (now («lower_values» .entry)) (now («leaf_values» .entry)) k) (Within x y z) r ⌝ }
+    ensures { λ r.
+        let read = upperRead (now («upper_links» .entry)) (now («upper_values» .entry)) (now («lower_links» .entry))
+        (now («lower_values» .entry)) (now («leaf_values» .entry)) k in
+        ⌜ Most read (Within x y z) r ⌝ }
 {
     let end = y.hi;
     let mut maximum = 0.0f32;
@@ -307,7 +318,10 @@ fn upper_max(
     z: Span,
 ) -> f32
     requires { ⌜ UpperIn (now «upper_links») (now «upper_values») (now «lower_links») (now «lower_values») (now «leaf_values») k × Full x y z ⌝ }
-    ensures { λ r. ⌜ Most (upperRead (now («upper_links» .entry)) (now («upper_values» .entry)) (now («lower_links» .entry)) (now («lower_values» .entry)) (now («leaf_values» .entry)) k) (Within x y z) r ⌝ }
+    ensures { λ r.
+        let read = upperRead (now («upper_links» .entry)) (now («upper_values» .entry)) (now («lower_links» .entry))
+        (now («lower_values» .entry)) (now («leaf_values» .entry)) k in
+        ⌜ Most read (Within x y z) r ⌝ }
 {
     let end = x.hi;
     let mut maximum = 0.0f32;
@@ -347,8 +361,13 @@ pub(crate) fn root_max(
     y: Span,
     z: Span,
 ) -> f32
-    requires { ⌜ childIn entry (length (now «upper_links»)) × Linked (now «upper_links») (now «upper_values») (now «lower_links») (now «lower_values») (now «leaf_values») × Full x y z ⌝ }
-    ensures { λ r. ⌜ Most (λ a b c. entryRead entry (λ j. upperRead (now («upper_links» .entry)) (now («upper_values» .entry)) (now («lower_links» .entry)) (now («lower_values» .entry)) (now («leaf_values» .entry)) j a b c)) (Within x y z) r ⌝ }
+    requires { ⌜ childIn entry (length (now «upper_links»))
+        × Linked (now «upper_links») (now «upper_values») (now «lower_links») (now «lower_values») (now «leaf_values»)
+        × Full x y z ⌝ }
+    ensures { λ r.
+        let read = upperRead (now («upper_links» .entry)) (now («upper_values» .entry)) (now («lower_links» .entry))
+        (now («lower_values» .entry)) (now («leaf_values» .entry)) in
+        ⌜ Most (λ a b c. entryRead entry (λ j. read j a b c)) (Within x y z) r ⌝ }
 {
     match entry {
         Entry::Child(j) => upper_max(

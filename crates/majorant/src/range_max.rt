@@ -10,19 +10,14 @@ ghost use Rattle.sparse_grid.specs.Lookup.{readIn};
 ghost use Rattle.sparse_grid.specs.Biased.{back};
 ghost use Rattle.sparse_grid.specs.Sound.{Sound};
 ghost use Rattle.sparse_grid.specs.Inner.{rootOf, Has, raised};
-ghost use Rattle.majorant.specs.Boxes.{boxMaximum, between};
-ghost use Rattle.majorant.specs.Most.{Most};
-ghost use Rattle.majorant.specs.RangeMax.{Within, Full, Ends, Clip, apart, empty, readAt, wide as wideS, CoveredIn};
+ghost use Rattle.boxes.specs.Boxes.{boxMaximum, between};
+ghost use Rattle.boxes.specs.Most.{Most};
+ghost use Rattle.boxes.specs.RangeMax.{Within, Full, Ends, Clip, apart, empty, readAt, wide as wideS, CoveredIn};
 use crate::node_max::entry_at;
 use crate::node_max::greater;
 use crate::node_max::root_max;
+use boxes::Span;
 use sparse_grid::Root;
-
-// Biased coordinates from lo up to below hi.
-pub struct Span {
-    pub lo: usize,
-    pub hi: usize,
-}
 
 // What the roots so far hold of a box: its maximum, and how many blocks of the box it covers.
 pub struct Covered {
@@ -135,8 +130,14 @@ fn cover(
     y: Span,
     z: Span,
 ) -> Covered
-    requires { ⌜ Sound (gridOf background (now blocks) (now «root_links») (now «root_values») (now «upper_links») (now «upper_values») (now «lower_links») (now «lower_values») (now «leaf_values»)) × (i < length (now «root_links»)) × Full x y z × CoveredIn (gridOf background (now blocks) (now «root_links») (now «root_values») (now «upper_links») (now «upper_values») (now «lower_links») (now «lower_values») (now «leaf_values»)) i x y z (covered .maximum) (covered .blocks) ⌝ }
-    ensures { λ r. ⌜ CoveredIn (gridOf background (now (blocks .entry)) (now («root_links» .entry)) (now («root_values» .entry)) (now («upper_links» .entry)) (now («upper_values» .entry)) (now («lower_links» .entry)) (now («lower_values» .entry)) (now («leaf_values» .entry))) (i + 1) x y z (r .maximum) (r .blocks) ⌝ }
+    requires { let g = gridOf background (now blocks) (now «root_links») (now «root_values») (now «upper_links») (now «upper_values»)
+        (now «lower_links») (now «lower_values») (now «leaf_values») in
+        ⌜ Sound g × (i < length (now «root_links»)) × Full x y z × CoveredIn g i x y z (covered .maximum) (covered .blocks) ⌝ }
+    ensures { λ r.
+        let g = gridOf background (now (blocks .entry)) (now («root_links» .entry)) (now («root_values» .entry))
+        (now («upper_links» .entry)) (now («upper_values» .entry)) (now («lower_links» .entry)) (now («lower_values» .entry))
+        (now («leaf_values» .entry)) in
+        ⌜ CoveredIn g (i + 1) x y z (r .maximum) (r .blocks) ⌝ }
 {
     let root = root_at(blocks, root_links, root_values, i);
     if is_apart(root.x, x) {
@@ -194,8 +195,14 @@ fn roots_max(
     y: Span,
     z: Span,
 ) -> f32
-    requires { ⌜ Sound (gridOf background (now blocks) (now «root_links») (now «root_values») (now «upper_links») (now «upper_values») (now «lower_links») (now «lower_values») (now «leaf_values»)) × Full x y z ⌝ }
-    ensures { λ r. ⌜ Most (readAt (gridOf background (now (blocks .entry)) (now («root_links» .entry)) (now («root_values» .entry)) (now («upper_links» .entry)) (now («upper_values» .entry)) (now («lower_links» .entry)) (now («lower_values» .entry)) (now («leaf_values» .entry)))) (Within x y z) r ⌝ }
+    requires { let g = gridOf background (now blocks) (now «root_links») (now «root_values») (now «upper_links») (now «upper_values»)
+        (now «lower_links») (now «lower_values») (now «leaf_values») in
+        ⌜ Sound g × Full x y z ⌝ }
+    ensures { λ r.
+        let g = gridOf background (now (blocks .entry)) (now («root_links» .entry)) (now («root_values» .entry))
+        (now («upper_links» .entry)) (now («upper_values» .entry)) (now («lower_links» .entry)) (now («lower_values» .entry))
+        (now («leaf_values» .entry)) in
+        ⌜ Most (readAt g) (Within x y z) r ⌝ }
 {
     let mut covered = Covered {
         maximum: 0.0f32,
@@ -248,8 +255,14 @@ pub(crate) fn range_max(
     hy: i32,
     hz: i32,
 ) -> f32
-    requires { ⌜ validate (gridOf background (now blocks) (now «root_links») (now «root_values») (now «upper_links») (now «upper_values») (now «lower_links») (now «lower_values») (now «leaf_values»)) ≡ 0 ⌝ }
-    ensures { λ r. ⌜ r ≡ boxMaximum (readIn (gridOf background (now (blocks .entry)) (now («root_links» .entry)) (now («root_values» .entry)) (now («upper_links» .entry)) (now («upper_values» .entry)) (now («lower_links» .entry)) (now («lower_values» .entry)) (now («leaf_values» .entry)))) (between lx ly lz hx hy hz) ⌝ }
+    requires { let g = gridOf background (now blocks) (now «root_links») (now «root_values») (now «upper_links») (now «upper_values»)
+        (now «lower_links») (now «lower_values») (now «leaf_values») in
+        ⌜ validate g ≡ 0 ⌝ }
+    ensures { λ r.
+        let g = gridOf background (now (blocks .entry)) (now («root_links» .entry)) (now («root_values» .entry))
+        (now («upper_links» .entry)) (now («upper_values» .entry)) (now («lower_links» .entry)) (now («lower_values» .entry))
+        (now («leaf_values» .entry)) in
+        ⌜ r ≡ boxMaximum (readIn g) (between lx ly lz hx hy hz) ⌝ }
 {
     let x = span_of(lx, hx);
     let y = span_of(ly, hy);

@@ -7,7 +7,7 @@ ghost use Rattle.sparse_grid.specs.Tables.{gridOf};
 ghost use Rattle.sparse_grid.specs.Validate.{validate as validateS, validateDensity};
 ghost use Rattle.sparse_grid.specs.Answers.{outcome, at};
 ghost use Rattle.nanovdb.specs.Lent.{tables, lengths};
-ghost use Rattle.majorant.specs.Boxes.{between};
+ghost use Rattle.boxes.specs.Boxes.{between};
 ghost use Rattle.smokegrid.specs.Promises.{Decodes, GetsValue, BoxMaximum, WorldToIndex, Builds};
 
 mod flat;

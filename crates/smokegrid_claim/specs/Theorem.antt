@@ -21,7 +21,7 @@ use Rattle.nanovdb.specs.Passed.{density-passed}
 use Rattle.nanovdb.specs.UsedLaws.{accepts}
 use Rattle.index.specs.Index.{worldToIndex}
 use Rattle.index.specs.Answers.{indexBits}
-use Rattle.majorant.specs.Boxes.{Greatest}
+use Rattle.boxes.specs.Boxes.{Greatest}
 use Rattle.majorant.specs.Build.{buildInto}
 use Rattle.claim.specs.Claim.{Holds, cells}
 use Rattle.claim.specs.Contracts.{indexOf}

@@ -14,7 +14,7 @@ use Rattle.sparse_grid.specs.Lookup.{lookup}
 use Rattle.medium.specs.Medium.{Point}
 use Rattle.nanovdb.specs.Lent.{Lent}
 use Rattle.nanovdb.specs.Agreement.{ReadsAs}
-use Rattle.majorant.specs.Boxes.{Box, Greatest, boxMaximum}
+use Rattle.boxes.specs.Boxes.{Box, Greatest, boxMaximum}
 use Rattle.claim.specs.Claim.{Inside, Bounds}
 use Rattle.claim.specs.Contracts.{indexOf}
 use Rattle.smokegrid.specs.Promises.{Left, Decodes, GetsValue, BoxMaximum, WorldToIndex, Builds}

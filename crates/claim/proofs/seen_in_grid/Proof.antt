@@ -11,7 +11,7 @@ use Rattle.sparse_grid.specs.Tables.{Grid, gridOf}
 use Rattle.sparse_grid.specs.Lookup.{lookup}
 use Rattle.sparse_grid.specs.Answers.{valueOnly, outcome, at}
 use Rattle.medium.specs.Record.{coordOf}
-use Rattle.majorant.specs.Boxes.{between}
+use Rattle.boxes.specs.Boxes.{between}
 use Rattle.majorant.specs.Build.{publicMaximum}
 use borrow.Author.Needs.{needs}
 use Rattle.claim.proofs.seen_in_grid.Statement.{statement}

@@ -17,26 +17,24 @@ abbrev μ-loop : tie.MeasureT-loop
 loop-holds : tie.Need-loop-holds Inv-loop μ-loop
 loop-holds c = (omega arith, search-start (c .args .l .low) (c .args .l .high) (c .args .n) (c .args .v))
 
-encloses-requires : tie.Need-encloses-requires Inv-loop μ-loop
-encloses-requires c κs = search needs
+abbrev start : tie.After-encloses Inv-loop μ-loop → tie.Start Inv-loop μ-loop
+start c = c .before .before .before
 
 returns : tie.Need-returns Inv-loop μ-loop
 returns c =
-    let a = c .before .before .before .before .args in
-    let k = c .before .before .before .loop .k in
-    sym (search-here (a .l .low) (a .l .high) (a .n) (a .v) k (c .before .before .loop-test .taken) (sym (c .before .encloses .ensures) ∙ c .if1 .taken)) ∙ c .before .before .before .loop .inv .1
-
-add-k : tie.Need-add-k Inv-loop μ-loop
-add-k c = omega arith
-
-loop-less : tie.Need-loop-less Inv-loop μ-loop
-loop-less c = omega (arith, c .before .before .loop-test .taken)
+    let a = start (c .before) .args in
+    let t = c .before .before in
+    sym (search-here (a .l .low) (a .l .high) (a .n) (a .v) (t .before .loop .k) (t .loop-test .taken) (sym (c .before .encloses .ensures) ∙ c .if1 .taken))
+    ∙ t .before .loop .inv .1
 
 loop-again : tie.Need-loop-again Inv-loop μ-loop
 loop-again c =
-    let a = c .before .before .before .before .args in
-    let k = c .before .before .before .loop .k in
-    (omega (arith, c .before .before .loop-test .taken), sym (search-on (a .l .low) (a .l .high) (a .n) (a .v) k (c .before .before .loop-test .taken) (sym (c .before .encloses .ensures) ∙ c .if1 .left)) ∙ c .before .before .before .loop .inv .1)
+    let a = start (c .before) .args in
+    let t = c .before .before in (
+      omega (arith, t .loop-test .taken),
+      sym (search-on (a .l .low) (a .l .high) (a .n) (a .v) (t .before .loop .k) (t .loop-test .taken) (sym (c .before .encloses .ensures) ∙ c .if1 .left))
+          ∙ t .before .loop .inv .1,
+    )
 
 returns-2 : tie.Need-returns-2 Inv-loop μ-loop
 returns-2 c =
@@ -52,9 +50,9 @@ axis-cell-spec =
     Inv-loop
     μ-loop
     loop-holds
-    encloses-requires
+    (λ c κs. search needs)
     returns
-    add-k
-    loop-less
+    (λ c. omega arith)
+    (λ c. omega (arith, c .before .before .loop-test .taken))
     loop-again
     returns-2)

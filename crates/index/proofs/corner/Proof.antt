@@ -6,15 +6,12 @@ use borrow.Author.Needs.{needs}
 use Rattle.index.proofs.corner.Statement.{statement}
 use Rattle.index.proofs.corner.Tie as tie
 
-rounded-requires : tie.Need-rounded-requires
-rounded-requires c κs = search needs
-
-rounded-requires-2 : tie.Need-rounded-requires-2
-rounded-requires-2 c κs = search needs
-
 returns : tie.Need-returns
 unfolding cornerOn
-returns c = (λ i. let t = div binary32 (c .before .rounded .ensures i) (c .rounded2 .ensures i) in add binary32 (mul binary32 (sub binary32 (one-literal i) t) (c .before .before .args .low)) (mul binary32 t (c .before .before .args .high)))
+returns c = λ i.
+    let t = div binary32 (c .before .rounded .ensures i) (c .rounded2 .ensures i) in
+    let a = c .before .before .args in
+    add binary32 (mul binary32 (sub binary32 (one-literal i) t) (a .low)) (mul binary32 t (a .high))
 
 pub corner-spec : {M : Type 1} → statement M
-corner-spec = tie.close (tie.spec rounded-requires rounded-requires-2 returns)
+corner-spec = tie.close (tie.spec (λ c κs. search needs) (λ c κs. search needs) returns)

@@ -6,21 +6,11 @@ use borrow.Author.Needs.{needs}
 use Rattle.index.proofs.encloses.Statement.{statement}
 use Rattle.index.proofs.encloses.Tie as tie
 
-corner-requires : tie.Need-corner-requires
-corner-requires c κs = search needs
-
-add-corner : tie.Need-add-corner
-add-corner c = search needs
-
-corner-requires-2 : tie.Need-corner-requires-2
-corner-requires-2 c κs = search needs
-
-both-requires : tie.Need-both-requires
-both-requires c κs = search needs
-
 returns : tie.Need-returns
-returns c = c .both .ensures ∙ (λ i. le (c .before .before .corner .ensures i) (c .before .before .before .args .v) && le (c .before .before .before .args .v) (c .before .corner2 .ensures i))
+returns c =
+    let v = c .before .before .before .args .v in
+    c .both .ensures ∙ (λ i. le (c .before .before .corner .ensures i) v && le v (c .before .corner2 .ensures i))
 
 pub encloses-spec : {M : Type 1} → statement M
 encloses-spec =
-    tie.close (tie.spec corner-requires add-corner corner-requires-2 both-requires returns)
+    tie.close (tie.spec (λ c κs. search needs) (λ c. search needs) (λ c κs. search needs) (λ c κs. search needs) returns)

@@ -1,76 +1,100 @@
 -- `index::first_range` meets its contract: the fault of the first end that is no coordinate, or both ends, clipped. Assumes nothing.
-use mathlib.Core.Path.{sym, ap, _∙_}
-use mir.Facts.{toZ-ofZ}
+use mathlib.Core.Path.{_≡_, ap, _∙_}
+use lib.IntN.{ℤ}
 use mir.Syntax.{w32}
-use Rattle.float.specs.Answers.{coordinateOf}
+use mir.Val.{toZ, ofZ}
 use Rattle.refusals.specs.Results.{ok}
+use Rattle.float.specs.Answers.{coordinateOf}
 use Rattle.index.specs.Cells.{maxZ, minZ}
-use Rattle.index.specs.Axes.{firstLow, firstHigh}
+use Rattle.index.specs.Axes as Axes
+use Rattle.index.specs.Axes.{firstLow, firstHigh, majorantOn}
 use Rattle.index.specs.Answers.{asLine}
-use Rattle.index.proofs.Ends.{first-low-stopped, first-high-stopped, first-taken}
+use Rattle.index.proofs.Ends.{case, seen, first-low-stopped, first-high-stopped, first-taken}
 use borrow.Author.Needs.{needs}
 use Rattle.index.proofs.first_range.Statement.{statement}
 use Rattle.index.proofs.first_range.Tie as tie
 
-majorant-on-requires : tie.Need-majorant-on-requires
-majorant-on-requires c κs = search needs
+-- places
+abbrev start : tie.After-first-low → tie.Start
+start c = c .before .before
 
-first-low-requires : tie.Need-first-low-requires
-first-low-requires c κs = search needs
+abbrev at-low : tie.After-first-high → tie.After-first-low
+at-low c = c .before .before .before .before .before
 
-enum-known-n : tie.Need-enum-known-n
-enum-known-n c = search needs
+abbrev at-b : tie.After-lesser → tie.After-b
+at-b c = c .before .before .before .before .before
 
-enum-known-a : tie.Need-enum-known-a
-enum-known-a c = search needs
+abbrev at-high : tie.After-b → tie.After-first-high
+at-high c = c .before .before
 
-majorant-on-requires-2 : tie.Need-majorant-on-requires-2
-majorant-on-requires-2 c κs = search needs
+abbrev line : tie.After-first-low → Axes.Line
+line c = asLine (start c .args .l)
 
-first-high-requires : tie.Need-first-high-requires
-first-high-requires c κs = search needs
+-- the two ends
+low : (c : tie.After-first-low) → coordinateOf (c .first-low .result) ≡ firstLow (majorantOn (line c) (start c .args .p))
+low c = c .first-low .ensures ∙ ap firstLow (c .before .majorant-on .ensures)
 
-enum-known-n-2 : tie.Need-enum-known-n-2
-enum-known-n-2 c = search needs
-
-enum-known-b : tie.Need-enum-known-b
-enum-known-b c = search needs
-
-greater-requires : tie.Need-greater-requires
-greater-requires c κs = search needs
-
-lesser-requires : tie.Need-lesser-requires
-lesser-requires c κs = search needs
+high : (c : tie.After-first-high) → coordinateOf (c .first-high .result) ≡ firstHigh (majorantOn (line (at-low c)) (start (at-low c) .args .q))
+high c = c .first-high .ensures ∙ ap firstHigh (c .before .majorant-on2 .ensures)
 
 returns : tie.Need-returns
-returns c = first-low-stopped _ _ _ _ (sym (ap coordinateOf (c .before .n .given .1)) ∙ c .before .before .before .first-low .ensures ∙ ap firstLow (c .before .before .before .before .majorant-on .ensures))
+returns c =
+    let d = c .before .before .before in
+    first-low-stopped (line d) (start d .args .p) (start d .args .q) (case (low d) (c .before .n .given .1))
 
 returns-2 : tie.Need-returns-2
-returns-2 c = first-high-stopped _ _ _ _ (sym (ap coordinateOf (c .before .before .before .before .before .before .a .given .1)) ∙ c .before .before .before .before .before .before .before .before .first-low .ensures ∙ ap firstLow (c .before .before .before .before .before .before .before .before .before .majorant-on .ensures)) (sym (ap coordinateOf (c .before .n2 .given .1)) ∙ c .before .before .before .first-high .ensures ∙ ap firstHigh (c .before .before .before .before .majorant-on2 .ensures))
+returns-2 c =
+    let h = c .before .before .before in
+    let d = at-low h in
+    first-high-stopped (line d) (start d .args .p) (start d .args .q)
+    (case (low d) (h .before .before .before .a .given .1)) (case (high h) (c .before .n2 .given .1))
+
+-- the ends that the code has at hand, low and high, and how it clips them
+abbrev low-end : tie.After-lesser → ℤ
+low-end c = at-high (at-b c) .before .before .before .a .given .0 .0
+
+abbrev high-end : tie.After-lesser → ℤ
+high-end c = at-b c .b .given .0 .0
+
+lo : (c : tie.After-lesser) → toZ w32 (ofZ w32 (c .before .before .greater .result)) ≡ maxZ (low-end c) (line (at-low (at-high (at-b c))) .indexLow)
+lo c =
+    let g = c .before .before in
+    let h = at-high (at-b c) in
+    seen (g .greater .result) (g .greater .ok)
+    ∙ g .greater .ensures
+    ∙ (λ i. maxZ (seen (low-end c) (h .before .before .known-told2 .given .0 .1) i)
+    (seen (line (at-low h) .indexLow) (g .before .struct-told .given .1 .1 .1 .1 .1 .0 .1) i))
+
+hi : (c : tie.After-lesser) → toZ w32 (ofZ w32 (c .lesser .result)) ≡ minZ (high-end c) (line (at-low (at-high (at-b c))) .indexHigh)
+hi c =
+    let t = c .before .before .before in
+    seen (c .lesser .result) (c .lesser .ok)
+    ∙ c .lesser .ensures
+    ∙ (λ i. minZ (seen (high-end c) (t .before .known-told4 .given .0 .1) i)
+    (seen (line (at-low (at-high (at-b c))) .indexHigh) (t .struct-told .given .1 .1 .1 .1 .1 .1 .0 .1) i))
 
 returns-3 : tie.Need-returns-3
 returns-3 c =
-    let line = c .before .before .before .before .before .before .before .before .before .before .before .before .before .before .args .l in
-    let a = c .before .before .before .before .before .before .before .before .before .before .a .given .0 .0 in
-    let b = c .before .before .before .before .before .b .given .0 .0 in
-    let lo = toZ-ofZ {w = w32} {z = c .before .before .greater .result} (record { sfits = c .before .before .greater .ok }) ∙ c .before .before .greater .ensures ∙ (λ i. maxZ (toZ-ofZ {w = w32} {z = a} (record { sfits = c .before .before .before .before .before .before .before .before .before .known-told2 .given .0 .1 }) i) (toZ-ofZ {w = w32} {z = line .«index_low»} (record { sfits = c .before .before .before .struct-told .given .1 .1 .1 .1 .1 .0 .1 }) i)) in
-    let hi = toZ-ofZ {w = w32} {z = c .lesser .result} (record { sfits = c .lesser .ok }) ∙ c .lesser .ensures ∙ (λ i. minZ (toZ-ofZ {w = w32} {z = b} (record { sfits = c .before .before .before .before .known-told4 .given .0 .1 }) i) (toZ-ofZ {w = w32} {z = line .«index_high»} (record { sfits = c .before .before .before .struct-told .given .1 .1 .1 .1 .1 .1 .0 .1 }) i)) in
-    (λ i. ok (record { lo = lo i; hi = hi i })) ∙ first-taken (asLine line) _ _ (sym (ap coordinateOf (c .before .before .before .before .before .before .before .before .before .before .a .given .1)) ∙ c .before .before .before .before .before .before .before .before .before .before .before .before .first-low .ensures ∙ ap firstLow (c .before .before .before .before .before .before .before .before .before .before .before .before .before .majorant-on .ensures)) (sym (ap coordinateOf (c .before .before .before .before .before .b .given .1)) ∙ c .before .before .before .before .before .before .before .first-high .ensures ∙ ap firstHigh (c .before .before .before .before .before .before .before .before .majorant-on2 .ensures))
+    let h = at-high (at-b c) in
+    let d = at-low h in
+    (λ i. ok (record { lo = lo c i; hi = hi c i }))
+    ∙ first-taken (line d) (start d .args .p) (start d .args .q)
+    (case (low d) (h .before .before .before .a .given .1)) (case (high h) (at-b c .b .given .1))
 
 pub first-range-spec : {M : Type 1} → statement M
 first-range-spec =
     tie.close
     (tie.spec
-    majorant-on-requires
-    first-low-requires
-    enum-known-n
-    enum-known-a
-    majorant-on-requires-2
-    first-high-requires
-    enum-known-n-2
-    enum-known-b
-    greater-requires
-    lesser-requires
+    (λ c κs. search needs)
+    (λ c κs. search needs)
+    (λ c. search needs)
+    (λ c. search needs)
+    (λ c κs. search needs)
+    (λ c κs. search needs)
+    (λ c. search needs)
+    (λ c. search needs)
+    (λ c κs. search needs)
+    (λ c κs. search needs)
     returns
     returns-2
     returns-3)

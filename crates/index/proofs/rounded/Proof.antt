@@ -11,11 +11,8 @@ int-to-float-narrow : tie.Need-int-to-float-narrow
 unfolding inFloat
 int-to-float-narrow c = le→leb (c .before .args .n) 9007199254740992 (c .before .pre)
 
-narrow-requires : tie.Need-narrow-requires
-narrow-requires c κs = search needs
-
 returns : tie.Need-returns
 returns c = c .narrow .ensures ∙ narrow-whole (c .before .before .args .n) (c .before .before .pre)
 
 pub rounded-spec : {M : Type 1} → statement M
-rounded-spec = tie.close (tie.spec int-to-float-narrow narrow-requires returns)
+rounded-spec = tie.close (tie.spec int-to-float-narrow (λ c κs. search needs) returns)

@@ -7,81 +7,47 @@ use borrow.Author.Needs.{needs}
 use Rattle.index.proofs.world_to_index_f.Statement.{statement}
 use Rattle.index.proofs.world_to_index_f.Tie as tie
 
-map-fault-requires : tie.Need-map-fault-requires
-map-fault-requires c κs = search needs
-
 returns : tie.Need-returns
 unfolding indexBits
 returns c = position-refused _ (c .before .map-fault .ensures) (c .if1 .taken)
 
-element-copy-out-dx : tie.Need-element-copy-out-dx
-element-copy-out-dx c = search needs
+-- places
+abbrev at-second : tie.After-row-bits3 → tie.After-row-bits2
+at-second c = c .before .before .before .before
 
-element-copy-out-dy : tie.Need-element-copy-out-dy
-element-copy-out-dy c = search needs
+abbrev at-first : tie.After-row-bits3 → tie.After-row-bits
+at-first c = at-second c .before .before .before .before
 
-element-copy-out-dz : tie.Need-element-copy-out-dz
-element-copy-out-dz c = search needs
-
-element-copy-out-row-bits : tie.Need-element-copy-out-row-bits
-element-copy-out-row-bits c = search needs
-
-element-copy-out-row-bits-2 : tie.Need-element-copy-out-row-bits-2
-element-copy-out-row-bits-2 c = search needs
-
-element-copy-out-row-bits-3 : tie.Need-element-copy-out-row-bits-3
-element-copy-out-row-bits-3 c = search needs
-
-row-bits-requires : tie.Need-row-bits-requires
-row-bits-requires c κs = search needs
-
-element-copy-out-row-bits-4 : tie.Need-element-copy-out-row-bits-4
-element-copy-out-row-bits-4 c = search needs
-
-element-copy-out-row-bits-5 : tie.Need-element-copy-out-row-bits-5
-element-copy-out-row-bits-5 c = search needs
-
-element-copy-out-row-bits-6 : tie.Need-element-copy-out-row-bits-6
-element-copy-out-row-bits-6 c = search needs
-
-row-bits-requires-2 : tie.Need-row-bits-requires-2
-row-bits-requires-2 c κs = search needs
-
-element-copy-out-row-bits-7 : tie.Need-element-copy-out-row-bits-7
-element-copy-out-row-bits-7 c = search needs
-
-element-copy-out-row-bits-8 : tie.Need-element-copy-out-row-bits-8
-element-copy-out-row-bits-8 c = search needs
-
-element-copy-out-row-bits-9 : tie.Need-element-copy-out-row-bits-9
-element-copy-out-row-bits-9 c = search needs
-
-row-bits-requires-3 : tie.Need-row-bits-requires-3
-row-bits-requires-3 c κs = search needs
+abbrev at-fault : tie.After-row-bits → tie.Else1
+at-fault c = c .before .before .before .before .before .before .before
 
 returns-2 : tie.Need-returns-2
 unfolding indexBits worldToIndex
-returns-2 c = position-taken (c .before .before .before .before .before .before .before .before .before .before .before .before .before .before .before .before .map-fault .ensures) (c .before .before .before .before .before .before .before .before .before .before .before .before .before .before .before .if1 .left) (λ i. c .before .before .before .before .before .before .before .before .row-bits .ensures i ∷ c .before .before .before .before .row-bits2 .ensures i ∷ c .row-bits3 .ensures i ∷ [])
+returns-2 c =
+    let r = at-first c in
+    let d = at-fault r in
+    position-taken (d .before .map-fault .ensures) (d .if1 .left)
+    (λ i. r .row-bits .ensures i ∷ at-second c .row-bits2 .ensures i ∷ c .row-bits3 .ensures i ∷ [])
 
 pub world-to-index-f-spec : {M : Type 1} → statement M
 world-to-index-f-spec =
     tie.close
     (tie.spec
-    map-fault-requires
+    (λ c κs. search needs)
     returns
-    element-copy-out-dx
-    element-copy-out-dy
-    element-copy-out-dz
-    element-copy-out-row-bits
-    element-copy-out-row-bits-2
-    element-copy-out-row-bits-3
-    row-bits-requires
-    element-copy-out-row-bits-4
-    element-copy-out-row-bits-5
-    element-copy-out-row-bits-6
-    row-bits-requires-2
-    element-copy-out-row-bits-7
-    element-copy-out-row-bits-8
-    element-copy-out-row-bits-9
-    row-bits-requires-3
+    (λ c. search needs)
+    (λ c. search needs)
+    (λ c. search needs)
+    (λ c. search needs)
+    (λ c. search needs)
+    (λ c. search needs)
+    (λ c κs. search needs)
+    (λ c. search needs)
+    (λ c. search needs)
+    (λ c. search needs)
+    (λ c κs. search needs)
+    (λ c. search needs)
+    (λ c. search needs)
+    (λ c. search needs)
+    (λ c κs. search needs)
     returns-2)

@@ -11,8 +11,5 @@ float-from-bits-result c = number-below binary32 (c .before .args .n) (c .if1 .l
 returns : tie.Need-returns
 returns c = nan-above binary32 (c .before .args .n) (c .if1 .taken)
 
-returns-2 : tie.Need-returns-2
-returns-2 c = search needs
-
 pub float-of-spec : {M : Type 1} → statement M
-float-of-spec = tie.close (tie.spec float-from-bits-result returns returns-2)
+float-of-spec = tie.close (tie.spec float-from-bits-result returns (λ c. search needs))

@@ -7,14 +7,8 @@ use Rattle.layout.proofs.Signs.{answered}
 use Rattle.layout.proofs.i32_at.Statement.{statement}
 use Rattle.layout.proofs.i32_at.Tie as tie
 
-u32-at-requires : tie.Need-u32-at-requires
-u32-at-requires c κs = search needs
-
-signed-u32-requires : tie.Need-signed-u32-requires
-signed-u32-requires c κs = search needs
-
 returns : tie.Need-returns
 returns c = answered w32 _ _ (c .signed-u32 .ok) (c .signed-u32 .ensures ∙ ap (signed 32) (c .before .u32-at .ensures))
 
 pub i32-at-spec : {M : Type 1} → statement M
-i32-at-spec = tie.close (tie.spec u32-at-requires signed-u32-requires returns)
+i32-at-spec = tie.close (tie.spec (λ c κs. search needs) (λ c κs. search needs) returns)

@@ -7,14 +7,8 @@ use Rattle.layout.proofs.Signs.{answered}
 use Rattle.layout.proofs.i64_at.Statement.{statement}
 use Rattle.layout.proofs.i64_at.Tie as tie
 
-u64-at-requires : tie.Need-u64-at-requires
-u64-at-requires c κs = search needs
-
-signed-u64-requires : tie.Need-signed-u64-requires
-signed-u64-requires c κs = search needs
-
 returns : tie.Need-returns
 returns c = answered w64 _ _ (c .signed-u64 .ok) (c .signed-u64 .ensures ∙ ap (signed 64) (c .before .u64-at .ensures))
 
 pub i64-at-spec : {M : Type 1} → statement M
-i64-at-spec = tie.close (tie.spec u64-at-requires signed-u64-requires returns)
+i64-at-spec = tie.close (tie.spec (λ c κs. search needs) (λ c κs. search needs) returns)

@@ -5,17 +5,11 @@ use Rattle.layout.proofs.Laws.{read-value, read-refused}
 use Rattle.layout.proofs.read_u32.Statement.{statement}
 use Rattle.layout.proofs.read_u32.Tie as tie
 
-inside-requires : tie.Need-inside-requires
-inside-requires c κs = search needs
-
-u32-at-requires : tie.Need-u32-at-requires
-u32-at-requires c κs = search needs
-
 returns : tie.Need-returns
-returns c = read-value u32At 4 _ _ _ (c .before .before .inside .ensures) (c .before .if1 .taken) (c .u32-at .ensures)
+returns c = read-value 0 u32At 4 _ _ (c .before .before .inside .ensures) (c .before .if1 .taken) (c .u32-at .ensures)
 
 returns-2 : tie.Need-returns-2
-returns-2 c = read-refused u32At 4 _ _ (c .before .inside .ensures) (c .if1 .left)
+returns-2 c = read-refused 0 u32At 4 _ _ (c .before .inside .ensures) (c .if1 .left)
 
 pub read-u32-spec : {M : Type 1} → statement M
-read-u32-spec = tie.close (tie.spec inside-requires u32-at-requires returns returns-2)
+read-u32-spec = tie.close (tie.spec (λ c κs. search needs) (λ c κs. search needs) returns returns-2)

@@ -5,17 +5,11 @@ use Rattle.layout.proofs.Laws.{read-value, read-refused}
 use Rattle.layout.proofs.read_u64.Statement.{statement}
 use Rattle.layout.proofs.read_u64.Tie as tie
 
-inside-requires : tie.Need-inside-requires
-inside-requires c κs = search needs
-
-u64-at-requires : tie.Need-u64-at-requires
-u64-at-requires c κs = search needs
-
 returns : tie.Need-returns
-returns c = read-value u64At 8 _ _ _ (c .before .before .inside .ensures) (c .before .if1 .taken) (c .u64-at .ensures)
+returns c = read-value 0 u64At 8 _ _ (c .before .before .inside .ensures) (c .before .if1 .taken) (c .u64-at .ensures)
 
 returns-2 : tie.Need-returns-2
-returns-2 c = read-refused u64At 8 _ _ (c .before .inside .ensures) (c .if1 .left)
+returns-2 c = read-refused 0 u64At 8 _ _ (c .before .inside .ensures) (c .if1 .left)
 
 pub read-u64-spec : {M : Type 1} → statement M
-read-u64-spec = tie.close (tie.spec inside-requires u64-at-requires returns returns-2)
+read-u64-spec = tie.close (tie.spec (λ c κs. search needs) (λ c κs. search needs) returns returns-2)

@@ -6,17 +6,8 @@ use Rattle.layout.proofs.Signs.{signed-toZ, negated-fits, negated-is}
 use Rattle.layout.proofs.signed_u64.Statement.{statement}
 use Rattle.layout.proofs.signed_u64.Tie as tie
 
-cast-result : tie.Need-cast-result
-cast-result c = search needs
-
 returns : tie.Need-returns
 returns c = signed-toZ w64 _ refl
-
-sub-below : tie.Need-sub-below
-sub-below c = search needs
-
-cast-result-2 : tie.Need-cast-result-2
-cast-result-2 c = search needs
 
 sub-result : tie.Need-sub-result
 sub-result c = negated-fits w64 (c .before .args .n) refl refl (c .before .fits .n) (c .if1 .left)
@@ -26,4 +17,4 @@ returns-2 c = negated-is w64 (c .before .args .n) refl refl (c .before .fits .n)
 
 pub signed-u64-spec : {M : Type 1} → statement M
 signed-u64-spec =
-    tie.close (tie.spec cast-result returns sub-below cast-result-2 sub-result returns-2)
+    tie.close (tie.spec (λ c. search needs) returns (λ c. search needs) (λ c. search needs) sub-result returns-2)

@@ -5,23 +5,8 @@ use Rattle.layout.proofs.Laws.{within, cut-halves}
 use Rattle.layout.proofs.u64_at.Statement.{statement}
 use Rattle.layout.proofs.u64_at.Tie as tie
 
-inside-requires : tie.Need-inside-requires
-inside-requires c κs = search needs
-
 whole-u64-requires : tie.Need-whole-u64-requires
 whole-u64-requires c κs = within _ _ (c .before .inside .ensures) (c .if1 .taken)
-
-returns : tie.Need-returns
-returns c = search needs
-
-cut-u32-requires : tie.Need-cut-u32-requires
-cut-u32-requires c κs = search needs
-
-cut-u32-requires-2 : tie.Need-cut-u32-requires-2
-cut-u32-requires-2 c κs = search needs
-
-joined-requires : tie.Need-joined-requires
-joined-requires c κs = search needs
 
 returns-2 : tie.Need-returns-2
 returns-2 c = c .joined .ensures ∙ cut-halves _ _ _ _ (c .before .before .cut-u32 .ensures) (c .before .cut-u322 .ensures)
@@ -30,10 +15,10 @@ pub u64-at-spec : {M : Type 1} → statement M
 u64-at-spec =
     tie.close
     (tie.spec
-    inside-requires
+    (λ c κs. search needs)
     whole-u64-requires
-    returns
-    cut-u32-requires
-    cut-u32-requires-2
-    joined-requires
+    (λ c. search needs)
+    (λ c κs. search needs)
+    (λ c κs. search needs)
+    (λ c κs. search needs)
     returns-2)

@@ -1,69 +1,84 @@
 -- `majorant::build_majorant` meets its contract: zeros after a fault, and otherwise the figures from end to end. Assumes nothing.
-use mathlib.Core.Path.{sym, _∙_}
-use Rattle.sparse_grid.specs.Tables.{gridOf}
-use Rattle.medium.specs.Record.{asMedium}
-use lib.ListN.{length}
-use lib.Dec.{lit≤}
+use mathlib.Core.Path.{_≡_, sym, _∙_}
+use mathlib.Core.List.{List}
 use native.Mathlib.Nat.{le-of-eq}
+use lib.Dec.{lit≤}
+use lib.ListN.{length}
+use lib.Ieee.{Float}
+use Rattle.sparse_grid.specs.Tables.{Grid, gridOf}
+use Rattle.medium.specs.Record.{asMedium}
 use Rattle.majorant.specs.Build.{cube}
-use Rattle.majorant.proofs.Builds.{stopped, places-are, grid-passed, map-passed, cell-stopped, built}
+use Rattle.majorant.proofs.Builds.{Tested, stopped, places-are, grid-passed, map-passed, cell-stopped, built}
 use borrow.Author.Needs.{needs}
 use Rattle.majorant.proofs.build_majorant.Statement.{statement}
 use Rattle.majorant.proofs.build_majorant.Tie as tie
 
-build-fault-requires : tie.Need-build-fault-requires
-build-fault-requires c κs = search needs
+-- places: the start, the test before the cells, the cells, and the zeros after a fault
+abbrev start : tie.After-build-fault → tie.Start
+start c = c .before .before .before .before .before .before .before .before .before
 
-zero-f32-requires : tie.Need-zero-f32-requires
-zero-f32-requires c κs = search needs
+abbrev at-test : tie.After-cells → tie.After-build-fault
+at-test c = c .before .before .before
 
-same-length : tie.Need-same-length
-same-length c = c .before .before .zero-f32 .kept .0
+abbrev zeroed-first : tie.After-slice-known2 → tie.Then1
+zeroed-first c = c .before .before .before .before
+
+abbrev zeroed : tie.After-slice-known4 → tie.Then2
+zeroed c = c .before .before .before .before
+
+abbrev at-cells : tie.Then2 → tie.After-cells
+at-cells c = c .before .before .before
+
+abbrev grid : tie.Start → Grid
+grid c =
+    let a = c .args in
+    gridOf (a .background) (a .blocks .now) (a .root-links .now) (a .root-values .now) (a .upper-links .now) (a .upper-values .now)
+    (a .lower-links .now) (a .lower-values .now) (a .leaf-values .now)
+
+tested : (c : tie.After-build-fault) →
+    let a = start c .args in
+    Tested (grid (start c)) (asMedium (a .m)) (cube 64) (length (a .majorants .now)) (c .build-fault .result)
+tested c = record { fault = c .build-fault .ensures }
+
+-- the table as the cells leave it, as long as before
+abbrev left : tie.After-cells → List Float
+left c = c .cells .last .1 .1 .1 .1 .1 .1 .1 .1 .1 .1 .1 .1 .1 .0
+
+kept : (c : tie.After-cells) → length (left c) ≡ length (start (at-test c) .args .majorants .now)
+kept c = c .cells .kept .1 .1 .1 .1 .1 .1 .1 .1 .1 .1 .1 .1 .1 .0
 
 returns : tie.Need-returns
-returns c =
-    let b = c .before .before .before .before .before .before .before .before .before .before .before .before .before .before .args in
-    let g = gridOf (b .background) (b .blocks .now) (b .root-links .now) (b .root-values .now) (b .upper-links .now) (b .upper-values .now) (b .lower-links .now) (b .lower-values .now) (b .leaf-values .now) in
-    stopped g (asMedium (b .m)) (cube 64) (length (b .majorants .now)) (c .before .before .before .before .before .build-fault .ensures) (c .before .before .before .before .if1 .taken) (c .before .before .zero-f32 .ensures)
+returns c = let z = zeroed-first c in stopped (tested (z .before)) (z .if1 .taken) (c .before .before .zero-f32 .ensures)
 
 cells-requires : tie.Need-cells-requires
 cells-requires c κs =
-    let b = c .before .before .before .before .before .before .before .before .before .before .before .args in
-    let g = gridOf (b .background) (b .blocks .now) (b .root-links .now) (b .root-values .now) (b .upper-links .now) (b .upper-values .now) (b .lower-links .now) (b .lower-values .now) (b .leaf-values .now) in
-    (grid-passed g (asMedium (b .m)) (cube 64) (length (b .majorants .now)) (c .before .before .build-fault .ensures) (c .before .if1 .left), map-passed g (asMedium (b .m)) (cube 64) (length (b .majorants .now)) (c .before .before .build-fault .ensures) (c .before .if1 .left), lit≤ tt, lit≤ tt, lit≤ tt, le-of-eq (sym (places-are g (asMedium (b .m)) (cube 64) (length (b .majorants .now)) (c .before .before .build-fault .ensures) (c .before .if1 .left))))
-
-zero-f32-requires-2 : tie.Need-zero-f32-requires-2
-zero-f32-requires-2 c κs = search needs
-
-same-length-2 : tie.Need-same-length-2
-same-length-2 c = c .before .before .zero-f322 .kept .0 ∙ c .before .before .before .before .before .before .before .cells .kept .1 .1 .1 .1 .1 .1 .1 .1 .1 .1 .1 .1 .1 .0
+    let t = tested (c .before .before) in
+    let o = c .before .if1 .left in
+    (grid-passed t o, map-passed t o, lit≤ tt, lit≤ tt, lit≤ tt, le-of-eq (sym (places-are t o)))
 
 returns-2 : tie.Need-returns-2
 returns-2 c =
-    let b = c .before .before .before .before .before .before .before .before .before .before .before .before .before .before .before .before .before .before .before .args in
-    let g = gridOf (b .background) (b .blocks .now) (b .root-links .now) (b .root-values .now) (b .upper-links .now) (b .upper-values .now) (b .lower-links .now) (b .lower-values .now) (b .leaf-values .now) in
-    cell-stopped g (asMedium (b .m)) (cube 64) (length (b .majorants .now)) (c .before .before .before .before .before .before .before .before .before .before .build-fault .ensures) (c .before .before .before .before .before .before .before .before .before .if1 .left) (c .before .before .before .before .before .before .before .cells .last .1 .1 .1 .1 .1 .1 .1 .1 .1 .1 .1 .1 .1 .0) (c .before .before .before .before .before .before .before .cells .ensures) (c .before .before .before .before .if2 .taken) (c .before .before .zero-f322 .ensures) (c .before .before .before .before .before .before .before .cells .kept .1 .1 .1 .1 .1 .1 .1 .1 .1 .1 .1 .1 .1 .0)
-
-same-length-3 : tie.Need-same-length-3
-same-length-3 c = c .before .before .before .cells .kept .1 .1 .1 .1 .1 .1 .1 .1 .1 .1 .1 .1 .1 .0
+    let z = zeroed c in
+    let d = at-cells z in
+    cell-stopped (tested (at-test d)) (d .before .before .if1 .left) (left d) (d .cells .ensures) (z .if2 .taken)
+    (c .before .before .zero-f322 .ensures) (kept d)
 
 returns-3 : tie.Need-returns-3
 returns-3 c =
-    let b = c .before .before .before .before .before .before .before .before .before .before .before .before .before .before .before .args in
-    let g = gridOf (b .background) (b .blocks .now) (b .root-links .now) (b .root-values .now) (b .upper-links .now) (b .upper-values .now) (b .lower-links .now) (b .lower-values .now) (b .leaf-values .now) in
-    built g (asMedium (b .m)) (cube 64) (length (b .majorants .now)) (c .before .before .before .before .before .before .build-fault .ensures) (c .before .before .before .before .before .if1 .left) (c .before .before .before .cells .last .1 .1 .1 .1 .1 .1 .1 .1 .1 .1 .1 .1 .1 .0) (c .before .before .before .cells .ensures) (c .if2 .left) (c .before .before .before .cells .kept .1 .1 .1 .1 .1 .1 .1 .1 .1 .1 .1 .1 .1 .0)
+    let d = c .before .before .before in
+    built (tested (at-test d)) (d .before .before .if1 .left) (left d) (d .cells .ensures) (c .if2 .left) (kept d)
 
 pub build-majorant-spec : {M : Type 1} → statement M
 build-majorant-spec =
     tie.close
     (tie.spec
-    build-fault-requires
-    zero-f32-requires
-    same-length
+    (λ c κs. search needs)
+    (λ c κs. search needs)
+    (λ c. c .before .before .zero-f32 .kept .0)
     returns
     cells-requires
-    zero-f32-requires-2
-    same-length-2
+    (λ c κs. search needs)
+    (λ c. c .before .before .zero-f322 .kept .0 ∙ kept (at-cells (zeroed c)))
     returns-2
-    same-length-3
+    (λ c. kept (c .before .before .before))
     returns-3)

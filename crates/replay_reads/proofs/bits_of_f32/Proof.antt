@@ -7,11 +7,5 @@ use Rattle.replay_reads.proofs.bits_of_f32.Tie as tie
 float-to-bits-result : tie.Need-float-to-bits-result
 float-to-bits-result c = equal-is-no-nan (c .before .args .x) (c .if1 .left)
 
-returns : tie.Need-returns
-returns c = search needs
-
-returns-2 : tie.Need-returns-2
-returns-2 c = search needs
-
 pub bits-of-f32-spec : {M : Type 1} → statement M
-bits-of-f32-spec = tie.close (tie.spec float-to-bits-result returns returns-2)
+bits-of-f32-spec = tie.close (tie.spec float-to-bits-result (λ c. search needs) (λ c. search needs))

@@ -7,7 +7,7 @@ use Rattle.float.specs.Zero.{+0}
 use Rattle.sparse_grid.specs.Tables.{Grid, gridOf}
 use Rattle.sparse_grid.specs.Answers.{outcome}
 use Rattle.majorant.specs.Build.{publicMaximum}
-use Rattle.majorant.specs.Boxes.{between}
+use Rattle.boxes.specs.Boxes.{between}
 use borrow.Author.Needs.{needs}
 use Rattle.smokegrid.proofs.smokegrid_box_maximum.Statement.{statement}
 use Rattle.smokegrid.proofs.smokegrid_box_maximum.Tie as tie

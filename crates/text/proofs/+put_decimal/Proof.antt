@@ -1,3 +1,4 @@
+-- `text::put_decimal` meets its contract: the digits of a number, the highest first. Assumes nothing.
 use mathlib.Core.Path.{refl}
 use mathlib.Core.List.{[]}
 use Rattle.text.specs.Page.{puts}

@@ -1,3 +1,4 @@
+-- `text::put_sixteens` meets its contract: k hexadecimal digits of a number, the highest first. Assumes nothing.
 use mathlib.Core.Path.{sym, ap}
 use native.Mathlib.Nat.{pos-of-ne-zero}
 use Rattle.text.specs.Numerals.{sixteens}

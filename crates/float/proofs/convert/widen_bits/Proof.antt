@@ -1,114 +1,90 @@
 -- `float::convert::widen_bits` meets its contract: the value of the pattern's fields, in units of binary64's smallest value, with the leading digit at bit 52.
-use mathlib.Core.Path.{_≡_, sym, ap, _∙_, subst}
-use mathlib.Core.Bool.{cond, false}
-use Prim.Native.Nat.{ℕ, _+_, _-_, _*_, _^_, _<_}
+use mathlib.Core.Path.{_≡_, sym, ap, _∙_}
+use mathlib.Core.Bool.{false}
+use Prim.Native.Nat.{ℕ, _+_, _≤_, _<_}
 use native.Mathlib.Omega.{arith}
 use lib.Dec.{leb}
-use lib.Ieee.{binary32, binary64, top, ofBits, toBits, nanBits}
+use lib.Ieee.{binary32, binary64, top, ofBits, toBits}
 use lib.Ieee.Bits.{nanBits-is}
 use borrow.Author.Tests.{leb-false}
-use Rattle.float.specs.Fields.{fieldOf, digitsOf, placeOf}
-use Rattle.float.specs.Shifts.{Lead}
+use Rattle.float.specs.Fields.{fieldOf}
 use Rattle.float.specs.Patterns.{nan-bits, is-nan}
 use Rattle.float.proofs.Decode.{sign-le, digits-lt}
 use Rattle.float.proofs.Special.{at-inf}
-use Rattle.float.proofs.Widening.{widen-at, widen-zero, widen-inf}
+use Rattle.float.proofs.Widening.{widen-parts, widen-zero, widen-inf}
 use borrow.Author.Needs.{needs}
 use Rattle.float.proofs.convert.widen_bits.Statement.{statement}
 use Rattle.float.proofs.convert.widen_bits.Tie as tie
 
-sign-weight-requires : tie.Need-sign-weight-requires
-sign-weight-requires c κs = search needs
+-- places: the start, and the tests for a NaN and for an infinity
+abbrev start : tie.After-is-nan → tie.Start
+start c = c .before .before .before
 
-digits-requires : tie.Need-digits-requires
-digits-requires c κs = search needs
+abbrev at-nan : tie.After-is-special → tie.After-is-nan
+at-nan c = c .before .before
 
-is-nan-requires : tie.Need-is-nan-requires
-is-nan-requires c κs = search needs
+abbrev at-special : tie.After-shift-to → tie.After-is-special
+at-special c = c .before .before .before
 
-is-special-requires : tie.Need-is-special-requires
-is-special-requires c κs = search needs
+-- the sign's weight is one bit's
+light : (c : tie.After-is-nan) → c .before .before .sign-weight .result ≤ 0x8000_0000_0000_0000
+light c = omega (arith, c .before .before .sign-weight .ensures, sign-le (leb 0x8000_0000 (start c .args .b)) 0x8000_0000_0000_0000)
 
-add-result : tie.Need-add-result
-add-result c = omega (arith, c .before .before .before .before .before .sign-weight .ensures, sign-le (leb 0x8000_0000 (c .before .before .before .before .before .before .args .b)) 0x8000_0000_0000_0000)
+-- past the test for an infinity the field is below 255
+finite : (c : tie.After-is-special) → c .is-special .result ≡ false → fieldOf binary32 (start (at-nan c) .args .b) < 255
+finite c e = leb-false 255 (fieldOf binary32 (start (at-nan c) .args .b)) (sym (c .is-special .ensures) ∙ e)
 
 shift-to-requires : tie.Need-shift-to-requires
-shift-to-requires c κs = (omega arith, omega arith, omega (arith, c .before .before .before .before .before .digits .ensures, digits-lt (c .before .before .before .before .before .before .before .args .b)))
-
-place-requires : tie.Need-place-requires
-place-requires c κs = search needs
-
-add-result-2 : tie.Need-add-result-2
-add-result-2 c = search needs
-
-sub-result : tie.Need-sub-result
-sub-result c = search needs
-
-mul-result : tie.Need-mul-result
-mul-result c = search needs
-
-shifted-requires : tie.Need-shifted-requires
-shifted-requires c κs = search needs
-
-add-result-3 : tie.Need-add-result-3
-add-result-3 c = search needs
-
-add-result-4 : tie.Need-add-result-4
-add-result-4 c =
-    omega (
-      arith,
-      c .before .before .before .before .before .before .before .before .before .sign-weight .ensures,
-      sign-le (leb 0x8000_0000 (c .before .before .before .before .before .before .before .before .before .before .args .b)) 0x8000_0000_0000_0000,
-      c .before .place .ensures,
-    )
+shift-to-requires c κs =
+    let n = at-nan (c .before .before) in
+    (omega arith, omega arith, omega (arith, n .before .digits .ensures, digits-lt (start n .args .b)))
 
 returns : tie.Need-returns
 returns c =
-    let b = c .before .before .before .before .args .b in
-    nan-bits binary64 ∙ sym (ap (toBits binary64) (is-nan (ofBits binary32 b) (sym (nanBits-is binary32 b) ∙ sym (c .before .is-nan .ensures) ∙ c .if1 .taken)))
+    let b = start (c .before) .args .b in
+    nan-bits binary64
+    ∙ sym (ap (toBits binary64) (is-nan (ofBits binary32 b) (sym (nanBits-is binary32 b) ∙ sym (c .before .is-nan .ensures) ∙ c .if1 .taken)))
 
 returns-2 : tie.Need-returns-2
 returns-2 c =
-    let b = c .before .before .before .before .before .before .args .b in
-    let n : nanBits binary32 b ≡ false = sym (c .before .before .before .is-nan .ensures) ∙ c .before .before .if1 .left in
-    ap (λ (x : ℕ). x + 0x7ff0_0000_0000_0000) (c .before .before .before .before .before .sign-weight .ensures)
+    let n = at-nan (c .before) in
+    let b = start n .args .b in
+    ap (λ (x : ℕ). x + 0x7ff0_0000_0000_0000) (n .before .before .sign-weight .ensures)
     ∙ widen-inf (leb (top binary32) b)
-    ∙ sym (ap (toBits binary64) (at-inf b (sym (c .before .is-special .ensures) ∙ c .if2 .taken) n))
+    ∙ sym (ap (toBits binary64) (at-inf b (sym (c .before .is-special .ensures) ∙ c .if2 .taken) (sym (n .is-nan .ensures) ∙ c .before .before .if1 .left)))
 
 returns-3 : tie.Need-returns-3
 returns-3 c =
-    let b = c .before .before .before .before .before .before .before .args .b in
-    c .before .before .before .before .before .before .sign-weight .ensures
-    ∙ sym (widen-zero b (leb-false 255 (fieldOf binary32 b) (sym (c .before .before .is-special .ensures) ∙ c .before .if2 .left)) (sym (c .before .before .before .before .before .digits .ensures) ∙ c .if3 .taken))
+    let t = c .before .before in
+    let n = at-nan t in
+    n .before .before .sign-weight .ensures
+    ∙ sym (widen-zero (start n .args .b) (finite t (c .before .if2 .left)) (sym (n .before .digits .ensures) ∙ c .if3 .taken))
 
 returns-4 : tie.Need-returns-4
 returns-4 c =
-    let b = c .before .before .before .before .before .before .before .before .before .before .args .b in
-    let z = c .before .before .shift-to .result in
-    let w : c .before .before .before .before .before .before .before .before .digits .result ≡ digitsOf binary32 b = c .before .before .before .before .before .before .before .before .digits .ensures in
-    let f : fieldOf binary32 b < 255 = leb-false 255 (fieldOf binary32 b) (sym (c .before .before .before .before .before .is-special .ensures) ∙ c .before .before .before .before .if2 .left) in
-    ap (λ (x : ℕ). x + ((c .before .place .result + 925 - z) * 0x0010_0000_0000_0000 + c .shifted .result)) (c .before .before .before .before .before .before .before .before .before .sign-weight .ensures)
-    ∙ ap (λ (x : ℕ). cond (leb (top binary32) b) (top binary64) 0 + ((x + 925 - z) * 0x0010_0000_0000_0000 + c .shifted .result)) (c .before .place .ensures)
-    ∙ ap (λ (x : ℕ). cond (leb (top binary32) b) (top binary64) 0 + ((placeOf binary32 b + 925 - z) * 0x0010_0000_0000_0000 + x)) (c .shifted .ensures ∙ ap (λ (x : ℕ). x * 2 ^ z) w)
-    ∙ sym (widen-at b z f (subst (λ (x : ℕ). Lead 52 x z) w (c .before .before .shift-to .ensures)))
+    let z = c .before .before in
+    let t = at-special z in
+    let n = at-nan t in
+    widen-parts (start n .args .b) (z .shift-to .result) (n .before .before .sign-weight .ensures) (c .before .place .ensures)
+    (n .before .digits .ensures) (c .shifted .ensures) (finite t (z .before .before .if2 .left)) (z .shift-to .ensures)
 
 pub widen-bits-spec : {M : Type 1} → statement M
 widen-bits-spec =
     tie.close
     (tie.spec
-    sign-weight-requires
-    digits-requires
-    is-nan-requires
-    is-special-requires
-    add-result
+    (λ c κs. search needs)
+    (λ c κs. search needs)
+    (λ c κs. search needs)
+    (λ c κs. search needs)
+    (λ c. omega (arith, light (at-nan (c .before))))
     shift-to-requires
-    place-requires
-    add-result-2
-    sub-result
-    mul-result
-    shifted-requires
-    add-result-3
-    add-result-4
+    (λ c κs. search needs)
+    (λ c. search needs)
+    (λ c. search needs)
+    (λ c. search needs)
+    (λ c κs. search needs)
+    (λ c. search needs)
+    (λ c. omega (arith, light (at-nan (at-special (c .before .before))), c .before .place .ensures))
     returns
     returns-2
     returns-3

@@ -1,7 +1,7 @@
 -- `float::fused::add_aligned` meets its contract: by the signs and the magnitudes, one rounding of a number whose sticky digit stands for what is lost.
 use mathlib.Core.Path.{_≡_, sym, ap, _∙_, subst}
 use mathlib.Core.Bool.{false}
-use Prim.Native.Nat.{ℕ, _-_, _*_, _^_, _<_}
+use Prim.Native.Nat.{ℕ, _-_, _*_, _^_, _≤_, _<_}
 use native.Mathlib.Nat.{le-of-lt, le-of-eq, mul-lt-mul-of-pos-right}
 use native.Mathlib.Omega.{arith}
 use lib.Pow.{pow-pos}
@@ -13,72 +13,93 @@ use borrow.Author.Needs.{needs}
 use Rattle.float.proofs.fused.add_aligned.Statement.{statement}
 use Rattle.float.proofs.fused.add_aligned.Tie as tie
 
-shift-sticky-requires : tie.Need-shift-sticky-requires
-shift-sticky-requires c κs = search needs
+-- the addend shifted down, with its sticky digit
+shifted : (c : tie.After-shift-sticky) → let a = c .before .args in Moved (c .shift-sticky .result) (a .b) (a .d) (a .e)
+shifted c =
+    let a = c .before .args in
+    let p = c .before .pre in
+    subst (λ (x : ℕ). Moved x (a .b) (a .d) (a .e)) (sym (c .shift-sticky .ensures)) (moved (a .b) (a .d) (a .e) (p .1) (p .2))
 
-add-pack-nonzero : tie.Need-add-pack-nonzero
-add-pack-nonzero c = omega (arith, sticky-lt (c .before .before .args .b) (c .before .before .args .d) (c .before .before .args .e) (c .before .shift-sticky .result) (c .before .before .pre .1) (c .before .before .pre .2) (c .before .shift-sticky .ensures), c .before .before .pre .0 .hi)
+small : (c : tie.After-shift-sticky) → c .shift-sticky .result < 2 ^ 62
+small c =
+    let a = c .before .args in
+    sticky-lt (a .b) (a .d) (a .e) (c .shift-sticky .result) (c .before .pre .1) (c .before .pre .2) (c .shift-sticky .ensures)
+
+-- the two magnitudes, in units of 2^-1200
+abbrev first : tie.After-shift-sticky → ℕ
+first c = let a = c .before .args in a .a * 2 ^ a .e
+
+abbrev second : tie.After-shift-sticky → ℕ
+second c = let a = c .before .args in a .b * 2 ^ (a .e - a .d)
+
+-- where the second is not the smaller, nothing of it is lost
+exact : (c : tie.After-shift-sticky) → c .before .args .a ≤ c .shift-sticky .result → second c ≡ c .shift-sticky .result * 2 ^ c .before .args .e
+exact c l = let a = c .before .args in moved-exact (a .a) (c .shift-sticky .result) (a .b) (a .d) (a .e) (c .before .pre .0) l (shifted c)
 
 pack-nonzero-requires : tie.Need-pack-nonzero-requires
-pack-nonzero-requires c κs = let l = sticky-lt (c .before .before .args .b) (c .before .before .args .d) (c .before .before .args .e) (c .before .shift-sticky .result) (c .before .before .pre .1) (c .before .before .pre .2) (c .before .shift-sticky .ensures) in (omega (arith, c .before .before .pre .0 .lo), omega (arith, c .before .before .pre .0 .hi), c .before .before .pre .3, c .before .before .pre .4)
-
-sub-pack-nonzero : tie.Need-sub-pack-nonzero
-sub-pack-nonzero c = search needs
-
-pack-nonzero-requires-2 : tie.Need-pack-nonzero-requires-2
-pack-nonzero-requires-2 c κs = search needs
+pack-nonzero-requires c κs =
+    let p = c .before .before .pre in
+    let l = small (c .before) in
+    (omega (arith, p .0 .lo), omega (arith, p .0 .hi), p .3, p .4)
 
 pack-nonzero-requires-3 : tie.Need-pack-nonzero-requires-3
-pack-nonzero-requires-3 c κs = let l = sticky-lt (c .before .before .before .before .args .b) (c .before .before .before .before .args .d) (c .before .before .before .before .args .e) (c .before .before .before .shift-sticky .result) (c .before .before .before .before .pre .1) (c .before .before .before .before .pre .2) (c .before .before .before .shift-sticky .ensures) in (omega arith, omega arith, c .before .before .before .before .pre .3, c .before .before .before .before .pre .4)
+pack-nonzero-requires-3 c κs =
+    let d = c .before .before .before in
+    let l = small d in
+    (omega arith, omega arith, d .before .pre .3, d .before .pre .4)
 
 returns : tie.Need-returns
 returns c =
-    let a = c .before .before .before .args in
-    let p = c .before .before .before .pre in
-    let j = c .before .before .shift-sticky .result in
-    let m = subst (λ (x : ℕ). Moved x (a .b) (a .d) (a .e)) (sym (c .before .before .shift-sticky .ensures)) (moved (a .b) (a .d) (a .e) (p .1) (p .2)) in
-    c .pack-nonzero .ensures ∙ ap (toBits binary32) (sym (sum-alike binary32 (a .s) (a .t) (a .a * 2 ^ a .e) (a .b * 2 ^ (a .e - a .d)) (2 ^ 1200) (c .before .if1 .taken) ∙ added (a .s) (a .a) j (a .b) (a .d) (a .e) (p .0) m))
+    let d = c .before .before in
+    let a = d .before .args in
+    c .pack-nonzero .ensures
+    ∙ ap (toBits binary32) (sym (sum-alike binary32 (a .s) (a .t) (first d) (second d) (2 ^ 1200) (c .before .if1 .taken)
+    ∙ added (a .s) (a .a) (d .shift-sticky .result) (a .b) (a .d) (a .e) (d .before .pre .0) (shifted d)))
 
 returns-2 : tie.Need-returns-2
 returns-2 c =
-    let a = c .before .before .before .before .args in
-    let p = c .before .before .before .before .pre in
-    let j = c .before .before .before .shift-sticky .result in
-    let m = subst (λ (x : ℕ). Moved x (a .b) (a .d) (a .e)) (sym (c .before .before .before .shift-sticky .ensures)) (moved (a .b) (a .d) (a .e) (p .1) (p .2)) in
+    let d = c .before .before .before in
+    let a = d .before .args in
+    let j = d .shift-sticky .result in
     let l : j < a .a = omega arith in
-    c .pack-nonzero2 .ensures ∙ ap (toBits binary32) (sym (sum-above binary32 (a .s) (a .t) (a .a * 2 ^ a .e) (a .b * 2 ^ (a .e - a .d)) (2 ^ 1200) (c .before .before .if1 .left) (moved-below (a .a) j (a .b) (a .d) (a .e) l m) ∙ taken (a .s) (a .a) j (a .b) (a .d) (a .e) (p .0) l m))
+    c .pack-nonzero2 .ensures
+    ∙ ap (toBits binary32)
+    (sym (sum-above binary32 (a .s) (a .t) (first d) (second d) (2 ^ 1200) (c .before .before .if1 .left)
+    (moved-below (a .a) j (a .b) (a .d) (a .e) l (shifted d))
+    ∙ taken (a .s) (a .a) j (a .b) (a .d) (a .e) (d .before .pre .0) l (shifted d)))
 
 returns-3 : tie.Need-returns-3
 returns-3 c =
-    let a = c .before .before .before .before .before .args in
-    let p = c .before .before .before .before .before .pre in
-    let j = c .before .before .before .before .shift-sticky .result in
-    let m = subst (λ (x : ℕ). Moved x (a .b) (a .d) (a .e)) (sym (c .before .before .before .before .shift-sticky .ensures)) (moved (a .b) (a .d) (a .e) (p .1) (p .2)) in
+    let e = c .before .before .before in
+    let d = e .before in
+    let a = d .before .args in
+    let j = d .shift-sticky .result in
     let l : a .a < j = omega arith in
-    let x : a .b * 2 ^ (a .e - a .d) ≡ j * 2 ^ a .e = moved-exact (a .a) j (a .b) (a .d) (a .e) (p .0) (le-of-lt l) m in
     c .pack-nonzero3 .ensures
     ∙ ap (toBits binary32)
-    (sym (ap (λ (y : ℕ). sum binary32 (a .s) (a .a * 2 ^ a .e) (a .t) y (2 ^ 1200)) x ∙ sum-below binary32 (a .s) (a .t) (a .a * 2 ^ a .e) (j * 2 ^ a .e) (2 ^ 1200) (c .before .before .before .if1 .left) (mul-lt-mul-of-pos-right l (pow-pos (a .e))) ∙ ap (λ (y : ℕ). round binary32 (a .t) y (2 ^ 1200)) (sub-mul j (a .a) (2 ^ a .e))))
+    (sym (ap (λ (y : ℕ). sum binary32 (a .s) (first d) (a .t) y (2 ^ 1200)) (exact d (le-of-lt l))
+    ∙ sum-below binary32 (a .s) (a .t) (first d) (j * 2 ^ a .e) (2 ^ 1200) (e .if1 .left) (mul-lt-mul-of-pos-right l (pow-pos (a .e)))
+    ∙ ap (λ (y : ℕ). round binary32 (a .t) y (2 ^ 1200)) (sub-mul j (a .a) (2 ^ a .e))))
 
 returns-4 : tie.Need-returns-4
 returns-4 c =
-    let a = c .before .before .before .before .args in
-    let p = c .before .before .before .before .pre in
-    let j = c .before .before .before .shift-sticky .result in
-    let m = subst (λ (x : ℕ). Moved x (a .b) (a .d) (a .e)) (sym (c .before .before .before .shift-sticky .ensures)) (moved (a .b) (a .d) (a .e) (p .1) (p .2)) in
-    let l : a .a ≡ j = omega arith in
-    let x : a .b * 2 ^ (a .e - a .d) ≡ j * 2 ^ a .e = moved-exact (a .a) j (a .b) (a .d) (a .e) (p .0) (le-of-eq l) m in
-    sym (ap (toBits binary32) (sum-level binary32 (a .s) (a .t) (a .a * 2 ^ a .e) (a .b * 2 ^ (a .e - a .d)) (2 ^ 1200) (c .before .before .if1 .left) (ap (λ (y : ℕ). y * 2 ^ a .e) l ∙ sym x)) ∙ zero-bits binary32 false 1200)
+    let e = c .before .before in
+    let d = e .before in
+    let a = d .before .args in
+    let l : a .a ≡ d .shift-sticky .result = omega arith in
+    sym (ap (toBits binary32)
+    (sum-level binary32 (a .s) (a .t) (first d) (second d) (2 ^ 1200) (e .if1 .left) (ap (λ (y : ℕ). y * 2 ^ a .e) l ∙ sym (exact d (le-of-eq l))))
+    ∙ zero-bits binary32 false 1200)
 
 pub add-aligned-spec : {M : Type 1} → statement M
 add-aligned-spec =
     tie.close
     (tie.spec
-    shift-sticky-requires
-    add-pack-nonzero
+    (λ c κs. search needs)
+    (λ c. omega (arith, small (c .before), c .before .before .pre .0 .hi))
     pack-nonzero-requires
-    sub-pack-nonzero
-    pack-nonzero-requires-2
+    (λ c. search needs)
+    (λ c κs. search needs)
     pack-nonzero-requires-3
     returns
     returns-2

@@ -1,7 +1,7 @@
 -- `float::fused::add_scaled` meets its contract: a zero on one side leaves the other, and two zeros the sign that both have.
 use mathlib.Core.Path.{_≡_, sym, ap, _∙_}
 use mathlib.Core.Bool.{Bool}
-use Prim.Native.Nat.{ℕ, _*_, _^_, _<_}
+use Prim.Native.Nat.{ℕ, _*_, _^_}
 use native.Mathlib.Nat.{zero-mul, mul-pos}
 use native.Mathlib.Omega.{arith}
 use lib.Pow.{pow-pos}
@@ -11,61 +11,49 @@ use borrow.Author.Needs.{needs}
 use Rattle.float.proofs.fused.add_scaled.Statement.{statement}
 use Rattle.float.proofs.fused.add_scaled.Tie as tie
 
-both-requires : tie.Need-both-requires
-both-requires c κs = search needs
-
-pack-any-requires : tie.Need-pack-any-requires
-pack-any-requires c κs = search needs
-
-pack-nonzero-requires : tie.Need-pack-nonzero-requires
-pack-nonzero-requires c κs = search needs
-
-pack-nonzero-requires-2 : tie.Need-pack-nonzero-requires-2
-pack-nonzero-requires-2 c κs = search needs
-
-add-nonzero-requires : tie.Need-add-nonzero-requires
-add-nonzero-requires c κs = search needs
+-- a number that is 0 stays 0 in any unit
+nothing : (w e : ℕ) → w ≡ 0 → w * 2 ^ e ≡ 0
+nothing w e h = ap (λ (x : ℕ). x * 2 ^ e) h ∙ zero-mul (2 ^ e)
 
 returns : tie.Need-returns
 returns c =
-    let a = c .before .before .before .before .args in
-    let p0 : a .p * 2 ^ a .f ≡ 0 = ap (λ (x : ℕ). x * 2 ^ a .f) (c .before .before .if2 .taken) ∙ zero-mul (2 ^ a .f) in
-    let m0 : a .m * 2 ^ a .g ≡ 0 = ap (λ (x : ℕ). x * 2 ^ a .g) (c .before .before .before .if1 .taken) ∙ zero-mul (2 ^ a .g) in
+    let m = c .before .before .before in
+    let a = m .before .args in
     c .pack-any .ensures
     ∙ ap (toBits binary32)
     (ap (λ (x : Bool). round binary32 x 0 (2 ^ 1200)) (c .before .both .ensures)
-    ∙ sym (ap (λ (x : ℕ). sum binary32 (a .s) x (a .t) (a .m * 2 ^ a .g) (2 ^ 1200)) p0 ∙ ap (λ (x : ℕ). sum binary32 (a .s) 0 (a .t) x (2 ^ 1200)) m0 ∙ sum-zeros binary32 (a .s) (a .t) (2 ^ 1200)))
+    ∙ sym ((λ i. sum binary32 (a .s) (nothing (a .p) (a .f) (c .before .before .if2 .taken) i) (a .t) (nothing (a .m) (a .g) (m .if1 .taken) i) (2 ^ 1200))
+    ∙ sum-zeros binary32 (a .s) (a .t) (2 ^ 1200)))
 
 returns-2 : tie.Need-returns-2
 returns-2 c =
     let a = c .before .before .before .args in
-    let m0 : a .m * 2 ^ a .g ≡ 0 = ap (λ (x : ℕ). x * 2 ^ a .g) (c .before .before .if1 .taken) ∙ zero-mul (2 ^ a .g) in
-    let P : 0 < a .p = omega arith in
+    let p = a .p * 2 ^ a .f in
     c .pack-nonzero .ensures
-    ∙ ap (toBits binary32) (sym (ap (λ (x : ℕ). sum binary32 (a .s) (a .p * 2 ^ a .f) (a .t) x (2 ^ 1200)) m0 ∙ sum-zero binary32 (a .s) (a .t) (a .p * 2 ^ a .f) (2 ^ 1200) (mul-pos P (pow-pos (a .f)))))
+    ∙ ap (toBits binary32)
+    (sym (ap (λ (x : ℕ). sum binary32 (a .s) p (a .t) x (2 ^ 1200)) (nothing (a .m) (a .g) (c .before .before .if1 .taken))
+    ∙ sum-zero binary32 (a .s) (a .t) p (2 ^ 1200) (mul-pos {m = a .p} (omega arith) (pow-pos (a .f)))))
 
 returns-3 : tie.Need-returns-3
 returns-3 c =
     let a = c .before .before .before .args in
-    let p0 : a .p * 2 ^ a .f ≡ 0 = ap (λ (x : ℕ). x * 2 ^ a .f) (c .before .if3 .taken) ∙ zero-mul (2 ^ a .f) in
-    let P : 0 < a .m = omega arith in
+    let m = a .m * 2 ^ a .g in
     c .pack-nonzero2 .ensures
     ∙ ap (toBits binary32)
-    (sym (ap (λ (x : ℕ). sum binary32 (a .s) x (a .t) (a .m * 2 ^ a .g) (2 ^ 1200)) p0 ∙ sum-comm binary32 (a .s) (a .t) 0 (a .m * 2 ^ a .g) (2 ^ 1200) ∙ sum-zero binary32 (a .t) (a .s) (a .m * 2 ^ a .g) (2 ^ 1200) (mul-pos P (pow-pos (a .g)))))
-
-returns-4 : tie.Need-returns-4
-returns-4 c = search needs
+    (sym (ap (λ (x : ℕ). sum binary32 (a .s) x (a .t) m (2 ^ 1200)) (nothing (a .p) (a .f) (c .before .if3 .taken))
+    ∙ sum-comm binary32 (a .s) (a .t) 0 m (2 ^ 1200)
+    ∙ sum-zero binary32 (a .t) (a .s) m (2 ^ 1200) (mul-pos {m = a .m} (omega arith) (pow-pos (a .g)))))
 
 pub add-scaled-spec : {M : Type 1} → statement M
 add-scaled-spec =
     tie.close
     (tie.spec
-    both-requires
-    pack-any-requires
-    pack-nonzero-requires
-    pack-nonzero-requires-2
-    add-nonzero-requires
+    (λ c κs. search needs)
+    (λ c κs. search needs)
+    (λ c κs. search needs)
+    (λ c κs. search needs)
+    (λ c κs. search needs)
     returns
     returns-2
     returns-3
-    returns-4)
+    (λ c. search needs))

@@ -1,6 +1,6 @@
 -- `float::fused::mul_add` meets its contract: the pattern's answer, read back.
-use mathlib.Core.Path.{ap, _∙_}
-use lib.Ieee.{Float, binary32, ofBits, toBits}
+use mathlib.Core.Path.{_≡_, _∙_}
+use lib.Ieee.{binary32, ofBits, toBits}
 use Rattle.float.specs.Fused.{fma}
 use Rattle.float.specs.Tests.{yes}
 use Rattle.float.specs.Patterns.{read-back}
@@ -9,43 +9,36 @@ use borrow.Author.Needs.{needs}
 use Rattle.float.proofs.fused.mul_add.Statement.{statement}
 use Rattle.float.proofs.fused.mul_add.Tie as tie
 
-bits-of-requires : tie.Need-bits-of-requires
-bits-of-requires c κs = search needs
+abbrev start : tie.After-bits-of3 → tie.Start
+start c = c .before .before .before
 
-bits-of-requires-2 : tie.Need-bits-of-requires-2
-bits-of-requires-2 c κs = search needs
+-- the three patterns read back
+read-a : (c : tie.After-bits-of3) → ofBits binary32 (c .before .before .bits-of .result) ≡ start c .args .a
+read-a c =
+    read-back binary32 (c .before .before .bits-of .result) (start c .args .a) (c .before .before .bits-of .ensures) (yes (start c .good .0 .1))
 
-bits-of-requires-3 : tie.Need-bits-of-requires-3
-bits-of-requires-3 c κs = search needs
+read-b : (c : tie.After-bits-of3) → ofBits binary32 (c .before .bits-of2 .result) ≡ start c .args .b
+read-b c = read-back binary32 (c .before .bits-of2 .result) (start c .args .b) (c .before .bits-of2 .ensures) (yes (start c .good .1 .0 .1))
 
-mul-add-bits-requires : tie.Need-mul-add-bits-requires
-mul-add-bits-requires c κs = search needs
-
-float-of-requires : tie.Need-float-of-requires
-float-of-requires c κs = search needs
+read-c : (c : tie.After-bits-of3) → ofBits binary32 (c .bits-of3 .result) ≡ start c .args .c
+read-c c = read-back binary32 (c .bits-of3 .result) (start c .args .c) (c .bits-of3 .ensures) (yes (start c .good .1 .1 .0 .1))
 
 returns : tie.Need-returns
 returns c =
-    let x = c .before .before .before .before .before .args in
-    let g = c .before .before .before .before .before .good in
-    let i = c .before .before .before .before .bits-of .result in
-    let j = c .before .before .before .bits-of2 .result in
-    let k = c .before .before .bits-of3 .result in
+    let d = c .before .before in
+    let x = start d .args in
     c .float-of .ensures
     ∙ read-back binary32 (c .before .mul-add-bits .result) (fma binary32 (x .a) (x .b) (x .c))
-    (c .before .mul-add-bits .ensures
-    ∙ ap (λ (v : Float). toBits binary32 (fma binary32 v (ofBits binary32 j) (ofBits binary32 k))) (read-back binary32 i (x .a) (c .before .before .before .before .bits-of .ensures) (yes (g .0 .1)))
-    ∙ ap (λ (v : Float). toBits binary32 (fma binary32 (x .a) v (ofBits binary32 k))) (read-back binary32 j (x .b) (c .before .before .before .bits-of2 .ensures) (yes (g .1 .0 .1)))
-    ∙ ap (λ (v : Float). toBits binary32 (fma binary32 (x .a) (x .b) v)) (read-back binary32 k (x .c) (c .before .before .bits-of3 .ensures) (yes (g .1 .1 .0 .1))))
+    (c .before .mul-add-bits .ensures ∙ (λ i. toBits binary32 (fma binary32 (read-a d i) (read-b d i) (read-c d i))))
     (fma-fits binary32 (x .a) (x .b) (x .c))
 
 pub mul-add-spec : {M : Type 1} → statement M
 mul-add-spec =
     tie.close
     (tie.spec
-    bits-of-requires
-    bits-of-requires-2
-    bits-of-requires-3
-    mul-add-bits-requires
-    float-of-requires
+    (λ c κs. search needs)
+    (λ c κs. search needs)
+    (λ c κs. search needs)
+    (λ c κs. search needs)
+    (λ c κs. search needs)
     returns)

@@ -12,17 +12,11 @@ use borrow.Author.Needs.{needs}
 use Rattle.float.proofs.fused.shift_sticky.Statement.{statement}
 use Rattle.float.proofs.fused.shift_sticky.Tie as tie
 
-power-requires : tie.Need-power-requires
-power-requires c κs = search needs
-
 div-q : tie.Need-div-q
 div-q c = subst (λ (x : ℕ). 0 < x) (sym (c .power .ensures)) (pow-pos (c .before .before .args .d))
 
 rem-if2 : tie.Need-rem-if2
 rem-if2 c = subst (λ (x : ℕ). 0 < x) (sym (c .power .ensures)) (pow-pos (c .before .before .args .d))
-
-sub-result : tie.Need-sub-result
-sub-result c = search needs
 
 add-result : tie.Need-add-result
 add-result c = omega (arith, div-le-self (c .before .before .before .args .b) (c .before .power .result), c .before .before .before .pre .1)
@@ -47,4 +41,4 @@ returns-3 c =
 pub shift-sticky-spec : {M : Type 1} → statement M
 shift-sticky-spec =
     tie.close
-    (tie.spec power-requires div-q rem-if2 sub-result add-result returns returns-2 returns-3)
+    (tie.spec (λ c κs. search needs) div-q rem-if2 (λ c. search needs) add-result returns returns-2 returns-3)

@@ -7,20 +7,10 @@ use borrow.Author.Needs.{needs}
 use Rattle.float.proofs.pattern.digits.Statement.{statement}
 use Rattle.float.proofs.pattern.digits.Tie as tie
 
-field-requires : tie.Need-field-requires
-field-requires c κs = search needs
-
-cast-significand : tie.Need-cast-significand
-cast-significand c = search needs
-
-cast-significand-2 : tie.Need-cast-significand-2
-cast-significand-2 c = search needs
-
-significand-requires : tie.Need-significand-requires
-significand-requires c κs = search needs
-
 returns : tie.Need-returns
-returns c = c .significand .ensures ∙ ap (λ (x : ℕ). cond (eqb x 0) (c .before .before .args .b % 8388608) (8388608 + c .before .before .args .b % 8388608)) (c .before .field .ensures)
+returns c =
+    c .significand .ensures ∙ ap (λ (x : ℕ). cond (eqb x 0) (c .before .before .args .b % 8388608) (8388608 + c .before .before .args .b % 8388608))
+    (c .before .field .ensures)
 
 pub digits-spec : {M : Type 1} → statement M
-digits-spec = tie.close (tie.spec field-requires cast-significand cast-significand-2 significand-requires returns)
+digits-spec = tie.close (tie.spec (λ c κs. search needs) (λ c. search needs) (λ c. search needs) (λ c κs. search needs) returns)

@@ -12,8 +12,5 @@ float-from-bits-result c = read-number binary64 (c .before .args .b) (c .if1 .le
 returns : tie.Need-returns
 returns c = zero-by-zero binary64 ∙ sym (read-nan binary64 (c .before .args .b) (c .if1 .taken))
 
-returns-2 : tie.Need-returns-2
-returns-2 c = search needs
-
 pub f64-of-spec : {M : Type 1} → statement M
-f64-of-spec = tie.close (tie.spec float-from-bits-result returns returns-2)
+f64-of-spec = tie.close (tie.spec float-from-bits-result returns (λ c. search needs))

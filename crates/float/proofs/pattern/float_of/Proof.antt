@@ -12,8 +12,5 @@ float-from-bits-result c = read-number binary32 (c .before .args .b) (c .if1 .le
 returns : tie.Need-returns
 returns c = zero-by-zero binary32 ∙ sym (read-nan binary32 (c .before .args .b) (c .if1 .taken))
 
-returns-2 : tie.Need-returns-2
-returns-2 c = search needs
-
 pub float-of-spec : {M : Type 1} → statement M
-float-of-spec = tie.close (tie.spec float-from-bits-result returns returns-2)
+float-of-spec = tie.close (tie.spec float-from-bits-result returns (λ c. search needs))

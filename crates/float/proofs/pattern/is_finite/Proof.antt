@@ -11,17 +11,12 @@ use borrow.Author.Needs.{needs}
 use Rattle.float.proofs.pattern.is_finite.Statement.{statement}
 use Rattle.float.proofs.pattern.is_finite.Tie as tie
 
-bits-of-requires : tie.Need-bits-of-requires
-bits-of-requires c κs = search needs
-
-field-requires : tie.Need-field-requires
-field-requires c κs = search needs
-
 returns : tie.Need-returns
 returns c =
     ap (λ (y : ℕ). ltb y 255) (c .field .ensures)
     ∙ finite-test (c .before .bits-of .result)
-    ∙ ap finite (read-back binary32 (c .before .bits-of .result) (c .before .before .args .x) (c .before .bits-of .ensures) (yes (c .before .before .good .0 .1)))
+    ∙ ap finite (read-back binary32 (c .before .bits-of .result) (c .before .before .args .x) (c .before .bits-of .ensures)
+    (yes (c .before .before .good .0 .1)))
 
 pub is-finite-spec : {M : Type 1} → statement M
-is-finite-spec = tie.close (tie.spec bits-of-requires field-requires returns)
+is-finite-spec = tie.close (tie.spec (λ c κs. search needs) (λ c κs. search needs) returns)

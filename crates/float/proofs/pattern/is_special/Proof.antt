@@ -5,11 +5,8 @@ use borrow.Author.Needs.{needs}
 use Rattle.float.proofs.pattern.is_special.Statement.{statement}
 use Rattle.float.proofs.pattern.is_special.Tie as tie
 
-field-requires : tie.Need-field-requires
-field-requires c κs = search needs
-
 returns : tie.Need-returns
 returns c = ap (leb 255) (c .field .ensures)
 
 pub is-special-spec : {M : Type 1} → statement M
-is-special-spec = tie.close (tie.spec field-requires returns)
+is-special-spec = tie.close (tie.spec (λ c κs. search needs) returns)

@@ -8,9 +8,6 @@ use borrow.Author.Needs.{needs}
 use Rattle.float.proofs.pattern.significand.Statement.{statement}
 use Rattle.float.proofs.pattern.significand.Tie as tie
 
-add-result : tie.Need-add-result
-add-result c = search needs
-
 returns : tie.Need-returns
 returns c = sym (ap (λ (b : Bool). cond b (c .before .args .t) (c .before .args .h + c .before .args .t)) (eq-eqb (c .before .args .x) 0 (c .if1 .taken)))
 
@@ -18,4 +15,4 @@ returns-2 : tie.Need-returns-2
 returns-2 c = sym (ap (λ (b : Bool). cond b (c .before .args .t) (c .before .args .h + c .before .args .t)) (ne-eqb (c .before .args .x) 0 (λ e. omega arith)))
 
 pub significand-spec : {M : Type 1} → statement M
-significand-spec = tie.close (tie.spec add-result returns returns-2)
+significand-spec = tie.close (tie.spec (λ c. search needs) returns returns-2)

@@ -7,15 +7,6 @@ use borrow.Author.Needs.{needs}
 use Rattle.float.proofs.round.infinity.Statement.{statement}
 use Rattle.float.proofs.round.infinity.Tie as tie
 
-cast-sign-weight : tie.Need-cast-sign-weight
-cast-sign-weight c = search needs
-
-sign-weight-requires : tie.Need-sign-weight-requires
-sign-weight-requires c κs = search needs
-
-cast-result : tie.Need-cast-result
-cast-result c = search needs
-
 add-result : tie.Need-add-result
 add-result c = omega (arith, c .sign-weight .ensures, sign-le (c .before .args .s) 0x8000_0000)
 
@@ -26,4 +17,4 @@ returns : tie.Need-returns
 returns c = ap (λ (x : ℕ). x + 2139095040) (c .sign-weight .ensures) ∙ inf-bits (c .before .args .s)
 
 pub infinity-spec : {M : Type 1} → statement M
-infinity-spec = tie.close (tie.spec cast-sign-weight sign-weight-requires cast-result add-result cast-result-2 returns)
+infinity-spec = tie.close (tie.spec (λ c. search needs) (λ c κs. search needs) (λ c. search needs) add-result cast-result-2 returns)

@@ -1,4 +1,5 @@
--- `float::round::nearest_even` meets its contract: how the remainder compares with what is left of the divisor decides, as twice the remainder with the divisor does.
+-- `float::round::nearest_even` meets its contract: how the remainder compares with what is left of the divisor decides, as twice the remainder with
+-- the divisor does.
 use mathlib.Core.Path.{_≡_, sym}
 use Prim.Native.Nat.{_*_, _%_, _<_}
 use native.Mathlib.Nat.{le-of-lt, mod-lt, div-le-self}
@@ -7,12 +8,6 @@ use Rattle.float.proofs.Near.{closest-lt, closest-gt, closest-eq}
 use borrow.Author.Needs.{needs}
 use Rattle.float.proofs.round.nearest_even.Statement.{statement}
 use Rattle.float.proofs.round.nearest_even.Tie as tie
-
-div-q : tie.Need-div-q
-div-q c = search needs
-
-rem-r : tie.Need-rem-r
-rem-r c = search needs
 
 sub-h : tie.Need-sub-h
 sub-h c = le-of-lt (mod-lt (c .args .w) (c .pre .1))
@@ -42,4 +37,4 @@ returns-3 c =
 
 pub nearest-even-spec : {M : Type 1} → statement M
 nearest-even-spec =
-    tie.close (tie.spec div-q rem-r sub-h add-result add-result-2 returns returns-2 returns-3)
+    tie.close (tie.spec (λ c. search needs) (λ c. search needs) sub-h add-result add-result-2 returns returns-2 returns-3)

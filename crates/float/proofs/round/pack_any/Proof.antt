@@ -9,26 +9,16 @@ use borrow.Author.Needs.{needs}
 use Rattle.float.proofs.round.pack_any.Statement.{statement}
 use Rattle.float.proofs.round.pack_any.Tie as tie
 
-cast-sign-weight : tie.Need-cast-sign-weight
-cast-sign-weight c = search needs
-
-sign-weight-requires : tie.Need-sign-weight-requires
-sign-weight-requires c κs = search needs
-
 cast-result : tie.Need-cast-result
 cast-result c = omega (arith, c .sign-weight .ensures, sign-le (c .before .before .args .s) 0x8000_0000)
-
-pack-nonzero-requires : tie.Need-pack-nonzero-requires
-pack-nonzero-requires c κs = search needs
 
 returns : tie.Need-returns
 returns c =
     let a = c .before .before .args in
     let z : a .w ≡ 0 = omega arith in
-    c .sign-weight .ensures ∙ sym (ap (λ (x : ℕ). toBits binary32 (round binary32 (a .s) x (2 ^ 1200))) (ap (λ (x : ℕ). x * 2 ^ a .e) z ∙ zero-mul (2 ^ a .e)) ∙ zero-bits binary32 (a .s) 1200)
-
-returns-2 : tie.Need-returns-2
-returns-2 c = search needs
+    c .sign-weight .ensures ∙ sym
+    (ap (λ (x : ℕ). toBits binary32 (round binary32 (a .s) x (2 ^ 1200))) (ap (λ (x : ℕ). x * 2 ^ a .e) z ∙ zero-mul (2 ^ a .e))
+    ∙ zero-bits binary32 (a .s) 1200)
 
 pub pack-any-spec : {M : Type 1} → statement M
-pack-any-spec = tie.close (tie.spec cast-sign-weight sign-weight-requires cast-result pack-nonzero-requires returns returns-2)
+pack-any-spec = tie.close (tie.spec (λ c. search needs) (λ c κs. search needs) cast-result (λ c κs. search needs) returns (λ c. search needs))

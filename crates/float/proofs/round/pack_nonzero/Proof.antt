@@ -9,18 +9,6 @@ use borrow.Author.Needs.{needs}
 use Rattle.float.proofs.round.pack_nonzero.Statement.{statement}
 use Rattle.float.proofs.round.pack_nonzero.Tie as tie
 
-shift-to-requires : tie.Need-shift-to-requires
-shift-to-requires c κs = search needs
-
-shifted-requires : tie.Need-shifted-requires
-shifted-requires c κs = search needs
-
-sub-pack : tie.Need-sub-pack
-sub-pack c = search needs
-
-pack-requires : tie.Need-pack-requires
-pack-requires c κs = search needs
-
 returns : tie.Need-returns
 returns c =
     let a = c .before .before .before .args in
@@ -28,7 +16,8 @@ returns c =
     let E : z + (a .e - z) ≡ a .e = omega arith in
     c .pack .ensures
     ∙ ap (λ (x : ℕ). toBits binary32 (round binary32 (a .s) x (2 ^ 1200)))
-    (ap (λ (x : ℕ). x * 2 ^ (a .e - z)) (c .before .shifted .ensures) ∙ mul-assoc (a .w) (2 ^ z) (2 ^ (a .e - z)) ∙ ap (λ (x : ℕ). a .w * x) (sym (pow-add 2 z (a .e - z)) ∙ ap (λ (x : ℕ). 2 ^ x) E))
+    (ap (λ (x : ℕ). x * 2 ^ (a .e - z)) (c .before .shifted .ensures) ∙ mul-assoc (a .w) (2 ^ z) (2 ^ (a .e - z))
+    ∙ ap (λ (x : ℕ). a .w * x) (sym (pow-add 2 z (a .e - z)) ∙ ap (λ (x : ℕ). 2 ^ x) E))
 
 pub pack-nonzero-spec : {M : Type 1} → statement M
-pack-nonzero-spec = tie.close (tie.spec shift-to-requires shifted-requires sub-pack pack-requires returns)
+pack-nonzero-spec = tie.close (tie.spec (λ c κs. search needs) (λ c κs. search needs) (λ c. search needs) (λ c κs. search needs) returns)

@@ -10,9 +10,6 @@ use borrow.Author.Needs.{needs}
 use Rattle.float.proofs.round.round_right.Statement.{statement}
 use Rattle.float.proofs.round.round_right.Tie as tie
 
-power-requires : tie.Need-power-requires
-power-requires c κs = search needs
-
 nearest-even-requires : tie.Need-nearest-even-requires
 nearest-even-requires c κs = (c .before .before .pre, subst (λ (x : ℕ). 0 < x) (sym (c .power .ensures)) (pow-pos (c .before .before .args .t)))
 
@@ -29,4 +26,4 @@ returns-2 : tie.Need-returns-2
 returns-2 c = c .nearest-even .ensures ∙ ap (λ (x : ℕ). closest (c .before .before .before .args .w) x) (c .before .power .ensures)
 
 pub round-right-spec : {M : Type 1} → statement M
-round-right-spec = tie.close (tie.spec power-requires nearest-even-requires returns returns-2)
+round-right-spec = tie.close (tie.spec (λ c κs. search needs) nearest-even-requires returns returns-2)

@@ -14,9 +14,6 @@ join b h = omega arith
 cast-result : tie.Need-cast-result
 cast-result c = omega (arith, leading-le 64 (c .args .w))
 
-sub-result : tie.Need-sub-result
-sub-result c = search needs
-
 sub-result-2 : tie.Need-sub-result-2
 sub-result-2 c = normal (c .args .b) (63 - c .args .b) (c .args .w) (join (c .args .b) (c .pre .1)) (c .pre .0) (c .pre .2) .0
 
@@ -24,4 +21,4 @@ returns : tie.Need-returns
 returns c = normal (c .args .b) (63 - c .args .b) (c .args .w) (join (c .args .b) (c .pre .1)) (c .pre .0) (c .pre .2) .1
 
 pub shift-to-spec : {M : Type 1} → statement M
-shift-to-spec = tie.close (tie.spec cast-result sub-result sub-result-2 returns)
+shift-to-spec = tie.close (tie.spec cast-result (λ c. search needs) sub-result-2 returns)

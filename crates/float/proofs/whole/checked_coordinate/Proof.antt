@@ -2,14 +2,15 @@
 use mathlib.Core.Path.{_≡_, sym, ap, _∙_, subst}
 use Prim.Native.Nat.{_^_}
 use native.Mathlib.Nat.{lt-of-lt-of-le}
-use lib.IntN.{ℤ}
-use lib.Dec.{T, lit≤}
+use lib.IntN.{ℤ, pos}
+use lib.Dec.{lit≤}
 use lib.Ieee.{Float, ofBits, neg, toSigned}
 use lib.Ieee.Casts.{toSigned-in}
 use mir.Syntax.{w32, w64}
 use mir.Val.{SFits, toZ, ofZ}
 use mir.ValLaws.{toZ-ofZ}
-use Rattle.refusals.specs.Results.{ok}
+use Rattle.refusals.specs.Results.{ok, said}
+use Rattle.float.specs.Tests.{yes}
 use Rattle.float.proofs.Ranged.{in-64, same-signed, inside, under, over}
 use Rattle.float.proofs.whole.checked_coordinate.Statement.{statement}
 use Rattle.float.proofs.whole.checked_coordinate.Tie as tie
@@ -19,32 +20,37 @@ back-64 v = toZ-ofZ w64 (toSigned 31 v) (record { sfits = lt-of-lt-of-le (toSign
 
 truncating-f64-to-i64-requires : tie.Need-truncating-f64-to-i64-requires
 unfolding ofBits neg
-truncating-f64-to-i64-requires c κs = in-64 (c .before .before .args .v) (subst T (sym (c .before .if1 .taken)) tt) (subst T (sym (c .if2 .taken)) tt)
+truncating-f64-to-i64-requires c κs = in-64 (c .before .before .args .v) (yes (c .before .if1 .taken)) (yes (c .if2 .taken))
+
+-- the whole part in 64 bits is that in 32
+whole : (c : tie.After-truncating-f64-to-i64) → c .truncating-f64-to-i64 .result ≡ toSigned 31 (c .before .before .before .args .v)
+unfolding ofBits neg
+whole c =
+    c .truncating-f64-to-i64 .ensures
+    ∙ same-signed (c .before .before .before .args .v) (yes (c .before .before .if1 .taken)) (yes (c .before .if2 .taken))
 
 cast-t8 : tie.Need-cast-t8
-unfolding ofBits neg
 cast-t8 c =
     let v = c .before .before .before .args .v in
-    let e : c .truncating-f64-to-i64 .result ≡ toSigned 31 v = c .truncating-f64-to-i64 .ensures ∙ same-signed v (subst T (sym (c .before .before .if1 .taken)) tt) (subst T (sym (c .before .if2 .taken)) tt) in
-    subst (λ (z : ℤ). SFits w32 (toZ w64 (ofZ w64 z))) (sym e) (subst (λ (z : ℤ). SFits w32 z) (sym (back-64 v)) (record { sfits = toSigned-in 31 v }))
+    subst (λ (z : ℤ). SFits w32 (toZ w64 (ofZ w64 z))) (sym (whole c)) (subst (λ (z : ℤ). SFits w32 z) (sym (back-64 v)) (record { sfits = toSigned-in 31 v }))
 
 returns : tie.Need-returns
 unfolding ofBits neg
 returns c =
     let v = c .before .before .before .args .v in
-    let e : c .truncating-f64-to-i64 .result ≡ toSigned 31 v = c .truncating-f64-to-i64 .ensures ∙ same-signed v (subst T (sym (c .before .before .if1 .taken)) tt) (subst T (sym (c .before .if2 .taken)) tt) in
-    ap (λ (z : ℤ). ok (toZ w32 (ofZ w32 (toZ w64 (ofZ w64 z))))) e
+    ap (said (pos 0))
+    (ap (λ (z : ℤ). ok (toZ w32 (ofZ w32 (toZ w64 (ofZ w64 z))))) (whole c)
     ∙ ap (λ (z : ℤ). ok (toZ w32 (ofZ w32 z))) (back-64 v)
     ∙ ap ok (toZ-ofZ w32 (toSigned 31 v) (record { sfits = toSigned-in 31 v }))
-    ∙ sym (inside v (c .before .before .if1 .taken) (c .before .if2 .taken))
+    ∙ sym (inside v (c .before .before .if1 .taken) (c .before .if2 .taken)))
 
 returns-2 : tie.Need-returns-2
 unfolding ofBits neg
-returns-2 c = sym (over (c .before .before .args .v) (c .if2 .left))
+returns-2 c = ap (said (pos 0)) (sym (over (c .before .before .args .v) (c .if2 .left)))
 
 returns-3 : tie.Need-returns-3
 unfolding ofBits neg
-returns-3 c = sym (under (c .before .args .v) (c .if1 .left))
+returns-3 c = ap (said (pos 0)) (sym (under (c .before .args .v) (c .if1 .left)))
 
 pub checked-coordinate-spec : {M : Type 1} → statement M
 checked-coordinate-spec =

@@ -14,9 +14,6 @@ one : ofBits binary64 0x3ff0_0000_0000_0000 ≡ fin false 1 (pos 0)
 unfolding ofBits
 one = refl
 
-trunc-requires : tie.Need-trunc-requires
-trunc-requires c κs = search needs
-
 returns : tie.Need-returns
 returns c =
     let x = c .before .before .args .x in
@@ -30,4 +27,4 @@ returns-2 c =
     c .before .trunc .ensures ∙ floor-flat binary64 x (yes (c .before .before .good .0 .1)) (ap (lt x) (sym (c .before .trunc .ensures)) ∙ c .if1 .left)
 
 pub floor-spec : {M : Type 1} → statement M
-floor-spec = tie.close (tie.spec trunc-requires returns returns-2)
+floor-spec = tie.close (tie.spec (λ c κs. search needs) returns returns-2)

@@ -6,17 +6,8 @@ use borrow.Author.Needs.{needs}
 use Rattle.float.proofs.whole.floor_bits.Statement.{statement}
 use Rattle.float.proofs.whole.floor_bits.Tie as tie
 
-f64-of-requires : tie.Need-f64-of-requires
-f64-of-requires c κs = search needs
-
-floor-requires : tie.Need-floor-requires
-floor-requires c κs = search needs
-
-f64-bits-requires : tie.Need-f64-bits-requires
-f64-bits-requires c κs = search needs
-
 returns : tie.Need-returns
 returns c = c .f64-bits .ensures ∙ ap (toBits binary64) (c .before .floor .ensures ∙ ap (floor binary64) (c .before .before .f64-of .ensures))
 
 pub floor-bits-spec : {M : Type 1} → statement M
-floor-bits-spec = tie.close (tie.spec f64-of-requires floor-requires f64-bits-requires returns)
+floor-bits-spec = tie.close (tie.spec (λ c κs. search needs) (λ c κs. search needs) (λ c κs. search needs) returns)

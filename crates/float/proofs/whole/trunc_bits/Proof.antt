@@ -14,31 +14,13 @@ use borrow.Author.Needs.{needs}
 use Rattle.float.proofs.whole.trunc_bits.Statement.{statement}
 use Rattle.float.proofs.whole.trunc_bits.Tie as tie
 
-sub-result : tie.Need-sub-result
-sub-result c = search needs
-
-excess-requires : tie.Need-excess-requires
-excess-requires c κs = search needs
-
-power-requires : tie.Need-power-requires
-power-requires c κs = search needs
-
-rem-result : tie.Need-rem-result
-rem-result c = subst (λ (x : ℕ). 0 < x) (sym (c .power .ensures)) (pow-pos (c .before .excess .result))
-
-sub-result-2 : tie.Need-sub-result-2
-sub-result-2 c = mod-le (c .before .before .before .before .args .b) (c .power .result)
-
-returns : tie.Need-returns
-returns c = trunc-nan (c .before .args .b) (omega arith)
-
-returns-2 : tie.Need-returns-2
-returns-2 c = sym (trunc-low (c .before .before .args .b) (c .before .before .fits .b .fits) (omega arith))
+abbrev start : tie.After-power → tie.Start
+start c = c .before .before .before .before
 
 returns-3 : tie.Need-returns-3
 returns-3 c =
-    let b = c .before .before .before .before .args .b in
-    let f = c .before .before .before .before .fits .b .fits in
+    let b = start c .args .b in
+    let f = start c .fits .b .fits in
     ap (λ (x : ℕ). b - b % x) (c .power .ensures ∙ ap (λ (x : ℕ). 2 ^ x) (c .before .excess .ensures))
     ∙ sym (elim (yes-or-no (ltb (fieldOf binary64 b) 2047)) [
       | inl t ↦ trunc-mid b f (omega arith) (ltb→lt (fieldOf binary64 b) 2047 t)
@@ -49,11 +31,11 @@ pub trunc-bits-spec : {M : Type 1} → statement M
 trunc-bits-spec =
     tie.close
     (tie.spec
-    sub-result
-    excess-requires
-    power-requires
-    rem-result
-    sub-result-2
-    returns
-    returns-2
+    (λ c. search needs)
+    (λ c κs. search needs)
+    (λ c κs. search needs)
+    (λ c. subst (λ (x : ℕ). 0 < x) (sym (c .power .ensures)) (pow-pos (c .before .excess .result)))
+    (λ c. mod-le (start c .args .b) (c .power .result))
+    (λ c. trunc-nan (c .before .args .b) (omega arith))
+    (λ c. sym (trunc-low (c .before .before .args .b) (c .before .before .fits .b .fits) (omega arith)))
     returns-3)

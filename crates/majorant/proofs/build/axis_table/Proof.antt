@@ -5,6 +5,7 @@ use mathlib.Core.Path.{_≡_, refl, _∙_}
 use Prim.Native.Nat.{ℕ, _-_, _≤_, _<_}
 use lib.ListN.{length, length-set}
 use Rattle.index.specs.Axes.{axisEnds}
+use Rattle.index.specs.Alone.{axis-told}
 use Rattle.index.specs.Answers.{asLine}
 use Rattle.majorant.specs.Rows.{endsIn}
 use Rattle.majorant.proofs.Building.{table-more}
@@ -17,29 +18,17 @@ Inv-loop l n table₀ k₀ table k = (k ≤ n) × (length table ≡ 64) × ((j :
 abbrev μ-loop : tie.MeasureT-loop
 μ-loop l n table₀ k₀ table k = n - k
 
-loop-holds : tie.Need-loop-holds Inv-loop μ-loop
-loop-holds c = (omega arith, refl, λ j h. absurd (omega arith))
-
-cast-i : tie.Need-cast-i Inv-loop μ-loop
-cast-i c = omega arith
-
-axis-ends-requires : tie.Need-axis-ends-requires Inv-loop μ-loop
-axis-ends-requires c κs = search needs
-
-mul-table : tie.Need-mul-table Inv-loop μ-loop
-mul-table c = omega arith
-
-array-set-from-table : tie.Need-array-set-from-table Inv-loop μ-loop
-array-set-from-table c = omega arith
-
-add-k : tie.Need-add-k Inv-loop μ-loop
-add-k c = omega arith
-
-loop-less : tie.Need-loop-less Inv-loop μ-loop
-loop-less c = omega arith
-
 loop-again : tie.Need-loop-again Inv-loop μ-loop
-loop-again c = (omega arith, length-set (c .before .before .loop .table) (c .before .before .loop .k) (c .axis-ends .result) ∙ c .before .before .loop .inv .1, table-more (c .before .before .loop .table) (c .before .before .loop .k) (c .axis-ends .result) (axisEnds (asLine (c .before .before .before .args .l)) (c .before .before .before .args .n)) (omega (arith, c .before .before .loop .inv .1, c .before .loop-test .taken, c .before .before .before .pre)) (c .before .before .loop .inv .2) (c .axis-ends .ensures))
+loop-again c =
+    let a = c .before .before .before .args in
+    let t = c .before .before .loop .table in
+    let k = c .before .before .loop .k in
+    let kept = c .before .before .loop .inv in (
+      omega arith,
+      length-set t k (c .axis-ends .result) ∙ kept .1,
+      table-more t k (c .axis-ends .result) (axisEnds (asLine (a .l)) (a .n)) (omega arith) (kept .2)
+          (axis-told (asLine (a .l)) (a .n) k (c .axis-ends .ensures)),
+    )
 
 returns : tie.Need-returns Inv-loop μ-loop
 returns c = λ k h. c .before .loop .inv .2 k (omega arith)
@@ -50,12 +39,12 @@ axis-table-spec =
     (tie.spec
     Inv-loop
     μ-loop
-    loop-holds
-    cast-i
-    axis-ends-requires
-    mul-table
-    array-set-from-table
-    add-k
-    loop-less
+    (λ c. (omega arith, refl, λ j h. absurd (omega arith)))
+    (λ c. omega arith)
+    (λ c κs. search needs)
+    (λ c. omega arith)
+    (λ c. omega arith)
+    (λ c. omega arith)
+    (λ c. omega arith)
     loop-again
     returns)

@@ -1,62 +1,69 @@
 -- `majorant::build::cell_figure` meets its contract: an axis's fault, the maximum of the first box, or 17. Assumes nothing.
-use mathlib.Core.Path.{sym, ap, _∙_}
-use Rattle.sparse_grid.specs.Tables.{gridOf}
-use Rattle.sparse_grid.specs.Lookup.{readIn}
-use Rattle.majorant.specs.Boxes.{boxMaximum}
+use mathlib.Core.Path.{_≡_, sym, ap, _∙_}
 use Prim.Native.Nat.{ℕ}
 use Rattle.refusals.specs.Results.{ok}
 use Rattle.refusals.specs.Faults.{_then_, passing}
+use Rattle.sparse_grid.specs.Tables.{Grid, gridOf}
+use Rattle.sparse_grid.specs.Lookup.{readIn}
+use Rattle.boxes.specs.Boxes.{boxMaximum}
 use Rattle.majorant.proofs.Building.{cell-refused, cell-bounded, cell-above}
 use borrow.Author.Needs.{needs}
 use Rattle.majorant.proofs.build.cell_figure.Statement.{statement}
 use Rattle.majorant.proofs.build.cell_figure.Tie as tie
 
-first-fault-requires : tie.Need-first-fault-requires
-first-fault-requires c κs = search needs
+-- places
+abbrev start : tie.After-first-fault2 → tie.Start
+start c = c .before .before .before .before .before .before .before .before .before
 
-first-fault-requires-2 : tie.Need-first-fault-requires-2
-first-fault-requires-2 c κs = search needs
+abbrev at-faults : tie.After-second-above → tie.After-first-fault2
+at-faults c = c .before .before .before
 
-refusal-requires : tie.Need-refusal-requires
-refusal-requires c κs = search needs
+abbrev grid : tie.Start → Grid
+grid c =
+    let a = c .args in
+    gridOf (a .background) (a .blocks .now) (a .root-links .now) (a .root-values .now) (a .upper-links .now) (a .upper-values .now)
+    (a .lower-links .now) (a .lower-values .now) (a .leaf-values .now)
+
+-- the first fault of the three axes
+fault : (c : tie.After-first-fault2)
+    → let a = start c .args in c .first-fault2 .result ≡ (a .x .fault then (a .y .fault then a .z .fault))
+fault c = c .first-fault2 .ensures ∙ ap (λ (k : ℕ). start c .args .x .fault then k) (c .before .first-fault .ensures)
 
 returns : tie.Need-returns
 returns c =
-    let b = c .before .before .before .before .before .before .before .before .before .before .before .args in
-    let g = gridOf (b .background) (b .blocks .now) (b .root-links .now) (b .root-values .now) (b .upper-links .now) (b .upper-values .now) (b .lower-links .now) (b .lower-values .now) (b .leaf-values .now) in
-    ap (λ (k : ℕ). passing k (ok (c .refusal .result .value))) (c .refusal .ensures) ∙ cell-refused (boxMaximum (readIn g)) (b .x) (b .y) (b .z) (c .before .before .first-fault2 .ensures ∙ ap (λ (k : ℕ). b .x .fault then k) (c .before .before .before .first-fault .ensures)) (c .refusal .result .value) (c .before .if1 .taken)
-
-first-maximum-requires : tie.Need-first-maximum-requires
-first-maximum-requires c κs = c .before .before .before .before .before .before .before .before .before .before .pre
-
-second-above-requires : tie.Need-second-above-requires
-second-above-requires c κs = (c .before .before .before .before .before .before .before .before .before .before .before .pre, c .first-maximum .ensures)
-
-refusal-requires-2 : tie.Need-refusal-requires-2
-refusal-requires-2 c κs = search needs
+    let f = c .before .before in
+    let a = start f .args in
+    let v = c .refusal .result .value in
+    ap (λ (k : ℕ). passing k (ok v)) (c .refusal .ensures)
+    ∙ cell-refused (boxMaximum (readIn (grid (start f)))) (a .x) (a .y) (a .z) (fault f) v (c .before .if1 .taken)
 
 returns-2 : tie.Need-returns-2
 returns-2 c =
-    let b = c .before .before .before .before .before .before .before .before .before .before .before .before .before .before .args in
-    let g = gridOf (b .background) (b .blocks .now) (b .root-links .now) (b .root-values .now) (b .upper-links .now) (b .upper-values .now) (b .lower-links .now) (b .lower-values .now) (b .leaf-values .now) in
-    ap (λ (k : ℕ). passing k (ok (c .refusal2 .result .value))) (c .refusal2 .ensures) ∙ cell-above (boxMaximum (readIn g)) (b .x) (b .y) (b .z) (c .before .before .before .before .before .first-fault2 .ensures ∙ ap (λ (k : ℕ). b .x .fault then k) (c .before .before .before .before .before .before .first-fault .ensures)) (c .before .before .before .before .if1 .left) (sym (c .before .before .second-above .ensures) ∙ c .before .if2 .taken)
+    let s = c .before .before in
+    let f = at-faults s in
+    let a = start f .args in
+    ap (λ (k : ℕ). passing k (ok (c .refusal2 .result .value))) (c .refusal2 .ensures)
+    ∙ cell-above (boxMaximum (readIn (grid (start f)))) (a .x) (a .y) (a .z) (fault f) (s .before .before .if1 .left)
+    (sym (s .second-above .ensures) ∙ c .before .if2 .taken)
 
 returns-3 : tie.Need-returns-3
 returns-3 c =
-    let b = c .before .before .before .before .before .before .before .before .before .before .before .before .before .args in
-    let g = gridOf (b .background) (b .blocks .now) (b .root-links .now) (b .root-values .now) (b .upper-links .now) (b .upper-values .now) (b .lower-links .now) (b .lower-values .now) (b .leaf-values .now) in
-    cell-bounded (boxMaximum (readIn g)) (b .x) (b .y) (b .z) (c .before .before .before .before .first-fault2 .ensures ∙ ap (λ (k : ℕ). b .x .fault then k) (c .before .before .before .before .before .first-fault .ensures)) (c .before .before .before .if1 .left) (c .before .before .first-maximum .ensures) (sym (c .before .second-above .ensures) ∙ c .if2 .left)
+    let s = c .before in
+    let f = at-faults s in
+    let a = start f .args in
+    cell-bounded (boxMaximum (readIn (grid (start f)))) (a .x) (a .y) (a .z) (fault f) (s .before .before .if1 .left)
+    (s .before .first-maximum .ensures) (sym (s .second-above .ensures) ∙ c .if2 .left)
 
 pub cell-figure-spec : {M : Type 1} → statement M
 cell-figure-spec =
     tie.close
     (tie.spec
-    first-fault-requires
-    first-fault-requires-2
-    refusal-requires
+    (λ c κs. search needs)
+    (λ c κs. search needs)
+    (λ c κs. search needs)
     returns
-    first-maximum-requires
-    second-above-requires
-    refusal-requires-2
+    (λ c κs. start (c .before) .pre)
+    (λ c κs. (start (c .before .before) .pre, c .first-maximum .ensures))
+    (λ c κs. search needs)
     returns-2
     returns-3)

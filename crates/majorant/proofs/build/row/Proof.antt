@@ -1,86 +1,92 @@
 -- `majorant::build::row` meets its contract. The invariant: the first i cells of the row stand behind what was there. Assumes nothing.
 use native.Mathlib.Omega.{arith}
-use mathlib.Core.Path.{_≡_, refl, ap, _∙_}
-use Prim.Native.Nat.{ℕ, _+_, _-_, _≤_, _<_}
-use Rattle.sparse_grid.specs.Tables.{gridOf}
-use Rattle.sparse_grid.specs.Lookup.{readIn}
-use Rattle.majorant.specs.Boxes.{boxMaximum}
+use mathlib.Core.Path.{_≡_, ap}
+use mathlib.Core.List.{List}
+use Prim.Native.Nat.{ℕ, _+_, _-_, _*_, _<_}
 use lib.ListN.{length, take, set, length-set}
-use Rattle.refusals.specs.Results.{ok}
+use lib.Ieee.{Float}
+use Rattle.refusals.specs.Results.{Result}
+use Rattle.sparse_grid.specs.Tables.{Grid, gridOf}
+use Rattle.sparse_grid.specs.Lookup.{readIn}
 use Rattle.index.specs.Answers.{bothOf}
+use Rattle.index.specs.declared.AxisEnds.{AxisEnds}
+use Rattle.boxes.specs.Boxes.{boxMaximum}
 use Rattle.majorant.specs.Rows.{endsIn, cellFigure, push, rowOf}
-use Rattle.majorant.proofs.Building.{filled-none, filled-more, filled-stop, filled-end, pushed, stopped-push}
+use Rattle.majorant.proofs.Building.{Filled, filled-none, filled-more, filled-stop, filled-end, pushed, stopped-push}
 use Rattle.majorant.proofs.build.row.Statement.{statement}
 use Rattle.majorant.proofs.build.row.Tie as tie
 
+-- one cell
+abbrev step : Grid → List AxisEnds → AxisEnds → AxisEnds → ℕ → List Float → Result (List Float)
+step g xs y z i = push (cellFigure (boxMaximum (readIn g)) (endsIn xs i) (bothOf y) (bothOf z))
+
 abbrev Inv-loop : tie.InvT-loop
-Inv-loop background blocks root-links root-values upper-links upper-values lower-links lower-values leaf-values y z n start majorants₀ xs i₀ majorants i = (i ≤ n) × (length majorants ≡ length majorants₀) × (rowOf (boxMaximum (readIn (gridOf background blocks root-links root-values upper-links upper-values lower-links lower-values leaf-values))) (endsIn xs) (bothOf y) (bothOf z) i (take start majorants₀) ≡ ok (take (start + i) majorants))
+Inv-loop background blocks root-links root-values upper-links upper-values lower-links lower-values leaf-values y z n start majorants₀ xs
+    i₀ majorants i =
+    let g = gridOf background blocks root-links root-values upper-links upper-values lower-links lower-values leaf-values in
+    Filled (step g xs y z) (take start majorants₀) n i (start + i) majorants₀ majorants
 
 abbrev μ-loop : tie.MeasureT-loop
-μ-loop background blocks root-links root-values upper-links upper-values lower-links lower-values leaf-values y z n start majorants₀ xs i₀ majorants i = n - i
+μ-loop background blocks root-links root-values upper-links upper-values lower-links lower-values leaf-values y z n start majorants₀ xs
+    i₀ majorants i =
+    n - i
+
+-- places
+abbrev begin : tie.After-slice-known Inv-loop μ-loop → tie.Start Inv-loop μ-loop
+begin c = c .before .before .before .before .before .before .before .before
+
+abbrev start : tie.In-loop Inv-loop μ-loop → tie.Start Inv-loop μ-loop
+start c = begin (c .before .before)
+
+abbrev at-test : tie.After-cell-figure Inv-loop μ-loop → tie.In-loop Inv-loop μ-loop
+at-test c = c .before .before
+
+abbrev grid : tie.Start Inv-loop μ-loop → Grid
+grid c =
+    let a = c .args in
+    gridOf (a .background) (a .blocks .now) (a .root-links .now) (a .root-values .now) (a .upper-links .now) (a .upper-values .now)
+    (a .lower-links .now) (a .lower-values .now) (a .leaf-values .now)
+
+-- the cell's place lies in the table
+place : (c : tie.In-loop Inv-loop μ-loop) → start c .args .start + c .before .loop .i < length (c .before .loop .majorants)
+place c = omega (arith, c .loop-test .taken, start c .pre .2, c .before .loop .inv .long)
+
+short : (c : tie.Start Inv-loop μ-loop) → length (c .args .majorants .now) * 4 < 18446744073709551616
+short c = omega arith
 
 loop-holds : tie.Need-loop-holds Inv-loop μ-loop
-unfolding rowOf
 loop-holds c =
-    let b = c .before .before .before .before .before .before .before .before .args in
-    let g = gridOf (b .background) (b .blocks .now) (b .root-links .now) (b .root-values .now) (b .upper-links .now) (b .upper-values .now) (b .lower-links .now) (b .lower-values .now) (b .leaf-values .now) in
-    let e : b .start ≡ b .start + 0 = omega arith in (omega arith, refl, filled-none (λ (i : ℕ). push (cellFigure (boxMaximum (readIn g)) (endsIn (b .t10) i) (bothOf (b .y)) (bothOf (b .z)))) (take (b .start) (b .majorants .now)) (b .majorants .now) (b .start + 0) (ap (λ (k : ℕ). take k (b .majorants .now)) e))
-
-mul-cell-figure : tie.Need-mul-cell-figure Inv-loop μ-loop
-mul-cell-figure c = omega (arith, c .before .loop .inv .0, c .before .before .before .before .before .before .before .before .before .before .pre .1)
-
-array-copy-out-cell-figure : tie.Need-array-copy-out-cell-figure Inv-loop μ-loop
-array-copy-out-cell-figure c = omega (arith, c .before .loop .inv .0, c .before .before .before .before .before .before .before .before .before .before .pre .1)
-
-cell-figure-requires : tie.Need-cell-figure-requires Inv-loop μ-loop
-cell-figure-requires c κs = c .before .before .before .before .before .before .before .before .before .before .before .pre .0
-
-same-length : tie.Need-same-length Inv-loop μ-loop
-same-length c = c .before .before .before .before .before .loop .inv .1
+    let b = begin c .args in
+    let e : b .start ≡ b .start + 0 = omega arith in
+    filled-none (step (grid (begin c)) (b .t10) (b .y) (b .z)) (take (b .start) (b .majorants .now)) (b .n) (b .start + 0) (b .majorants .now)
+    (ap (λ (k : ℕ). take k (b .majorants .now)) e)
 
 returns : tie.Need-returns Inv-loop μ-loop
 unfolding rowOf
 returns c =
-    let b = c .before .before .before .before .before .before .before .before .before .before .before .before .before .before .args in
-    let g = gridOf (b .background) (b .blocks .now) (b .root-links .now) (b .root-values .now) (b .upper-links .now) (b .upper-values .now) (b .lower-links .now) (b .lower-values .now) (b .leaf-values .now) in
-    filled-stop (λ (i : ℕ). push (cellFigure (boxMaximum (readIn g)) (endsIn (b .t10) i) (bothOf (b .y)) (bothOf (b .z)))) (take (b .start) (b .majorants .now)) (c .before .before .before .before .before .loop .i) (b .n) (b .start + c .before .before .before .before .before .loop .i) 0 (b .start + b .n) (c .before .before .cell-figure .result .fault) (c .before .before .before .before .before .loop .majorants) (c .before .before .before .before .before .loop .majorants) (c .before .before .before .before .before .loop .inv .2) (stopped-push (c .before .before .cell-figure .result .fault) (c .before .before .cell-figure .result .value) (c .before .before .before .before .before .loop .majorants) (b .start + c .before .before .before .before .before .loop .i) 0 (c .before .before .before .before .before .loop .majorants) _ (c .if1 .taken) (c .before .before .cell-figure .ensures)) (c .if1 .taken) (c .before .before .before .before .loop-test .taken)
-
-add-majorants : tie.Need-add-majorants Inv-loop μ-loop
-add-majorants c = omega (arith, c .before .before .before .before .loop-test .taken, c .before .before .before .before .before .before .before .before .before .before .before .before .before .before .pre .2, c .before .before .before .before .before .before .before .before .before .before .before .before .before .before .good .1 .1 .1 .1 .1 .1 .1 .1 .1 .1 .1 .1 .1 .1 .0)
-
-mul-majorants : tie.Need-mul-majorants Inv-loop μ-loop
-mul-majorants c = omega (arith, c .before .before .before .before .loop-test .taken, c .before .before .before .before .before .before .before .before .before .before .before .before .before .before .pre .2, c .before .before .before .before .before .before .before .before .before .before .before .before .before .before .good .1 .1 .1 .1 .1 .1 .1 .1 .1 .1 .1 .1 .1 .1 .0)
-
-slice-write-majorants : tie.Need-slice-write-majorants Inv-loop μ-loop
-slice-write-majorants c = omega (arith, c .before .before .before .before .loop-test .taken, c .before .before .before .before .before .before .before .before .before .before .before .before .before .before .pre .2, c .before .before .before .before .before .loop .inv .1)
-
-add-i : tie.Need-add-i Inv-loop μ-loop
-add-i c = omega (arith, c .before .before .before .before .loop-test .taken, c .before .before .before .before .before .before .before .before .before .before .before .before .before .before .pre .1)
-
-loop-less : tie.Need-loop-less Inv-loop μ-loop
-loop-less c = omega (arith, c .before .before .before .before .loop-test .taken)
+    let f = c .before .before in
+    let t = at-test f in
+    let b = start t .args in
+    let r = f .cell-figure .result in
+    let m = t .before .loop .majorants in
+    filled-stop (t .before .loop .inv) (r .fault) 0 (b .start + b .n) m (t .loop-test .taken)
+    (stopped-push (r .fault) (r .value) m (b .start + t .before .loop .i) 0 m _ (c .if1 .taken) (f .cell-figure .ensures)) (c .if1 .taken)
 
 loop-again : tie.Need-loop-again Inv-loop μ-loop
-unfolding rowOf
 loop-again c =
-    let b = c .before .before .before .before .before .before .before .before .before .before .before .before .before .before .args in
-    let g = gridOf (b .background) (b .blocks .now) (b .root-links .now) (b .root-values .now) (b .upper-links .now) (b .upper-values .now) (b .lower-links .now) (b .lower-values .now) (b .leaf-values .now) in
-    let a = b .start + c .before .before .before .before .before .loop .i in
-    let t = c .before .before .before .before .before .loop .majorants in
-    let v = c .before .before .cell-figure .result .value in
-    let k : a < length t = omega (arith, c .before .before .before .before .loop-test .taken, c .before .before .before .before .before .before .before .before .before .before .before .before .before .before .pre .2, c .before .before .before .before .before .loop .inv .1) in
-    let e : a + 1 ≡ b .start + (c .before .before .before .before .before .loop .i + 1) = omega arith in
-    (omega (arith, c .before .before .before .before .loop-test .taken), length-set t a v ∙ c .before .before .before .before .before .loop .inv .1, filled-more (λ (i : ℕ). push (cellFigure (boxMaximum (readIn g)) (endsIn (b .t10) i) (bothOf (b .y)) (bothOf (b .z)))) (take (b .start) (b .majorants .now)) (c .before .before .before .before .before .loop .i) a (a + 1) (c .before .before .cell-figure .result .fault) t (set t a v) (c .before .before .before .before .before .loop .inv .2) (pushed a (c .before .before .cell-figure .result .fault) v t _ k (c .before .before .cell-figure .ensures)) (c .if1 .left) ∙ ap (λ (k : ℕ). ok (take k (set t a v))) e)
-
-same-length-2 : tie.Need-same-length-2 Inv-loop μ-loop
-same-length-2 c = c .before .loop .inv .1
+    let f = c .before .before in
+    let t = at-test f in
+    let b = start t .args in
+    let r = f .cell-figure .result in
+    let m = t .before .loop .majorants in
+    let a = b .start + t .before .loop .i in
+    filled-more (t .before .loop .inv) (r .fault) (b .start + (t .before .loop .i + 1)) (set m a (r .value)) (t .loop-test .taken)
+    (pushed a (b .start + (t .before .loop .i + 1)) (r .fault) (r .value) m _ (place t) (omega arith) (f .cell-figure .ensures))
+    (c .if1 .left) (length-set m a (r .value))
 
 returns-2 : tie.Need-returns-2 Inv-loop μ-loop
 unfolding rowOf
-returns-2 c =
-    let b = c .before .before .before .before .before .before .before .before .before .before .args in
-    let g = gridOf (b .background) (b .blocks .now) (b .root-links .now) (b .root-values .now) (b .upper-links .now) (b .upper-values .now) (b .lower-links .now) (b .lower-values .now) (b .leaf-values .now) in
-    filled-end (λ (i : ℕ). push (cellFigure (boxMaximum (readIn g)) (endsIn (b .t10) i) (bothOf (b .y)) (bothOf (b .z)))) (take (b .start) (b .majorants .now)) (c .before .loop .i) (b .n) (b .start + c .before .loop .i) (b .start + b .n) (c .before .loop .majorants) (c .before .loop .inv .0) (c .loop-test .left) (let e : c .before .loop .i ≡ b .n = omega (arith, c .before .loop .inv .0, c .loop-test .left) in ap (λ (k : ℕ). b .start + k) e) (c .before .loop .inv .2)
+returns-2 c = filled-end (c .before .loop .inv) (c .loop-test .left) (λ e. ap (λ (k : ℕ). begin (c .before .before) .args .start + k) e)
 
 pub row-spec : {M : Type 1} → statement M
 row-spec =
@@ -89,16 +95,16 @@ row-spec =
     Inv-loop
     μ-loop
     loop-holds
-    mul-cell-figure
-    array-copy-out-cell-figure
-    cell-figure-requires
-    same-length
+    (λ c. omega (arith, c .loop-test .taken, start c .pre .1))
+    (λ c. omega (arith, c .loop-test .taken, start c .pre .1))
+    (λ c κs. start (c .before) .pre .0)
+    (λ c. at-test (c .before .before) .before .loop .inv .long)
     returns
-    add-majorants
-    mul-majorants
-    slice-write-majorants
-    add-i
-    loop-less
+    (λ c. let t = at-test (c .before .before) in omega (arith, place t, t .before .loop .inv .long, short (start t)))
+    (λ c. let t = at-test (c .before .before) in omega (arith, place t, t .before .loop .inv .long, short (start t)))
+    (λ c. omega (arith, place (at-test (c .before .before))))
+    (λ c. let t = at-test (c .before .before) in omega (arith, t .loop-test .taken, start t .pre .1))
+    (λ c. omega (arith, at-test (c .before .before) .loop-test .taken))
     loop-again
-    same-length-2
+    (λ c. c .before .loop .inv .long)
     returns-2)

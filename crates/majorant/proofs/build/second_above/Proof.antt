@@ -1,52 +1,52 @@
 -- `majorant::build::second_above` meets its contract: within the first box, or by a search. Assumes nothing.
-use mathlib.Core.Path.{sym, _∙_}
-use Rattle.sparse_grid.specs.Tables.{gridOf}
-use Rattle.sparse_grid.specs.Lookup.{readIn}
-use lib.Ieee.{lt}
+use mathlib.Core.Path.{_≡_, sym, _∙_}
 use mathlib.Core.Bool.{_&&_}
+use lib.Ieee.{lt}
+use Rattle.sparse_grid.specs.Tables.{Grid, gridOf}
+use Rattle.sparse_grid.specs.Lookup.{readIn}
+use Rattle.majorant.specs.Rows.{firstHolds}
 use Rattle.majorant.specs.RowLaws.{held}
 use borrow.Author.Needs.{needs}
 use Rattle.majorant.proofs.build.second_above.Statement.{statement}
 use Rattle.majorant.proofs.build.second_above.Tie as tie
 
-first-holds-requires : tie.Need-first-holds-requires
-first-holds-requires c κs = search needs
+-- places
+abbrev at-tables : tie.After-both2 → tie.After-shared-slice-known7
+at-tables c = c .before .before .before .before .before
 
-first-holds-requires-2 : tie.Need-first-holds-requires-2
-first-holds-requires-2 c κs = search needs
+abbrev start : tie.After-both2 → tie.Start
+start c = at-tables c .before .before .before .before .before .before .before
 
-both-requires : tie.Need-both-requires
-both-requires c κs = search needs
+abbrev at-holds : tie.After-both2 → tie.After-both
+at-holds c = c .before .before
 
-first-holds-requires-3 : tie.Need-first-holds-requires-3
-first-holds-requires-3 c κs = search needs
+abbrev grid : tie.Start → Grid
+grid c =
+    let a = c .args in
+    gridOf (a .background) (a .blocks .now) (a .root-links .now) (a .root-values .now) (a .upper-links .now) (a .upper-values .now)
+    (a .lower-links .now) (a .lower-values .now) (a .leaf-values .now)
 
-both-requires-2 : tie.Need-both-requires-2
-both-requires-2 c κs = search needs
+-- the three tests together
+holds : (c : tie.After-both2) → let a = start c .args in c .both2 .result ≡ (firstHolds (a .x) && firstHolds (a .y) && firstHolds (a .z))
+holds c =
+    let d = at-holds c in
+    c .both2 .ensures
+    ∙ (λ i. (d .both .ensures ∙ (λ j. d .before .before .first-holds .ensures j && d .before .first-holds2 .ensures j)) i && c .before .first-holds3 .ensures i)
 
 returns : tie.Need-returns
 returns c =
-    let b = c .before .before .before .before .before .before .before .before .before .before .before .before .before .args in
-    let g = gridOf (b .background) (b .blocks .now) (b .root-links .now) (b .root-values .now) (b .upper-links .now) (b .upper-values .now) (b .lower-links .now) (b .lower-values .now) (b .leaf-values .now) in
-    sym (held (readIn g) (b .x) (b .y) (b .z) (sym (c .before .both2 .ensures ∙ (λ i. (c .before .before .before .both .ensures ∙ (λ j. c .before .before .before .before .before .first-holds .ensures j && c .before .before .before .before .first-holds2 .ensures j)) i && c .before .before .first-holds3 .ensures i)) ∙ c .if1 .taken))
-
-second-maximum-requires : tie.Need-second-maximum-requires
-second-maximum-requires c κs = c .before .before .before .before .before .before .before .before .before .before .before .before .before .pre .0
-
-returns-2 : tie.Need-returns-2
-returns-2 c =
-    let b = c .before .before .before .before .before .before .before .before .before .before .before .before .before .before .args in
-    (λ i. lt (c .before .before .before .before .before .before .before .before .before .before .before .before .before .before .pre .1 i) (c .second-maximum .ensures i))
+    let b = start (c .before) in
+    sym (held (readIn (grid b)) (b .args .x) (b .args .y) (b .args .z) (sym (holds (c .before)) ∙ c .if1 .taken))
 
 pub second-above-spec : {M : Type 1} → statement M
 second-above-spec =
     tie.close
     (tie.spec
-    first-holds-requires
-    first-holds-requires-2
-    both-requires
-    first-holds-requires-3
-    both-requires-2
+    (λ c κs. search needs)
+    (λ c κs. search needs)
+    (λ c κs. search needs)
+    (λ c κs. search needs)
+    (λ c κs. search needs)
     returns
-    second-maximum-requires
-    returns-2)
+    (λ c κs. start (c .before) .pre .0)
+    (λ c. (λ i. lt (start (c .before .before) .pre .1 i) (c .second-maximum .ensures i))))

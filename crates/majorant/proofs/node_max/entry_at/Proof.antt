@@ -8,29 +8,15 @@ use Rattle.float.specs.Zero.{+0}
 use Rattle.sparse_grid.specs.Tables.{entryOf}
 use Rattle.sparse_grid.specs.declared.Entry.the-variants.{Tile}
 use Rattle.refusals.specs.ListLaws.{getD-any}
-use Rattle.majorant.proofs.NodeCells.{child}
+use Rattle.boxes.specs.NodeCells.{child}
 use Rattle.majorant.proofs.node_max.entry_at.Statement.{statement}
 use Rattle.majorant.proofs.node_max.entry_at.Tie as tie
-
-mul-link : tie.Need-mul-link
-mul-link c = omega arith
-
-shared-slice-read-link : tie.Need-shared-slice-read-link
-shared-slice-read-link c = omega arith
-
-mul-t10 : tie.Need-mul-t10
-mul-t10 c = omega arith
-
-shared-slice-read-t12 : tie.Need-shared-slice-read-t12
-shared-slice-read-t12 c = omega arith
-
-sub-t13 : tie.Need-sub-t13
-sub-t13 c = omega arith
 
 returns : tie.Need-returns
 returns c =
     let b = c .before .before .before .args in
-    ap Tile (getD-any (b .values .now) (b .i) nan +0 (c .before .before .before .pre .1)) ∙ ap (λ (l : ℕ). entryOf l (getD (b .values .now) (b .i) +0)) (sym (c .before .if1 .taken))
+    ap Tile (getD-any (b .values .now) (b .i) nan +0 (c .before .before .before .pre .1))
+    ∙ ap (λ (l : ℕ). entryOf l (getD (b .values .now) (b .i) +0)) (sym (c .before .if1 .taken))
 
 returns-2 : tie.Need-returns-2
 returns-2 c = let b = c .before .before .args in child (getD (b .links .now) (b .i) 0) (getD (b .values .now) (b .i) +0) (omega arith)
@@ -39,10 +25,10 @@ pub entry-at-spec : {M : Type 1} → statement M
 entry-at-spec =
     tie.close
     (tie.spec
-    mul-link
-    shared-slice-read-link
-    mul-t10
-    shared-slice-read-t12
-    sub-t13
+    (λ c. omega arith)
+    (λ c. omega arith)
+    (λ c. omega arith)
+    (λ c. omega arith)
+    (λ c. omega arith)
     returns
     returns-2)

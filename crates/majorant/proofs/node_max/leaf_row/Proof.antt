@@ -1,75 +1,66 @@
--- `majorant::node_max::leaf_row` meets its contract: the invariant: the greatest of the places of the row before i. Assumes nothing.
+-- `majorant::node_max::leaf_row` meets its contract. The invariant: the greatest of the places of the row before i. Assumes nothing.
 use Prim.Native.Nat.{ℕ, _+_, _-_, _*_, _%_, _≤_}
-use mathlib.Core.Path.{_≡_, sym, ap, _∙_, subst}
+use mathlib.Core.Path.{_≡_, ap, _∙_, subst}
 use native.Mathlib.Omega.{arith}
-use lib.Ieee.{Float, nan}
+use lib.Ieee.{nan}
+use lib.ListN.{getD}
 use borrow.Author.Needs.{needs}
 use Rattle.float.specs.Zero.{+0}
-use Rattle.majorant.specs.Most.{Most, Inside}
-use Rattle.majorant.specs.Boxes.{greater}
+use Rattle.boxes.specs.Most.{Most, Inside}
+use Rattle.boxes.specs.Boxes.{greater}
 use Rattle.refusals.specs.ListLaws.{getD-any}
-use Rattle.majorant.specs.RangeMax.{leafRead}
-use Rattle.majorant.proofs.MostLaws.{none, till-z, step-z}
+use Rattle.boxes.specs.RangeMax.{leafRead}
+use Rattle.boxes.specs.MostLaws.{none, till-z, step-z}
 use Rattle.majorant.proofs.node_max.leaf_row.Statement.{statement}
 use Rattle.majorant.proofs.node_max.leaf_row.Tie as tie
 
 abbrev Inv-loop : tie.InvT-loop
-Inv-loop leaf-values k x y lo start end maximum₀ i₀ maximum i = (start ≤ i) × (i ≤ end) × Most (leafRead leaf-values k) (Inside x (x + 1) y (y + 1) lo (lo + (i - start))) maximum
+Inv-loop leaf-values k x y lo start end maximum₀ i₀ maximum i =
+    (start ≤ i) × (i ≤ end) × Most (leafRead leaf-values k) (Inside x (x + 1) y (y + 1) lo (lo + (i - start))) maximum
 
 abbrev μ-loop : tie.MeasureT-loop
 μ-loop leaf-values k x y lo start end maximum₀ i₀ maximum i = end - i
 
-mul-start : tie.Need-mul-start Inv-loop μ-loop
-mul-start c = omega arith
-
-table-index-requires : tie.Need-table-index-requires Inv-loop μ-loop
-table-index-requires c κs = search needs
-
-add-start : tie.Need-add-start Inv-loop μ-loop
-add-start c = omega arith
-
-sub-end : tie.Need-sub-end Inv-loop μ-loop
-sub-end c = omega arith
-
-add-end : tie.Need-add-end Inv-loop μ-loop
-add-end c = omega arith
-
 loop-holds : tie.Need-loop-holds Inv-loop μ-loop
 loop-holds c = (omega arith, omega arith, none (λ a b d s. omega arith))
 
-mul-greater : tie.Need-mul-greater Inv-loop μ-loop
-mul-greater c = omega arith
+-- places
+abbrev at-first : tie.In-loop Inv-loop μ-loop → tie.After-table-index Inv-loop μ-loop
+at-first c = c .before .before .before
 
-shared-slice-read-greater : tie.Need-shared-slice-read-greater Inv-loop μ-loop
-shared-slice-read-greater c = omega arith
+abbrev start : tie.In-loop Inv-loop μ-loop → tie.Start Inv-loop μ-loop
+start c = at-first c .before .before
 
-greater-requires : tie.Need-greater-requires Inv-loop μ-loop
-greater-requires c κs = search needs
+-- the place of the row that stands at i
+abbrev here : tie.In-loop Inv-loop μ-loop → ℕ
+here c = start c .args .z .lo + (c .before .loop .i - (512 * start c .args .k + at-first c .table-index .result))
 
-add-i : tie.Need-add-i Inv-loop μ-loop
-add-i c = omega arith
-
-loop-less : tie.Need-loop-less Inv-loop μ-loop
-loop-less c = omega arith
+-- what stands at i is what is read there
+reads : (c : tie.In-loop Inv-loop μ-loop) →
+    let a = start c .args in
+    getD (a .leaf-values .now) (c .before .loop .i) nan ≡ leafRead (a .leaf-values .now) (a .k) (a .x) (a .y) (here c)
+unfolding leafRead
+reads c =
+    let a = start c .args in
+    let i = c .before .loop .i in
+    let e : i ≡ 512 * a .k + ((a .x % 8 * 8 + a .y % 8) * 8 + here c % 8) = omega (arith, at-first c .table-index .ensures) in
+    getD-any (a .leaf-values .now) i nan +0 (omega (arith, at-first c .table-index .ensures)) ∙ ap (λ (j : ℕ). getD (a .leaf-values .now) j +0) e
 
 loop-again : tie.Need-loop-again Inv-loop μ-loop
-unfolding leafRead
 loop-again c =
-    let b = c .before .before .before .before .before .before .before .args in
-    let w = c .before .before .before .loop in
-    let z = b .z .lo + (w .i - (512 * b .k + c .before .before .before .before .before .table-index .result)) in
-    let e : w .i ≡ 512 * b .k + ((b .x % 8 * 8 + b .y % 8) * 8 + z % 8) = omega (arith, c .before .before .before .before .before .table-index .ensures) in
-    let n : b .z .lo + (w .i + 1 - (512 * b .k + c .before .before .before .before .before .table-index .result)) ≡ z + 1 = omega arith in (
+    let t = c .before .before in
+    let a = start t .args in
+    let w = t .before .loop in
+    let f = leafRead (a .leaf-values .now) (a .k) in
+    let n : here t + 1 ≡ a .z .lo + (w .i + 1 - (512 * a .k + at-first t .table-index .result)) = omega arith in (
       omega arith,
       omega arith,
-      subst (λ (h : ℕ). Most (leafRead (b .leaf-values .now) (b .k)) (Inside (b .x) (b .x + 1) (b .y) (b .y + 1) (b .z .lo) h) (c .greater .result)) (sym n)
-          (subst (λ (r : Float). Most (leafRead (b .leaf-values .now) (b .k)) (Inside (b .x) (b .x + 1) (b .y) (b .y + 1) (b .z .lo) (z + 1)) r)
-          (sym (c .greater .ensures ∙ ap (greater (w .maximum)) (getD-any (b .leaf-values .now) (w .i) nan +0 (omega (arith, c .before .before .before .before .before .table-index .ensures)) ∙ ap (λ (j : ℕ). lib.ListN.getD (b .leaf-values .now) j +0) e)))
-          (step-z (b .x) (b .y) (b .z .lo) z (omega arith) (w .inv .2))),
+      subst (λ (h : ℕ). Most f (Inside (a .x) (a .x + 1) (a .y) (a .y + 1) (a .z .lo) h) (c .greater .result)) n
+          (step-z (a .x) (a .y) (a .z .lo) (here t) (omega arith) (w .inv .2) (c .greater .ensures ∙ ap (greater (w .maximum)) (reads t))),
     )
 
 returns : tie.Need-returns Inv-loop μ-loop
-returns c = till-z _ _ _ _ _ _ (c .before .before .before .before .before .args .z .lo + (c .before .loop .i - (512 * c .before .before .before .before .before .args .k + c .before .before .before .table-index .result))) (omega arith) (omega arith) (c .before .loop .inv .2)
+returns c = till-z (omega arith) (omega arith) (c .before .loop .inv .2)
 
 pub leaf-row-spec : {M : Type 1} → statement M
 leaf-row-spec =
@@ -77,16 +68,16 @@ leaf-row-spec =
     (tie.spec
     Inv-loop
     μ-loop
-    mul-start
-    table-index-requires
-    add-start
-    sub-end
-    add-end
+    (λ c. omega arith)
+    (λ c κs. search needs)
+    (λ c. omega arith)
+    (λ c. omega arith)
+    (λ c. omega arith)
     loop-holds
-    mul-greater
-    shared-slice-read-greater
-    greater-requires
-    add-i
-    loop-less
+    (λ c. omega arith)
+    (λ c. omega arith)
+    (λ c κs. search needs)
+    (λ c. omega arith)
+    (λ c. omega arith)
     loop-again
     returns)

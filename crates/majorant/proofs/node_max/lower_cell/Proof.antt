@@ -1,72 +1,81 @@
 -- `majorant::node_max::lower_cell` meets its contract: every place of a cell goes by the entry of its first one. Assumes nothing.
 use Prim.Native.Nat.{ℕ, _+_, _*_}
 use mathlib.Core.Path.{_≡_, sym, ap, _∙_}
+use mathlib.Core.List.{List}
 use native.Mathlib.Omega.{arith}
+use lib.Ieee.{Float}
 use borrow.Author.Needs.{needs}
 use Rattle.sparse_grid.specs.Tables.{entryAt}
-use Rattle.sparse_grid.specs.declared.Entry.the-variants.{Child}
-use Rattle.majorant.specs.RangeMax.{leafRead, lowerSlot}
-use Rattle.majorant.proofs.NodeCells.{cell-child, cell-tile, child-link, lower-same}
+use Rattle.boxes.specs.RangeMax.{Within, entryRead, leafRead, lowerRead, lowerSlot}
+use Rattle.boxes.specs.NodeCells.{cell-tile, cell-child, lower-same, child-link}
 use Rattle.majorant.proofs.node_max.lower_cell.Statement.{statement}
 use Rattle.majorant.proofs.node_max.lower_cell.Tie as tie
 
-mul-i : tie.Need-mul-i
-mul-i c = omega arith
+abbrev start : tie.After-entry-at → tie.Start
+start c = c .before .before .before .before .before .before .before .before
 
-table-index-requires : tie.Need-table-index-requires
-table-index-requires c κs = search needs
+-- the node's two tables, the slot of the first place, and what is read below
+abbrev links : tie.Start → List ℕ
+links c = c .args .lower-links .now
 
-add-i : tie.Need-add-i
-add-i c = omega arith
+abbrev values : tie.Start → List Float
+values c = c .args .lower-values .now
 
-entry-at-requires : tie.Need-entry-at-requires
-entry-at-requires c κs = search needs
+abbrev slot : tie.Start → ℕ
+slot c = let a = c .args in lowerSlot (a .k) (a .x .lo) (a .y .lo) (a .z .lo)
 
-enum-known-j : tie.Need-enum-known-j
-enum-known-j c = search needs
+abbrev below : tie.Start → ℕ → ℕ → ℕ → ℕ → Float
+below c = let a = c .args in leafRead (a .leaf-values .now)
 
-cast-leaf-max : tie.Need-cast-leaf-max
-cast-leaf-max c = omega arith
+-- the entry that the code reads is that of the slot
+entry : (c : tie.After-entry-at) → entryAt (links (start c)) (values (start c)) (slot (start c)) ≡ c .entry-at .result
+entry c =
+    let b = start c in
+    ap (λ (n : ℕ). entryAt (links b) (values b) (4096 * b .args .k + n)) (sym (c .before .table-index .ensures)) ∙ sym (c .entry-at .ensures)
+
+-- and every place of the cell goes by it
+same : (c : tie.Start) →
+    let a = c .args in
+    (x y z : ℕ) → Within (a .x) (a .y) (a .z) x y z
+    → lowerRead (a .lower-links .now) (a .lower-values .now) (a .leaf-values .now) (a .k) x y z
+    ≡ entryRead (entryAt (links c) (values c) (slot c)) (λ j. below c j x y z)
+same c =
+    let a = c .args in
+    lower-same (a .x) (a .y) (a .z) (a .lower-links .now) (a .lower-values .now) (a .leaf-values .now) (a .k) (c .pre .2) (c .pre .3) (c .pre .4)
 
 leaf-max-requires : tie.Need-leaf-max-requires
 leaf-max-requires c κs =
-    let b = c .before .before .before .before .before .before .before .before .before .before .before .args in
-    let p = c .before .before .before .before .before .before .before .before .before .before .before .pre in
-    let q : entryAt (b .lower-links .now) (b .lower-values .now) (lowerSlot (b .k) (b .x .lo) (b .y .lo) (b .z .lo)) ≡ Child (c .before .j .given .0 .0) = ap (λ (n : ℕ). entryAt (b .lower-links .now) (b .lower-values .now) (4096 * b .k + n)) (sym (c .before .before .before .before .table-index .ensures)) ∙ sym (c .before .before .before .entry-at .ensures) ∙ c .before .j .given .1 in
-    let l = child-link (b .lower-links .now) (b .lower-values .now) (lowerSlot (b .k) (b .x .lo) (b .y .lo) (b .z .lo)) q in
-    let h = p .0 .linked (lowerSlot (b .k) (b .x .lo) (b .y .lo) (b .z .lo)) in
+    let d = c .before .before .before in
+    let b = start d in
+    let p = b .pre in
+    let l = child-link (links b) (values b) (slot b) (entry d ∙ c .before .j .given .1) in
+    let h = p .0 .linked (slot b) in
     (omega arith, p .1, p .4)
-
-enum-known-v : tie.Need-enum-known-v
-enum-known-v c = search needs
-
-greater-requires : tie.Need-greater-requires
-greater-requires c κs = search needs
 
 returns : tie.Need-returns
 returns c =
-    let b = c .before .before .before .before .before .before .before .before .before .before .before .before .args in
-    let p = c .before .before .before .before .before .before .before .before .before .before .before .before .pre in
-    cell-child (leafRead (b .leaf-values .now)) (b .x) (b .y) (b .z) (lower-same (b .x) (b .y) (b .z) (b .lower-links .now) (b .lower-values .now) (b .leaf-values .now) (b .k) (p .2) (p .3) (p .4)) (ap (λ (n : ℕ). entryAt (b .lower-links .now) (b .lower-values .now) (4096 * b .k + n)) (sym (c .before .before .before .before .before .table-index .ensures)) ∙ sym (c .before .before .before .before .entry-at .ensures) ∙ c .before .before .j .given .1) (c .leaf-max .ensures)
+    let m = c .before .before in
+    let b = start (m .before .before) in
+    cell-child (below b) (b .args .x) (b .args .y) (b .args .z) (same b) (entry (m .before .before) ∙ m .j .given .1) (c .leaf-max .ensures)
 
 returns-2 : tie.Need-returns-2
 returns-2 c =
-    let b = c .before .before .before .before .before .before .before .before .before .before .before .before .args in
-    let p = c .before .before .before .before .before .before .before .before .before .before .before .before .pre in
-    cell-tile (leafRead (b .leaf-values .now)) (b .x) (b .y) (b .z) (lower-same (b .x) (b .y) (b .z) (b .lower-links .now) (b .lower-values .now) (b .leaf-values .now) (b .k) (p .2) (p .3) (p .4)) (p .1) (ap (λ (n : ℕ). entryAt (b .lower-links .now) (b .lower-values .now) (4096 * b .k + n)) (sym (c .before .before .before .before .before .table-index .ensures)) ∙ sym (c .before .before .before .before .entry-at .ensures) ∙ c .before .before .v .given .1) (c .greater .ensures)
+    let m = c .before .before in
+    let b = start (m .before .before) in
+    cell-tile (below b) (b .args .x) (b .args .y) (b .args .z) (same b) (b .pre .1) (entry (m .before .before) ∙ m .v .given .1) (c .greater .ensures)
 
 pub lower-cell-spec : {M : Type 1} → statement M
 lower-cell-spec =
     tie.close
     (tie.spec
-    mul-i
-    table-index-requires
-    add-i
-    entry-at-requires
-    enum-known-j
-    cast-leaf-max
+    (λ c. omega arith)
+    (λ c κs. search needs)
+    (λ c. omega arith)
+    (λ c κs. search needs)
+    (λ c. search needs)
+    (λ c. omega arith)
     leaf-max-requires
-    enum-known-v
-    greater-requires
+    (λ c. search needs)
+    (λ c κs. search needs)
     returns
     returns-2)

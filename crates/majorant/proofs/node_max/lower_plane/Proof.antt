@@ -1,40 +1,40 @@
--- `majorant::node_max::lower_plane` meets its contract: the invariant: the greatest of the rows before `at`. Assumes nothing.
+-- `majorant::node_max::lower_plane` meets its contract. The invariant: the greatest of the rows before `at`. Assumes nothing.
 use Prim.Native.Nat.{_-_, _≤_}
 use native.Mathlib.Omega.{arith}
-use native.Mathlib.Nat.{le-trans}
 use borrow.Author.Needs.{needs}
-use Rattle.majorant.specs.Most.{Most, Inside}
-use Rattle.majorant.specs.RangeMax.{lowerRead}
-use Rattle.majorant.proofs.MostLaws.{none, join-y, till-y}
+use Rattle.boxes.specs.Most.{Most, Inside}
+use Rattle.boxes.specs.RangeMax.{lowerRead}
+use Rattle.boxes.specs.NodeCells.{cut-y}
+use Rattle.boxes.specs.MostLaws.{none, join-y, till-y}
 use Rattle.majorant.proofs.node_max.lower_plane.Statement.{statement}
 use Rattle.majorant.proofs.node_max.lower_plane.Tie as tie
 
 abbrev Inv-loop : tie.InvT-loop
-Inv-loop lower-links lower-values leaf-values k x z end maximum₀ at₀ maximum at = (at₀ ≤ at) × (at ≤ end) × Most (lowerRead lower-links lower-values leaf-values k) (Inside (x .lo) (x .hi) at₀ at (z .lo) (z .hi)) maximum
+Inv-loop lower-links lower-values leaf-values k x z end maximum₀ at₀ maximum at =
+    let read = lowerRead lower-links lower-values leaf-values k in
+    (at₀ ≤ at) × (at ≤ end) × Most read (Inside (x .lo) (x .hi) at₀ at (z .lo) (z .hi)) maximum
 
 abbrev μ-loop : tie.MeasureT-loop
 μ-loop lower-links lower-values leaf-values k x z end maximum₀ at₀ maximum at = end - at
 
-loop-holds : tie.Need-loop-holds Inv-loop μ-loop
-loop-holds c = (omega arith, omega arith, none (λ a b d s. omega arith))
-
-cell-end-requires : tie.Need-cell-end-requires Inv-loop μ-loop
-cell-end-requires c κs = (omega arith, omega arith, omega arith, omega arith)
+abbrev start : tie.In-loop Inv-loop μ-loop → tie.Start Inv-loop μ-loop
+start c = c .before .before .before .before .before
 
 lower-row-requires : tie.Need-lower-row-requires Inv-loop μ-loop
-lower-row-requires c κs = let p = c .before .before .before .before .before .before .pre in let k = c .cell-end .ensures in (p .0, record { x-some = p .1 .x-some; y-some = k .more; z-some = p .1 .z-some; x-top = p .1 .x-top; y-top = le-trans (k .within) (p .1 .y-top); z-top = p .1 .z-top }, p .2, k .cell)
-
-greater-requires : tie.Need-greater-requires Inv-loop μ-loop
-greater-requires c κs = search needs
-
-loop-less : tie.Need-loop-less Inv-loop μ-loop
-loop-less c = let k = c .before .before .cell-end .ensures in omega arith
+lower-row-requires c κs =
+    let p = start (c .before) .pre in
+    let k = c .cell-end .ensures in
+    (p .0, cut-y (p .1) k, p .2, k .cell)
 
 loop-again : tie.Need-loop-again Inv-loop μ-loop
-loop-again c = let w = c .before .before .before .before .loop in let k = c .before .before .cell-end .ensures in (omega arith, k .within, join-y _ _ _ _ _ _ (w .at) (w .inv .0) (omega arith) (w .inv .2) (c .before .lower-row .ensures) (c .greater .ensures))
+loop-again c =
+    let e = c .before .before in
+    let k = e .cell-end .ensures in
+    let w = e .before .before .loop in
+    (omega arith, k .within, join-y (w .inv .0) (omega arith) (w .inv .2) (c .before .lower-row .ensures) (c .greater .ensures))
 
 returns : tie.Need-returns Inv-loop μ-loop
-returns c = till-y _ _ _ _ _ _ (c .before .loop .at) (c .before .loop .inv .1) (c .loop-test .left) (c .before .loop .inv .2)
+returns c = till-y (c .before .loop .inv .1) (c .loop-test .left) (c .before .loop .inv .2)
 
 pub lower-plane-spec : {M : Type 1} → statement M
 lower-plane-spec =
@@ -42,10 +42,10 @@ lower-plane-spec =
     (tie.spec
     Inv-loop
     μ-loop
-    loop-holds
-    cell-end-requires
+    (λ c. (omega arith, omega arith, none (λ a b d s. omega arith)))
+    (λ c κs. (omega arith, omega arith, omega arith, omega arith))
     lower-row-requires
-    greater-requires
-    loop-less
+    (λ c κs. search needs)
+    (λ c. let k = c .before .before .cell-end .ensures in omega arith)
     loop-again
     returns)

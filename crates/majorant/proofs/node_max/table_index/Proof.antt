@@ -25,8 +25,5 @@ mul-result-2 c = let r = plane (c .pre .0) (c .pre .1) (c .pre .3) in omega arit
 add-result-2 : tie.Need-add-result-2
 add-result-2 c = let r = plane (c .pre .0) (c .pre .1) (c .pre .3) in omega arith
 
-returns : tie.Need-returns
-returns c = search needs
-
 pub table-index-spec : {M : Type 1} → statement M
-table-index-spec = tie.close (tie.spec mul-result add-result mul-result-2 add-result-2 returns)
+table-index-spec = tie.close (tie.spec mul-result add-result mul-result-2 add-result-2 (λ c. search needs))

@@ -1,72 +1,82 @@
 -- `majorant::node_max::upper_cell` meets its contract: every place of a cell goes by the entry of its first one. Assumes nothing.
 use Prim.Native.Nat.{ℕ, _+_, _*_}
 use mathlib.Core.Path.{_≡_, sym, ap, _∙_}
+use mathlib.Core.List.{List}
 use native.Mathlib.Omega.{arith}
+use lib.Ieee.{Float}
 use borrow.Author.Needs.{needs}
 use Rattle.sparse_grid.specs.Tables.{entryAt}
-use Rattle.sparse_grid.specs.declared.Entry.the-variants.{Child}
-use Rattle.majorant.specs.RangeMax.{lowerRead, upperSlot}
-use Rattle.majorant.proofs.NodeCells.{cell-child, cell-tile, child-link, upper-same}
+use Rattle.boxes.specs.RangeMax.{Within, entryRead, lowerRead, upperRead, upperSlot}
+use Rattle.boxes.specs.NodeCells.{cell-tile, cell-child, upper-same, child-link}
 use Rattle.majorant.proofs.node_max.upper_cell.Statement.{statement}
 use Rattle.majorant.proofs.node_max.upper_cell.Tie as tie
 
-mul-i : tie.Need-mul-i
-mul-i c = omega arith
+abbrev start : tie.After-entry-at → tie.Start
+start c = c .before .before .before .before .before .before .before .before .before .before
 
-table-index-requires : tie.Need-table-index-requires
-table-index-requires c κs = search needs
+-- the node's two tables, the slot of the first place, and what is read below
+abbrev links : tie.Start → List ℕ
+links c = c .args .upper-links .now
 
-add-i : tie.Need-add-i
-add-i c = omega arith
+abbrev values : tie.Start → List Float
+values c = c .args .upper-values .now
 
-entry-at-requires : tie.Need-entry-at-requires
-entry-at-requires c κs = search needs
+abbrev slot : tie.Start → ℕ
+slot c = let a = c .args in upperSlot (a .k) (a .x .lo) (a .y .lo) (a .z .lo)
 
-enum-known-j : tie.Need-enum-known-j
-enum-known-j c = search needs
+abbrev below : tie.Start → ℕ → ℕ → ℕ → ℕ → Float
+below c = let a = c .args in lowerRead (a .lower-links .now) (a .lower-values .now) (a .leaf-values .now)
 
-cast-lower-max : tie.Need-cast-lower-max
-cast-lower-max c = omega arith
+-- the entry that the code reads is that of the slot
+entry : (c : tie.After-entry-at) → entryAt (links (start c)) (values (start c)) (slot (start c)) ≡ c .entry-at .result
+entry c =
+    let b = start c in
+    ap (λ (n : ℕ). entryAt (links b) (values b) (32768 * b .args .k + n)) (sym (c .before .table-index .ensures)) ∙ sym (c .entry-at .ensures)
+
+-- and every place of the cell goes by it
+same : (c : tie.Start) →
+    let a = c .args in
+    (x y z : ℕ) → Within (a .x) (a .y) (a .z) x y z
+    → upperRead (a .upper-links .now) (a .upper-values .now) (a .lower-links .now) (a .lower-values .now) (a .leaf-values .now) (a .k) x y z
+    ≡ entryRead (entryAt (links c) (values c) (slot c)) (λ j. below c j x y z)
+same c =
+    let a = c .args in
+    upper-same (a .x) (a .y) (a .z) (a .upper-links .now) (a .upper-values .now) (a .lower-links .now) (a .lower-values .now) (a .leaf-values .now)
+    (a .k) (c .pre .2) (c .pre .3) (c .pre .4)
 
 lower-max-requires : tie.Need-lower-max-requires
 lower-max-requires c κs =
-    let b = c .before .before .before .before .before .before .before .before .before .before .before .before .before .args in
-    let p = c .before .before .before .before .before .before .before .before .before .before .before .before .before .pre in
-    let q : entryAt (b .upper-links .now) (b .upper-values .now) (upperSlot (b .k) (b .x .lo) (b .y .lo) (b .z .lo)) ≡ Child (c .before .j .given .0 .0) = ap (λ (n : ℕ). entryAt (b .upper-links .now) (b .upper-values .now) (32768 * b .k + n)) (sym (c .before .before .before .before .table-index .ensures)) ∙ sym (c .before .before .before .entry-at .ensures) ∙ c .before .j .given .1 in
-    let l = child-link (b .upper-links .now) (b .upper-values .now) (upperSlot (b .k) (b .x .lo) (b .y .lo) (b .z .lo)) q in
-    let h = p .0 .tables .upper-linked (upperSlot (b .k) (b .x .lo) (b .y .lo) (b .z .lo)) in
+    let d = c .before .before .before in
+    let b = start d in
+    let p = b .pre in
+    let l = child-link (links b) (values b) (slot b) (entry d ∙ c .before .j .given .1) in
+    let h = p .0 .tables .upper-linked (slot b) in
     (record { room = omega arith; pair = p .0 .tables .lower; linked = p .0 .tables .lower-linked }, p .1)
-
-enum-known-v : tie.Need-enum-known-v
-enum-known-v c = search needs
-
-greater-requires : tie.Need-greater-requires
-greater-requires c κs = search needs
 
 returns : tie.Need-returns
 returns c =
-    let b = c .before .before .before .before .before .before .before .before .before .before .before .before .before .before .args in
-    let p = c .before .before .before .before .before .before .before .before .before .before .before .before .before .before .pre in
-    cell-child (lowerRead (b .lower-links .now) (b .lower-values .now) (b .leaf-values .now)) (b .x) (b .y) (b .z) (upper-same (b .x) (b .y) (b .z) (b .upper-links .now) (b .upper-values .now) (b .lower-links .now) (b .lower-values .now) (b .leaf-values .now) (b .k) (p .2) (p .3) (p .4)) (ap (λ (n : ℕ). entryAt (b .upper-links .now) (b .upper-values .now) (32768 * b .k + n)) (sym (c .before .before .before .before .before .table-index .ensures)) ∙ sym (c .before .before .before .before .entry-at .ensures) ∙ c .before .before .j .given .1) (c .lower-max .ensures)
+    let m = c .before .before in
+    let b = start (m .before .before) in
+    cell-child (below b) (b .args .x) (b .args .y) (b .args .z) (same b) (entry (m .before .before) ∙ m .j .given .1) (c .lower-max .ensures)
 
 returns-2 : tie.Need-returns-2
 returns-2 c =
-    let b = c .before .before .before .before .before .before .before .before .before .before .before .before .before .before .args in
-    let p = c .before .before .before .before .before .before .before .before .before .before .before .before .before .before .pre in
-    cell-tile (lowerRead (b .lower-links .now) (b .lower-values .now) (b .leaf-values .now)) (b .x) (b .y) (b .z) (upper-same (b .x) (b .y) (b .z) (b .upper-links .now) (b .upper-values .now) (b .lower-links .now) (b .lower-values .now) (b .leaf-values .now) (b .k) (p .2) (p .3) (p .4)) (p .1) (ap (λ (n : ℕ). entryAt (b .upper-links .now) (b .upper-values .now) (32768 * b .k + n)) (sym (c .before .before .before .before .before .table-index .ensures)) ∙ sym (c .before .before .before .before .entry-at .ensures) ∙ c .before .before .v .given .1) (c .greater .ensures)
+    let m = c .before .before in
+    let b = start (m .before .before) in
+    cell-tile (below b) (b .args .x) (b .args .y) (b .args .z) (same b) (b .pre .1) (entry (m .before .before) ∙ m .v .given .1) (c .greater .ensures)
 
 pub upper-cell-spec : {M : Type 1} → statement M
 upper-cell-spec =
     tie.close
     (tie.spec
-    mul-i
-    table-index-requires
-    add-i
-    entry-at-requires
-    enum-known-j
-    cast-lower-max
+    (λ c. omega arith)
+    (λ c κs. search needs)
+    (λ c. omega arith)
+    (λ c κs. search needs)
+    (λ c. search needs)
+    (λ c. omega arith)
     lower-max-requires
-    enum-known-v
-    greater-requires
+    (λ c. search needs)
+    (λ c κs. search needs)
     returns
     returns-2)

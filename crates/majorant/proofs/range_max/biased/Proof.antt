@@ -12,7 +12,10 @@ add-result : tie.Need-add-result
 add-result c = sum-fits (c .args .c) (c .fits .c)
 
 cast-result-2 : tie.Need-cast-result-2
-cast-result-2 c = (not-negative (c .args .c) (c .fits .c), record { fits = lt-of-lt-of-le (is-biased (c .args .c) (c .fits .c) .1) (lit≤ {m = 4294967296} {n = 18446744073709551616} tt) })
+cast-result-2 c = (
+  not-negative (c .args .c) (c .fits .c),
+  record { fits = lt-of-lt-of-le (is-biased (c .args .c) (c .fits .c) .1) (lit≤ {m = 4294967296} {n = 18446744073709551616} tt) },
+)
 
 returns : tie.Need-returns
 returns c = is-biased (c .args .c) (c .fits .c)

@@ -8,24 +8,11 @@ use Rattle.sparse_grid.specs.Signs.{seen}
 use Rattle.majorant.proofs.range_max.intersect_bounds.Statement.{statement}
 use Rattle.majorant.proofs.range_max.intersect_bounds.Tie as tie
 
-lifted-requires : tie.Need-lifted-requires
-lifted-requires c κs = ap blockIn (seen (c .fits .block)) ∙ c .pre
-
-mul-start : tie.Need-mul-start
-mul-start c = search needs
-
-higher-requires : tie.Need-higher-requires
-higher-requires c κs = search needs
-
-add-lesser : tie.Need-add-lesser
-add-lesser c = search needs
-
-lesser-requires : tie.Need-lesser-requires
-lesser-requires c κs = search needs
-
 returns : tie.Need-returns
 returns c =
-    let s : c .before .before .lifted .result ≡ raised (c .before .before .before .args .block) = c .before .before .lifted .ensures .0 ∙ ap raised (seen (c .before .before .before .fits .block)) in
+    let d = c .before .before in
+    let b = d .before in
+    let s : d .lifted .result ≡ raised (b .args .block) = d .lifted .ensures .0 ∙ ap raised (seen (b .fits .block)) in
     let h = c .before .higher .ensures in
     let l = c .lesser .ensures in
     record {
@@ -39,4 +26,10 @@ returns c =
 pub intersect-bounds-spec : {M : Type 1} → statement M
 intersect-bounds-spec =
     tie.close
-    (tie.spec lifted-requires mul-start higher-requires add-lesser lesser-requires returns)
+    (tie.spec
+    (λ c κs. ap blockIn (seen (c .fits .block)) ∙ c .pre)
+    (λ c. search needs)
+    (λ c κs. search needs)
+    (λ c. search needs)
+    (λ c κs. search needs)
+    returns)

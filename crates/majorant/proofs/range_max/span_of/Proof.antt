@@ -8,23 +8,16 @@ use Rattle.sparse_grid.specs.Signs.{seen}
 use Rattle.majorant.proofs.range_max.span_of.Statement.{statement}
 use Rattle.majorant.proofs.range_max.span_of.Tie as tie
 
-biased-requires : tie.Need-biased-requires
-biased-requires c κs = search needs
-
-biased-requires-2 : tie.Need-biased-requires-2
-biased-requires-2 c κs = search needs
-
-add-t5 : tie.Need-add-t5
-add-t5 c = omega arith
-
 returns : tie.Need-returns
 returns c =
+    let f = c .before .before .fits in
+    let e : c .biased2 .result + 1 - 1 ≡ c .biased2 .result = omega arith in
     record {
-      low = sym (seen (c .before .before .fits .lo)) ∙ c .before .biased .ensures .0;
-      high = let e : c .biased2 .result + 1 - 1 ≡ c .biased2 .result = omega arith in sym (seen (c .before .before .fits .hi)) ∙ c .biased2 .ensures .0 ∙ ap (back 2147483648) (sym e);
+      low = sym (seen (f .lo)) ∙ c .before .biased .ensures .0;
+      high = sym (seen (f .hi)) ∙ c .biased2 .ensures .0 ∙ ap (back 2147483648) (sym e);
       some = omega arith;
       top = omega (arith, c .biased2 .ensures .1);
     }
 
 pub span-of-spec : {M : Type 1} → statement M
-span-of-spec = tie.close (tie.spec biased-requires biased-requires-2 add-t5 returns)
+span-of-spec = tie.close (tie.spec (λ c κs. search needs) (λ c κs. search needs) (λ c. omega arith) returns)

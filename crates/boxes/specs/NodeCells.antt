@@ -1,5 +1,6 @@
 -- A part of a box that lies in one cell of a node: all of its places go by one entry.
 use Prim.Native.Nat.{ℕ, zero, suc, _+_, _-_, _*_, _/_, _%_, _≤_, _<_}
+use native.Mathlib.Nat.{le-trans}
 use native.Mathlib.Omega.{arith}
 use mathlib.Core.Path.{_≡_, sym, ap, _∙_, subst}
 use mathlib.Core.List.{List}
@@ -10,17 +11,18 @@ use Rattle.float.specs.Literal.{zero-literal}
 use Rattle.sparse_grid.specs.declared.Entry.{Entry}
 use Rattle.sparse_grid.specs.declared.Entry.the-variants.{Child, Tile}
 use Rattle.sparse_grid.specs.Tables.{entryOf, entryAt}
-use Rattle.majorant.specs.declared.range_max.Span.{Span}
-use Rattle.majorant.specs.Boxes.{greater}
-use Rattle.majorant.specs.Most.{Most}
-use Rattle.majorant.specs.RangeMax.{Within, Full, InCell, entryRead, leafRead, lowerRead, upperRead, lowerSlot, upperSlot, childIn}
-use Rattle.majorant.proofs.MostLaws.{flat, most-as}
+use Rattle.boxes.specs.declared.Span.{Span}
+use Rattle.boxes.specs.Boxes.{greater}
+use Rattle.boxes.specs.Most.{Most}
+use Rattle.boxes.specs.RangeMax.{Within, Full, Cut, InCell, entryRead, leafRead, lowerRead, upperRead, lowerSlot, upperSlot, childIn}
+use Rattle.boxes.specs.MostLaws.{flat, most-as}
 
-module _ {f : ℕ → ℕ → ℕ → Float} (g : ℕ → ℕ → ℕ → ℕ → Float) (x y z : Span) {e : Entry} (same : (a b c : ℕ) → Within x y z a b c → f a b c ≡ entryRead e (λ j. g j a b c)) where
+module _ {f : ℕ → ℕ → ℕ → Float} (g : ℕ → ℕ → ℕ → ℕ → Float) (x y z : Span) {e : Entry}
+    (same : (a b c : ℕ) → Within x y z a b c → f a b c ≡ entryRead e (λ j. g j a b c)) where
   pub cell-tile : Full x y z → {v r : Float} → e ≡ Tile v → r ≡ greater (ofBits binary32 0) v → Most f (Within x y z) r
   cell-tile full {v} {r} h q =
       subst (λ (w : Float). Most f (Within x y z) w) (sym (q ∙ ap (λ (w : Float). greater w v) (zero-literal binary32)))
-      (flat (x .lo) (x .hi) (y .lo) (y .hi) (z .lo) (z .hi) (full .x-some) (full .y-some) (full .z-some) v (λ a b c s. same a b c s ∙ ap (λ (k : Entry). entryRead k (λ j. g j a b c)) h))
+      (flat (full .x-some) (full .y-some) (full .z-some) v (λ a b c s. same a b c s ∙ ap (λ (k : Entry). entryRead k (λ j. g j a b c)) h))
 
   pub cell-child : {j : ℕ} {r : Float} → e ≡ Child j → Most (g j) (Within x y z) r → Most f (Within x y z) r
   cell-child h m = most-as (λ a b c s. sym (same a b c s ∙ ap (λ (k : Entry). entryRead k (λ j. g j a b c)) h)) m
@@ -35,7 +37,8 @@ same128 a x h l = omega arith
 
 module _ (x y z : Span) where
   pub lower-same : (links : List ℕ) (values leaf : List Float) (k : ℕ) → InCell 8 x → InCell 8 y → InCell 8 z
-      → (a b c : ℕ) → Within x y z a b c → lowerRead links values leaf k a b c ≡ entryRead (entryAt links values (lowerSlot k (x .lo) (y .lo) (z .lo))) (λ j. leafRead leaf j a b c)
+      → (a b c : ℕ) → Within x y z a b c
+      → lowerRead links values leaf k a b c ≡ entryRead (entryAt links values (lowerSlot k (x .lo) (y .lo) (z .lo))) (λ j. leafRead leaf j a b c)
   unfolding lowerRead
   lower-same links values leaf k hx hy hz a b c s =
       let i : a % 128 / 8 ≡ x .lo % 128 / 8 = same8 (x .lo) a (omega arith) (omega arith) in
@@ -43,14 +46,49 @@ module _ (x y z : Span) where
       let h : c % 128 / 8 ≡ z .lo % 128 / 8 = same8 (z .lo) c (omega arith) (omega arith) in
       rw (i, j, h)
 
-  pub upper-same : (upperLinks : List ℕ) (upperValues : List Float) (links : List ℕ) (values leaf : List Float) (k : ℕ) → InCell 128 x → InCell 128 y → InCell 128 z
-      → (a b c : ℕ) → Within x y z a b c → upperRead upperLinks upperValues links values leaf k a b c ≡ entryRead (entryAt upperLinks upperValues (upperSlot k (x .lo) (y .lo) (z .lo))) (λ j. lowerRead links values leaf j a b c)
+  pub upper-same : (upperLinks : List ℕ) (upperValues : List Float) (links : List ℕ) (values leaf : List Float) (k : ℕ) → InCell 128 x → InCell 128 y
+      → InCell 128 z
+      → (a b c : ℕ) → Within x y z a b c
+      → upperRead upperLinks upperValues links values leaf k a b c
+      ≡ entryRead (entryAt upperLinks upperValues (upperSlot k (x .lo) (y .lo) (z .lo))) (λ j. lowerRead links values leaf j a b c)
   unfolding upperRead
   upper-same upperLinks upperValues links values leaf k hx hy hz a b c s =
       let i : a % 4096 / 128 ≡ x .lo % 4096 / 128 = same128 (x .lo) a (omega arith) (omega arith) in
       let j : b % 4096 / 128 ≡ y .lo % 4096 / 128 = same128 (y .lo) b (omega arith) (omega arith) in
       let h : c % 4096 / 128 ≡ z .lo % 4096 / 128 = same128 (z .lo) c (omega arith) (omega arith) in
       rw (i, j, h)
+
+-- ---- a full box whose span on one axis is cut at e
+module _ {x y z : Span} {side at e : ℕ} (f : Full x y z) where
+  pub cut-x : Cut side at (x .hi) e → Full (record { lo = at; hi = e }) y z
+  cut-x k = record {
+    x-some = k .more;
+    y-some = f .y-some;
+    z-some = f .z-some;
+    x-top = le-trans (k .within) (f .x-top);
+    y-top = f .y-top;
+    z-top = f .z-top;
+  }
+
+  pub cut-y : Cut side at (y .hi) e → Full x (record { lo = at; hi = e }) z
+  cut-y k = record {
+    x-some = f .x-some;
+    y-some = k .more;
+    z-some = f .z-some;
+    x-top = f .x-top;
+    y-top = le-trans (k .within) (f .y-top);
+    z-top = f .z-top;
+  }
+
+  pub cut-z : Cut side at (z .hi) e → Full x y (record { lo = at; hi = e })
+  cut-z k = record {
+    x-some = f .x-some;
+    y-some = f .y-some;
+    z-some = k .more;
+    x-top = f .x-top;
+    y-top = f .y-top;
+    z-top = le-trans (k .within) (f .z-top);
+  }
 
 -- ---- children
 

@@ -6,7 +6,7 @@ use mathlib.Core.Bool.{Bool, true, false, not, cond}
 use lib.IntN.{ℤ, pos, negsuc, _+ℤ_, _-ℤ_, sucℤ, subℕ, +ℤ-assoc, +ℤ-comm, +ℤ-negℤ-cancel, -ℤ-+ℤ-cancel}
 use lib.Signed.{leZ}
 use lib.Dec.{T, ltb, leb→le, le→leb, ltb→lt, nltb→le}
-use Rattle.majorant.specs.Boxes.{span, count}
+use Rattle.boxes.specs.Boxes.{span, count}
 
 either : (c : Bool) (x y : ℤ) (P : ℤ → Type 0) → (T c → P x) → (T (not c) → P y) → P (cond c x y)
 either true x y P f g = f tt
@@ -22,7 +22,8 @@ sub-pos a b c e = either (ltb a b) (negsuc (b - suc a)) (pos (a - b)) (λ z. z �
     less a b c e = omega arith
 
 sub-neg : (a b c : ℕ) → b ≡ suc (a + c) → subℕ a b ≡ negsuc c
-sub-neg a b c e = either (ltb a b) (negsuc (b - suc a)) (pos (a - b)) (λ z. z ≡ negsuc c) (λ t. ap negsuc (less a b c e)) (λ t. absurd (never a b c e (nltb→le a b t)))
+sub-neg a b c e =
+    either (ltb a b) (negsuc (b - suc a)) (pos (a - b)) (λ z. z ≡ negsuc c) (λ t. ap negsuc (less a b c e)) (λ t. absurd (never a b c e (nltb→le a b t)))
   where
     never : (a b c : ℕ) → b ≡ suc (a + c) → b ≤ a → ⊥
     never a b c e h = omega arith
@@ -53,12 +54,14 @@ offset lo z hi h k =
     below i j = omega arith
 
     gap : (i j : ℕ) → z ≡ lo +ℤ pos i → hi ≡ z +ℤ pos j → hi -ℤ lo ≡ pos (i + j)
-    gap i j p q = ap (λ (x : ℤ). x -ℤ lo) (q ∙ ap (λ (x : ℤ). x +ℤ pos j) p ∙ +ℤ-assoc lo (pos i) (pos j) ∙ +ℤ-comm lo (pos (i + j))) ∙ +ℤ-negℤ-cancel (pos (i + j)) lo
+    gap i j p q =
+        ap (λ (x : ℤ). x -ℤ lo) (q ∙ ap (λ (x : ℤ). x +ℤ pos j) p ∙ +ℤ-assoc lo (pos i) (pos j) ∙ +ℤ-comm lo (pos (i + j))) ∙ +ℤ-negℤ-cancel (pos (i + j)) lo
 
 -- z ≤ z + i
 pub above : (z : ℤ) (i : ℕ) → T (leZ z (z +ℤ pos i))
 above (pos a) i = le→leb a (a + i) (omega arith)
-above (negsuc a) i = either (ltb i (suc a)) (negsuc (suc a - suc i)) (pos (i - suc a)) (λ z. T (leZ (negsuc a) z)) (λ t. le→leb (suc a - suc i) a (less a i)) (λ t. tt)
+above (negsuc a) i =
+    either (ltb i (suc a)) (negsuc (suc a - suc i)) (pos (i - suc a)) (λ z. T (leZ (negsuc a) z)) (λ t. le→leb (suc a - suc i) a (less a i)) (λ t. tt)
   where
     less : (a i : ℕ) → suc a - suc i ≤ a
     less a i = omega arith
@@ -71,7 +74,8 @@ within lo hi i h = go (hi -ℤ lo) refl h
 
     go : (d : ℤ) → hi -ℤ lo ≡ d → i < count d → T (leZ (lo +ℤ pos i) hi)
     go (pos n) e l =
-        let r : hi ≡ lo +ℤ pos i +ℤ pos (n - i) = sym (-ℤ-+ℤ-cancel hi lo) ∙ ap (λ (x : ℤ). x +ℤ lo) e ∙ +ℤ-comm (pos n) lo ∙ ap (λ (k : ℕ). lo +ℤ pos k) (split i n l) ∙ sym (+ℤ-assoc lo (pos i) (pos (n - i))) in
+        let r : hi ≡ lo +ℤ pos i +ℤ pos (n - i) = sym (-ℤ-+ℤ-cancel hi lo) ∙ ap (λ (x : ℤ). x +ℤ lo) e ∙ +ℤ-comm (pos n) lo
+        ∙ ap (λ (k : ℕ). lo +ℤ pos k) (split i n l) ∙ sym (+ℤ-assoc lo (pos i) (pos (n - i))) in
         subst (λ (x : ℤ). T (leZ (lo +ℤ pos i) x)) (sym r) (above (lo +ℤ pos i) (n - i))
     go (negsuc n) e l = absurd (native.Mathlib.Nat.not-suc-le-zero l)
 

@@ -10,8 +10,8 @@ use lib.Signed.{leZ, leZ-yes}
 use lib.Dec.{T}
 use lib.Ieee.{Float, nan, inf, fin, lt, le, isNan}
 use Rattle.layout.specs.Coordinates.{Coord}
-use Rattle.majorant.specs.Boxes.{Box, In, Greatest, greater, greatestRun, span, boxMaximum}
-use Rattle.majorant.specs.Offsets.{offset, within, above}
+use Rattle.boxes.specs.Boxes.{Box, In, Greatest, greater, greatestRun, span, boxMaximum}
+use Rattle.boxes.specs.Offsets.{offset, within, above}
 use Rattle.float.specs.Zero.{+0}
 use Rattle.float.specs.Tests.{yes}
 use Rattle.float.specs.Ordered.{le→not-lt, le-same, not-lt-through}
@@ -76,7 +76,8 @@ unfolding greatestRun
 run-covers zero from f i h = absurd (native.Mathlib.Nat.not-suc-le-zero h)
 run-covers (suc n) from f i h = elim (eq-or-lt-of-le (le-of-suc-le-suc h)) [
   | inl e ↦ subst (λ (k : ℕ). lt (greatestRun (suc n) from f) (f (from +ℤ pos k)) ≡ false) (sym e) (greater-r (greatestRun n from f) (f (from +ℤ pos n)))
-  | inr l ↦ not-lt-through (greatestRun (suc n) from f) (greatestRun n from f) (f (from +ℤ pos i)) (run-number n from f) (greater-l (greatestRun n from f) (f (from +ℤ pos n))) (run-covers n from f i l)
+  | inr l ↦ not-lt-through (greatestRun (suc n) from f) (greatestRun n from f) (f (from +ℤ pos i)) (run-number n from f)
+      (greater-l (greatestRun n from f) (f (from +ℤ pos n))) (run-covers n from f i l)
 ]
 
 abbrev Reached : ℕ → ℤ → (ℤ → Float) → Float → Type 0
@@ -104,7 +105,8 @@ run-reached (suc n) from f = go (lt (greatestRun n from f) (f (from +ℤ pos n))
     last : (n : ℕ) → n < suc n
     last n = omega arith
 
-    go : (c : Bool) → lt (greatestRun n from f) (f (from +ℤ pos n)) ≡ c → Reached n from f (greatestRun n from f) → Reached (suc n) from f (cond c (f (from +ℤ pos n)) (greatestRun n from f))
+    go : (c : Bool) → lt (greatestRun n from f) (f (from +ℤ pos n)) ≡ c → Reached n from f (greatestRun n from f)
+        → Reached (suc n) from f (cond c (f (from +ℤ pos n)) (greatestRun n from f))
     go true e (inl z) = inr (n, last n, refl, subst (λ (x : Float). lt x (f (from +ℤ pos n)) ≡ true) z e)
     go true e (inr q) = inr (n, last n, refl, lt-through +0 (greatestRun n from f) (f (from +ℤ pos n)) (q .3) e)
     go false e (inl z) = inl z
@@ -120,7 +122,10 @@ not-zero r h e = mathlib.Core.Bool.true≢false (sym h ∙ ap (lt +0) e ∙ zero
 
 pub max-number : (read : Coord → Float) (b : Box) → T (not (isNan (boxMaximum read b)))
 unfolding boxMaximum
-max-number read b = run-number (span (b .lo .x) (b .hi .x)) (b .lo .x) (λ x. greatestRun (span (b .lo .y) (b .hi .y)) (b .lo .y) (λ y. greatestRun (span (b .lo .z) (b .hi .z)) (b .lo .z) (λ z. read (record { x = x; y = y; z = z }))))
+max-number read b =
+    run-number (span (b .lo .x) (b .hi .x)) (b .lo .x)
+    (λ x. greatestRun (span (b .lo .y) (b .hi .y)) (b .lo .y)
+    (λ y. greatestRun (span (b .lo .z) (b .hi .z)) (b .lo .z) (λ z. read (record { x = x; y = y; z = z }))))
 
 pub greatest : (read : Coord → Float) (b : Box) → Greatest read b (boxMaximum read b)
 unfolding boxMaximum
@@ -140,30 +145,53 @@ greatest read b = record { covers = cover; reached = reach }
         let (i, i-in, i-is) = offset (b .lo .x) (c .x) (b .hi .x) (h .x-low .le) (h .x-high .le) in
         let (j, j-in, j-is) = offset (b .lo .y) (c .y) (b .hi .y) (h .y-low .le) (h .y-high .le) in
         let (k, k-in, k-is) = offset (b .lo .z) (c .z) (b .hi .z) (h .z-low .le) (h .z-high .le) in
-        let one : lt all (plane (c .x)) ≡ false = subst (λ (x : ℤ). lt all (plane x) ≡ false) (sym i-is) (run-covers (span (b .lo .x) (b .hi .x)) (b .lo .x) (λ x. plane x) i i-in) in
-        let two : lt (plane (c .x)) (line (c .x) (c .y)) ≡ false = subst (λ (y : ℤ). lt (plane (c .x)) (line (c .x) y) ≡ false) (sym j-is) (run-covers (span (b .lo .y) (b .hi .y)) (b .lo .y) (λ y. line (c .x) y) j j-in) in
-        let three : lt (line (c .x) (c .y)) (read c) ≡ false = subst (λ (z : ℤ). lt (line (c .x) (c .y)) (read (record { x = c .x; y = c .y; z = z })) ≡ false) (sym k-is) (run-covers (span (b .lo .z) (b .hi .z)) (b .lo .z) (λ z. read (record { x = c .x; y = c .y; z = z })) k k-in) in
+        let one : lt all (plane (c .x))
+        ≡ false = subst (λ (x : ℤ). lt all (plane x) ≡ false) (sym i-is) (run-covers (span (b .lo .x) (b .hi .x)) (b .lo .x) (λ x. plane x) i i-in) in
+        let two : lt (plane (c .x)) (line (c .x) (c .y))
+        ≡ false =
+        subst (λ (y : ℤ). lt (plane (c .x)) (line (c .x) y) ≡ false) (sym j-is)
+        (run-covers (span (b .lo .y) (b .hi .y)) (b .lo .y) (λ y. line (c .x) y) j j-in) in
+        let three : lt (line (c .x) (c .y)) (read c)
+        ≡ false =
+        subst (λ (z : ℤ). lt (line (c .x) (c .y)) (read (record { x = c .x; y = c .y; z = z })) ≡ false) (sym k-is)
+        (run-covers (span (b .lo .z) (b .hi .z)) (b .lo .z) (λ z. read (record { x = c .x; y = c .y; z = z })) k k-in) in
         not-lt-through all (plane (c .x)) (read c) (run-number (span (b .lo .y) (b .hi .y)) (b .lo .y) (λ y. line (c .x) y)) one
-        (not-lt-through (plane (c .x)) (line (c .x) (c .y)) (read c) (run-number (span (b .lo .z) (b .hi .z)) (b .lo .z) (λ z. read (record { x = c .x; y = c .y; z = z }))) two three)
+        (not-lt-through (plane (c .x)) (line (c .x) (c .y)) (read c)
+        (run-number (span (b .lo .z) (b .hi .z)) (b .lo .z) (λ z. read (record { x = c .x; y = c .y; z = z }))) two three)
 
-    in-z : (x y : ℤ) → T (leZ (b .lo .x) x) → T (leZ x (b .hi .x)) → T (leZ (b .lo .y) y) → T (leZ y (b .hi .y)) → Reached (span (b .lo .z) (b .hi .z)) (b .lo .z) (λ z. read (record { x = x; y = y; z = z })) (line x y) → lt +0 (line x y) ≡ true → (c : Coord) × In b c × (read c ≡ line x y)
+    in-z : (x y : ℤ) → T (leZ (b .lo .x) x) → T (leZ x (b .hi .x)) → T (leZ (b .lo .y) y) → T (leZ y (b .hi .y))
+        → Reached (span (b .lo .z) (b .hi .z)) (b .lo .z) (λ z. read (record { x = x; y = y; z = z })) (line x y) → lt +0 (line x y) ≡ true
+        → (c : Coord) × In b c × (read c ≡ line x y)
     in-z x y xl xh yl yh (inl e) p = absurd (not-zero (line x y) p e)
     in-z x y xl xh yl yh (inr q) p =
-        let z = b .lo .z +ℤ pos (q .0) in
-        (record { x = x; y = y; z = z }, record { x-low = leZ-yes xl; x-high = leZ-yes xh; y-low = leZ-yes yl; y-high = leZ-yes yh; z-low = leZ-yes (above (b .lo .z) (q .0)); z-high = leZ-yes (within (b .lo .z) (b .hi .z) (q .0) (q .1)) }, q .2)
+        let z = b .lo .z +ℤ pos (q .0) in (
+          record { x = x; y = y; z = z },
+          record {
+            x-low = leZ-yes xl;
+            x-high = leZ-yes xh;
+            y-low = leZ-yes yl;
+            y-high = leZ-yes yh;
+            z-low = leZ-yes (above (b .lo .z) (q .0));
+            z-high = leZ-yes (within (b .lo .z) (b .hi .z) (q .0) (q .1));
+          },
+          q .2,
+        )
 
-    in-y : (x : ℤ) → T (leZ (b .lo .x) x) → T (leZ x (b .hi .x)) → Reached (span (b .lo .y) (b .hi .y)) (b .lo .y) (λ y. line x y) (plane x) → lt +0 (plane x) ≡ true → (c : Coord) × In b c × (read c ≡ plane x)
+    in-y : (x : ℤ) → T (leZ (b .lo .x) x) → T (leZ x (b .hi .x)) → Reached (span (b .lo .y) (b .hi .y)) (b .lo .y) (λ y. line x y) (plane x)
+        → lt +0 (plane x) ≡ true → (c : Coord) × In b c × (read c ≡ plane x)
     in-y x xl xh (inl e) p = absurd (not-zero (plane x) p e)
     in-y x xl xh (inr q) p =
         let y = b .lo .y +ℤ pos (q .0) in
-        let (c, i, e) = in-z x y xl xh (above (b .lo .y) (q .0)) (within (b .lo .y) (b .hi .y) (q .0) (q .1)) (run-reached (span (b .lo .z) (b .hi .z)) (b .lo .z) (λ z. read (record { x = x; y = y; z = z }))) (ap (lt +0) (q .2) ∙ p) in
+        let (c, i, e) = in-z x y xl xh (above (b .lo .y) (q .0)) (within (b .lo .y) (b .hi .y) (q .0) (q .1))
+        (run-reached (span (b .lo .z) (b .hi .z)) (b .lo .z) (λ z. read (record { x = x; y = y; z = z }))) (ap (lt +0) (q .2) ∙ p) in
         (c, i, e ∙ q .2)
 
     in-x : Reached (span (b .lo .x) (b .hi .x)) (b .lo .x) (λ x. plane x) all → (all ≡ +0) ⊎ ((c : Coord) × In b c × (read c ≡ all) × (lt +0 all ≡ true))
     in-x (inl e) = inl e
     in-x (inr q) =
         let x = b .lo .x +ℤ pos (q .0) in
-        let (c, i, e) = in-y x (above (b .lo .x) (q .0)) (within (b .lo .x) (b .hi .x) (q .0) (q .1)) (run-reached (span (b .lo .y) (b .hi .y)) (b .lo .y) (λ y. line x y)) (ap (lt +0) (q .2) ∙ q .3) in
+        let (c, i, e) = in-y x (above (b .lo .x) (q .0)) (within (b .lo .x) (b .hi .x) (q .0) (q .1))
+        (run-reached (span (b .lo .y) (b .hi .y)) (b .lo .y) (λ y. line x y)) (ap (lt +0) (q .2) ∙ q .3) in
         inr (c, i, e ∙ q .2, q .3)
 
     reach : (all ≡ +0) ⊎ ((c : Coord) × In b c × (read c ≡ all) × (lt +0 all ≡ true))
@@ -185,9 +213,11 @@ run-same (suc n) from f g h =
 pub max-same : (read other : Coord → Float) (b : Box) → ((c : Coord) → In b c → read c ≡ other c) → boxMaximum read b ≡ boxMaximum other b
 unfolding boxMaximum
 max-same read other b h =
-    run-same (span (b .lo .x) (b .hi .x)) (b .lo .x) (λ x. greatestRun (span (b .lo .y) (b .hi .y)) (b .lo .y) (λ y. line read x y)) (λ x. greatestRun (span (b .lo .y) (b .hi .y)) (b .lo .y) (λ y. line other x y)) (λ i I.
+    run-same (span (b .lo .x) (b .hi .x)) (b .lo .x) (λ x. greatestRun (span (b .lo .y) (b .hi .y)) (b .lo .y) (λ y. line read x y))
+    (λ x. greatestRun (span (b .lo .y) (b .hi .y)) (b .lo .y) (λ y. line other x y)) (λ i I.
     run-same (span (b .lo .y) (b .hi .y)) (b .lo .y) (λ y. line read (b .lo .x +ℤ pos i) y) (λ y. line other (b .lo .x +ℤ pos i) y) (λ j J.
-    run-same (span (b .lo .z) (b .hi .z)) (b .lo .z) (λ z. read (record { x = b .lo .x +ℤ pos i; y = b .lo .y +ℤ pos j; z = z })) (λ z. other (record { x = b .lo .x +ℤ pos i; y = b .lo .y +ℤ pos j; z = z })) (λ k K.
+    run-same (span (b .lo .z) (b .hi .z)) (b .lo .z) (λ z. read (record { x = b .lo .x +ℤ pos i; y = b .lo .y +ℤ pos j; z = z }))
+    (λ z. other (record { x = b .lo .x +ℤ pos i; y = b .lo .y +ℤ pos j; z = z })) (λ k K.
     h (record { x = b .lo .x +ℤ pos i; y = b .lo .y +ℤ pos j; z = b .lo .z +ℤ pos k }) (record {
       x-low = leZ-yes (above (b .lo .x) i);
       x-high = leZ-yes (within (b .lo .x) (b .hi .x) i I);

@@ -1,4 +1,5 @@
--- What only the contracts of range_max's private functions cite. Coordinates here are biased: a coordinate plus 2^31, a block's number plus 2^19.
+-- Boxes by spans, and what is read below a node and by the roots: what only private contracts cite.
+-- Coordinates here are biased: a coordinate plus 2^31, a block's number plus 2^19.
 use Prim.Native.Nat.{ℕ, _+_, _-_, _*_, _/_, _%_, _≤_, _<_}
 use mathlib.Core.Path.{_≡_}
 use mathlib.Core.Bool.{Bool, true, _||_}
@@ -16,8 +17,8 @@ use Rattle.sparse_grid.specs.Validate.{earlier}
 use Rattle.sparse_grid.specs.Lookup.{readIn}
 use Rattle.sparse_grid.specs.Biased.{back, place}
 use Rattle.sparse_grid.specs.Count.{sum, bit}
-use Rattle.majorant.specs.declared.range_max.Span.{Span}
-use Rattle.majorant.specs.Most.{Most, Inside}
+use Rattle.boxes.specs.declared.Span.{Span}
+use Rattle.boxes.specs.Most.{Most, Inside}
 
 -- ---- boxes
 
@@ -87,7 +88,8 @@ abbrev pub upperSlot : ℕ → ℕ → ℕ → ℕ → ℕ
 upperSlot k x y z = 32768 * k + ((x % 4096 / 128 * 32 + y % 4096 / 128) * 32 + z % 4096 / 128)
 
 unfoldable pub upperRead : List ℕ → List Float → List ℕ → List Float → List Float → ℕ → ℕ → ℕ → ℕ → Float
-upperRead upperLinks upperValues links values leaf k x y z = entryRead (entryAt upperLinks upperValues (upperSlot k x y z)) (λ j. lowerRead links values leaf j x y z)
+upperRead upperLinks upperValues links values leaf k x y z =
+    entryRead (entryAt upperLinks upperValues (upperSlot k x y z)) (λ j. lowerRead links values leaf j x y z)
 
 -- node k of the lower table is there, and so is every leaf that the table names
 pub record LowerIn (links : List ℕ) (values leaf : List Float) (k : ℕ) : Type 0 where

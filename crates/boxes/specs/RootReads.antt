@@ -15,7 +15,7 @@ use Rattle.sparse_grid.specs.Validate.{earlier}
 use Rattle.sparse_grid.specs.Lookup.{refused, lookup, rootsFrom, rootEntry, upperEntry, lowerEntry, upperAt, lowerAt, leafAt, valueIn}
 use Rattle.sparse_grid.specs.Biased.{place, mod-8, mod-128, mod-4096, shr-4096}
 use Rattle.sparse_grid.specs.Sound.{Sound}
-use Rattle.majorant.specs.RangeMax.{entryRead, leafRead, lowerRead, upperRead, lowerSlot, upperSlot, readAt, blockAtPlace}
+use Rattle.boxes.specs.RangeMax.{entryRead, leafRead, lowerRead, upperRead, lowerSlot, upperSlot, readAt, blockAtPlace}
 
 -- ---- below the roots
 
@@ -24,29 +24,35 @@ module _ (g : Grid) (s : Sound g) (x y z : ℕ) where
   unfolding leafRead
   leaf-at k h = rw (le-leb (512 * (k + 1)) (length (g .leafValues)) h, mod-8 x, mod-8 y, mod-8 z) (ap (λ (n : ℕ). getD (g .leafValues) n +0) (omega arith))
 
-  lower-entry : (l : ℕ) (v : Float) → 512 * l ≤ length (g .leafValues) → valueIn (lowerEntry g (place x y z) (entryOf l v)) ≡ entryRead (entryOf l v) (λ j. leafRead (g .leafValues) j x y z)
+  lower-entry : (l : ℕ) (v : Float) → 512 * l ≤ length (g .leafValues)
+      → valueIn (lowerEntry g (place x y z) (entryOf l v)) ≡ entryRead (entryOf l v) (λ j. leafRead (g .leafValues) j x y z)
   lower-entry zero v h = refl
   lower-entry (suc j) v h = leaf-at j (omega arith)
 
-  lower-at : (k : ℕ) → 4096 * (k + 1) ≤ length (g .lowerLinks) → valueIn (lowerAt g k (place x y z)) ≡ lowerRead (g .lowerLinks) (g .lowerValues) (g .leafValues) k x y z
+  lower-at : (k : ℕ) → 4096 * (k + 1) ≤ length (g .lowerLinks)
+      → valueIn (lowerAt g k (place x y z)) ≡ lowerRead (g .lowerLinks) (g .lowerValues) (g .leafValues) k x y z
   unfolding lowerRead
   lower-at k h =
       let e : 4096 * k + slot 16 8 (place x y z) ≡ lowerSlot k x y z = rw (mod-128 x, mod-128 y, mod-128 z) (omega arith) in
       rw (le-leb (4096 * (k + 1)) (length (g .lowerLinks)) h, e)
       (lower-entry (getD (g .lowerLinks) (lowerSlot k x y z) 0) (getD (g .lowerValues) (lowerSlot k x y z) +0) (s .lower-linked (lowerSlot k x y z)))
 
-  upper-entry : (l : ℕ) (v : Float) → 4096 * l ≤ length (g .lowerLinks) → valueIn (upperEntry g (place x y z) (entryOf l v)) ≡ entryRead (entryOf l v) (λ j. lowerRead (g .lowerLinks) (g .lowerValues) (g .leafValues) j x y z)
+  upper-entry : (l : ℕ) (v : Float) → 4096 * l ≤ length (g .lowerLinks)
+      → valueIn (upperEntry g (place x y z) (entryOf l v)) ≡ entryRead (entryOf l v) (λ j. lowerRead (g .lowerLinks) (g .lowerValues) (g .leafValues) j x y z)
   upper-entry zero v h = refl
   upper-entry (suc j) v h = lower-at j (omega arith)
 
-  upper-at : (k : ℕ) → 32768 * (k + 1) ≤ length (g .upperLinks) → valueIn (upperAt g k (place x y z)) ≡ upperRead (g .upperLinks) (g .upperValues) (g .lowerLinks) (g .lowerValues) (g .leafValues) k x y z
+  upper-at : (k : ℕ) → 32768 * (k + 1) ≤ length (g .upperLinks)
+      → valueIn (upperAt g k (place x y z)) ≡ upperRead (g .upperLinks) (g .upperValues) (g .lowerLinks) (g .lowerValues) (g .leafValues) k x y z
   unfolding upperRead
   upper-at k h =
       let e : 32768 * k + slot 32 128 (place x y z) ≡ upperSlot k x y z = rw (mod-4096 x, mod-4096 y, mod-4096 z) (omega arith) in
       rw (le-leb (32768 * (k + 1)) (length (g .upperLinks)) h, e)
       (upper-entry (getD (g .upperLinks) (upperSlot k x y z) 0) (getD (g .upperValues) (upperSlot k x y z) +0) (s .upper-linked (upperSlot k x y z)))
 
-  root-entry : (l : ℕ) (v : Float) → 32768 * l ≤ length (g .upperLinks) → valueIn (rootEntry g (place x y z) (entryOf l v)) ≡ entryRead (entryOf l v) (λ j. upperRead (g .upperLinks) (g .upperValues) (g .lowerLinks) (g .lowerValues) (g .leafValues) j x y z)
+  root-entry : (l : ℕ) (v : Float) → 32768 * l ≤ length (g .upperLinks)
+      → valueIn (rootEntry g (place x y z) (entryOf l v))
+      ≡ entryRead (entryOf l v) (λ j. upperRead (g .upperLinks) (g .upperValues) (g .lowerLinks) (g .lowerValues) (g .leafValues) j x y z)
   root-entry zero v h = refl
   root-entry (suc j) v h = upper-at j (omega arith)
 
@@ -75,7 +81,8 @@ module _ (g : Grid) (s : Sound g) (x y z : ℕ) where
   by-roots = ap (λ (f : ℕ). valueIn (cond (eqb f 0) (rootsFrom g (length (g .rootLinks)) 0 (place x y z)) (refused f))) (s .paired)
 
   pub found : (i : ℕ) → i < length (g .rootLinks) → earlier g i (blockAtPlace x y z) ≡ false → sameBlock (blockAt g i) (blockAtPlace x y z) ≡ true
-      → readAt g x y z ≡ entryRead (entryAt (g .rootLinks) (g .rootValues) i) (λ j. upperRead (g .upperLinks) (g .upperValues) (g .lowerLinks) (g .lowerValues) (g .leafValues) j x y z)
+      → readAt g x y z ≡ entryRead (entryAt (g .rootLinks) (g .rootValues) i)
+      (λ j. upperRead (g .upperLinks) (g .upperValues) (g .lowerLinks) (g .lowerValues) (g .leafValues) j x y z)
   unfolding rootsFrom
   found i l h k =
       let n = length (g .rootLinks) - (i + 1) in
@@ -83,7 +90,9 @@ module _ (g : Grid) (s : Sound g) (x y z : ℕ) where
       by-roots
       ∙ ap (λ (m : ℕ). valueIn (rootsFrom g m 0 (place x y z))) e
       ∙ ap valueIn (skip g (place x y z) i (suc n) (ap (earlier g i) (block-place x y z) ∙ h))
-      ∙ ap (λ (b : Bool). valueIn (cond b (rootEntry g (place x y z) (entryAt (g .rootLinks) (g .rootValues) i)) (rootsFrom g n (i + 1) (place x y z)))) (ap (sameBlock (blockAt g i)) (block-place x y z) ∙ k)
+      ∙ ap (λ (b : Bool). valueIn
+      (cond b (rootEntry g (place x y z) (entryAt (g .rootLinks) (g .rootValues) i)) (rootsFrom g n (i + 1) (place x y z))))
+      (ap (sameBlock (blockAt g i)) (block-place x y z) ∙ k)
       ∙ root-entry g s x y z (getD (g .rootLinks) i 0) (getD (g .rootValues) i +0) (s .root-linked i)
 
   pub missed : earlier g (length (g .rootLinks)) (blockAtPlace x y z) ≡ false → readAt g x y z ≡ g .background

@@ -12,8 +12,8 @@ use Rattle.float.specs.Zero.{+0}
 use Rattle.float.specs.Literal.{zero-literal}
 use Rattle.float.specs.Plain.{plain-number, Up, Plain, up-plain, not-below-zero}
 use Rattle.float.specs.Ordered.{not-lt-through, lt-turned, same-not-lt}
-use Rattle.majorant.specs.Boxes.{greater}
-use Rattle.majorant.specs.Most.{Most, Inside}
+use Rattle.boxes.specs.Boxes.{greater}
+use Rattle.boxes.specs.Most.{Most, Inside}
 
 side : {A B : Type 0} (a k : ℕ) → (a < k → A) → (k ≤ a → B) → A ⊎ B
 side {A} {B} a k p q = go (ltb a k) refl
@@ -37,14 +37,16 @@ module _ {f : ℕ → ℕ → ℕ → Float} where
   }
 
   -- two sets whose join is U
-  pub most-join : {S T U : ℕ → ℕ → ℕ → Type 0} {r s : Float} → ((x y z : ℕ) → S x y z → U x y z) → ((x y z : ℕ) → T x y z → U x y z) → ((x y z : ℕ) → U x y z → S x y z ⊎ T x y z) → Most f S r → Most f T s → Most f U (greater r s)
+  pub most-join : {S T U : ℕ → ℕ → ℕ → Type 0} {r s : Float} → ((x y z : ℕ) → S x y z → U x y z) → ((x y z : ℕ) → T x y z → U x y z)
+      → ((x y z : ℕ) → U x y z → S x y z ⊎ T x y z) → Most f S r → Most f T s → Most f U (greater r s)
   most-join {S} {T} {U} {r} {s} i j o m n = go (lt r s) refl
     where
       left : lt r s ≡ false → (x y z : ℕ) → S x y z ⊎ T x y z → lt r (f x y z) ≡ false
       left e x y z w = ⊎-elim (λ a. m .covers x y z a) (λ b. not-lt-through r s (f x y z) (plain-number (up-plain s (most-up n))) e (n .covers x y z b)) w
 
       right : lt r s ≡ true → (x y z : ℕ) → S x y z ⊎ T x y z → lt s (f x y z) ≡ false
-      right e x y z w = ⊎-elim (λ a. not-lt-through s r (f x y z) (plain-number (up-plain r (most-up m))) (lt-turned r s e) (m .covers x y z a)) (λ b. n .covers x y z b) w
+      right e x y z w =
+          ⊎-elim (λ a. not-lt-through s r (f x y z) (plain-number (up-plain r (most-up m))) (lt-turned r s e) (m .covers x y z a)) (λ b. n .covers x y z b) w
 
       go : (b : Bool) → lt r s ≡ b → Most f U (cond b s r)
       go true e = record {
@@ -73,7 +75,9 @@ zero-beside {r} p v = go (lt +0 v) refl
   where
     go : (b : Bool) → lt +0 v ≡ b → greater r (cond b v +0) ≡ greater r v
     go true e = refl
-    go false e = ap (λ (b : Bool). cond b +0 r) (not-below-zero p) ∙ sym (ap (λ (b : Bool). cond b v r) (not-lt-through r +0 v (plain-number (up-plain +0 (inl refl))) (not-below-zero p) e))
+    go false e =
+        ap (λ (b : Bool). cond b +0 r) (not-below-zero p)
+        ∙ sym (ap (λ (b : Bool). cond b v r) (not-lt-through r +0 v (plain-number (up-plain +0 (inl refl))) (not-below-zero p) e))
 
 -- another f that gives the same on the set
 pub most-as : {f g : ℕ → ℕ → ℕ → Float} {S : ℕ → ℕ → ℕ → Type 0} {r : Float} → ((x y z : ℕ) → S x y z → f x y z ≡ g x y z) → Most f S r → Most g S r
@@ -88,41 +92,46 @@ none {f} {S} n = subst (λ (r : Float). Most f S r) (sym (zero-literal binary32)
 
 -- ---- boxes
 
-module _ {f : ℕ → ℕ → ℕ → Float} (x0 x1 y0 y1 z0 z1 : ℕ) where
+module _ {f : ℕ → ℕ → ℕ → Float} {x0 x1 y0 y1 z0 z1 : ℕ} where
   -- a box cut in two across an axis, at k
-  pub join-x : (k : ℕ) {r s t : Float} → x0 ≤ k → k ≤ x1 → Most f (Inside x0 k y0 y1 z0 z1) r → Most f (Inside k x1 y0 y1 z0 z1) s → t ≡ greater r s → Most f (Inside x0 x1 y0 y1 z0 z1) t
-  join-x k h l m n e =
+  pub join-x : {k : ℕ} {r s t : Float} → x0 ≤ k → k ≤ x1 → Most f (Inside x0 k y0 y1 z0 z1) r → Most f (Inside k x1 y0 y1 z0 z1) s
+      → t ≡ greater r s → Most f (Inside x0 x1 y0 y1 z0 z1) t
+  join-x {k} h l m n e =
       subst (λ (v : Float). Most f (Inside x0 x1 y0 y1 z0 z1) v) (sym e)
       (most-join (λ x y z s. omega arith) (λ x y z s. omega arith) (λ x y z s. side x k (λ h. omega arith) (λ h. omega arith)) m n)
 
-  pub join-y : (k : ℕ) {r s t : Float} → y0 ≤ k → k ≤ y1 → Most f (Inside x0 x1 y0 k z0 z1) r → Most f (Inside x0 x1 k y1 z0 z1) s → t ≡ greater r s → Most f (Inside x0 x1 y0 y1 z0 z1) t
-  join-y k h l m n e =
+  pub join-y : {k : ℕ} {r s t : Float} → y0 ≤ k → k ≤ y1 → Most f (Inside x0 x1 y0 k z0 z1) r → Most f (Inside x0 x1 k y1 z0 z1) s
+      → t ≡ greater r s → Most f (Inside x0 x1 y0 y1 z0 z1) t
+  join-y {k} h l m n e =
       subst (λ (v : Float). Most f (Inside x0 x1 y0 y1 z0 z1) v) (sym e)
       (most-join (λ x y z s. omega arith) (λ x y z s. omega arith) (λ x y z s. side y k (λ h. omega arith) (λ h. omega arith)) m n)
 
-  pub join-z : (k : ℕ) {r s t : Float} → z0 ≤ k → k ≤ z1 → Most f (Inside x0 x1 y0 y1 z0 k) r → Most f (Inside x0 x1 y0 y1 k z1) s → t ≡ greater r s → Most f (Inside x0 x1 y0 y1 z0 z1) t
-  join-z k h l m n e =
+  pub join-z : {k : ℕ} {r s t : Float} → z0 ≤ k → k ≤ z1 → Most f (Inside x0 x1 y0 y1 z0 k) r → Most f (Inside x0 x1 y0 y1 k z1) s
+      → t ≡ greater r s → Most f (Inside x0 x1 y0 y1 z0 z1) t
+  join-z {k} h l m n e =
       subst (λ (v : Float). Most f (Inside x0 x1 y0 y1 z0 z1) v) (sym e)
       (most-join (λ x y z s. omega arith) (λ x y z s. omega arith) (λ x y z s. side z k (λ h. omega arith) (λ h. omega arith)) m n)
 
   -- a loop ends where its place is no more below the end
-  pub till-x : (k : ℕ) {r : Float} → k ≤ x1 → x1 ≤ k → Most f (Inside x0 k y0 y1 z0 z1) r → Most f (Inside x0 x1 y0 y1 z0 z1) r
-  till-x k h l = most-set (λ x y z s. omega arith) (λ x y z s. omega arith)
+  pub till-x : {k : ℕ} {r : Float} → k ≤ x1 → x1 ≤ k → Most f (Inside x0 k y0 y1 z0 z1) r → Most f (Inside x0 x1 y0 y1 z0 z1) r
+  till-x {k} h l = most-set (λ x y z s. omega arith) (λ x y z s. omega arith)
 
-  pub till-y : (k : ℕ) {r : Float} → k ≤ y1 → y1 ≤ k → Most f (Inside x0 x1 y0 k z0 z1) r → Most f (Inside x0 x1 y0 y1 z0 z1) r
-  till-y k h l = most-set (λ x y z s. omega arith) (λ x y z s. omega arith)
+  pub till-y : {k : ℕ} {r : Float} → k ≤ y1 → y1 ≤ k → Most f (Inside x0 x1 y0 k z0 z1) r → Most f (Inside x0 x1 y0 y1 z0 z1) r
+  till-y {k} h l = most-set (λ x y z s. omega arith) (λ x y z s. omega arith)
 
-  pub till-z : (k : ℕ) {r : Float} → k ≤ z1 → z1 ≤ k → Most f (Inside x0 x1 y0 y1 z0 k) r → Most f (Inside x0 x1 y0 y1 z0 z1) r
-  till-z k h l = most-set (λ x y z s. omega arith) (λ x y z s. omega arith)
+  pub till-z : {k : ℕ} {r : Float} → k ≤ z1 → z1 ≤ k → Most f (Inside x0 x1 y0 y1 z0 k) r → Most f (Inside x0 x1 y0 y1 z0 z1) r
+  till-z {k} h l = most-set (λ x y z s. omega arith) (λ x y z s. omega arith)
 
   -- a box with a place in it, on which f is v
-  pub flat : x0 < x1 → y0 < y1 → z0 < z1 → (v : Float) → ((x y z : ℕ) → Inside x0 x1 y0 y1 z0 z1 x y z → f x y z ≡ v) → Most f (Inside x0 x1 y0 y1 z0 z1) (greater +0 v)
+  pub flat : x0 < x1 → y0 < y1 → z0 < z1 → (v : Float) → ((x y z : ℕ) → Inside x0 x1 y0 y1 z0 z1 x y z → f x y z ≡ v)
+      → Most f (Inside x0 x1 y0 y1 z0 z1) (greater +0 v)
   flat a b c v e = most-flat v e x0 y0 z0 (record { x-low = le-refl x0; x-high = a; y-low = le-refl y0; y-high = b; z-low = le-refl z0; z-high = c })
 
 -- one place more along a row
-pub step-z : {f : ℕ → ℕ → ℕ → Float} (x y z0 z : ℕ) {r : Float} → z0 ≤ z → Most f (Inside x (x + 1) y (y + 1) z0 z) r → Most f (Inside x (x + 1) y (y + 1) z0 (z + 1)) (greater r (f x y z))
-step-z {f} x y z0 z {r} h m =
-    subst (λ (v : Float). Most f (Inside x (x + 1) y (y + 1) z0 (z + 1)) v) (zero-beside (up-plain r (most-up m)) (f x y z))
-    (join-z x (x + 1) y (y + 1) z0 (z + 1) z h (omega arith) m
-    (flat x (x + 1) y (y + 1) z (z + 1) (omega arith) (omega arith) (omega arith) (f x y z)
-    (λ a b c s. let i : a ≡ x = omega arith in let j : b ≡ y = omega arith in let k : c ≡ z = omega arith in cc)) refl)
+pub step-z : {f : ℕ → ℕ → ℕ → Float} (x y z0 z : ℕ) {r t : Float} → z0 ≤ z → Most f (Inside x (x + 1) y (y + 1) z0 z) r → t ≡ greater r (f x y z)
+    → Most f (Inside x (x + 1) y (y + 1) z0 (z + 1)) t
+step-z {f} x y z0 z {r} h m e =
+    join-z h (omega arith) m
+    (flat (omega arith) (omega arith) (omega arith) (f x y z)
+    (λ a b c s. let i : a ≡ x = omega arith in let j : b ≡ y = omega arith in let k : c ≡ z = omega arith in cc))
+    (e ∙ sym (zero-beside (up-plain r (most-up m)) (f x y z)))

@@ -1,0 +1,12 @@
+-- Definitions that public contracts and the one claim cite.
+pub mod Boxes
+-- Definitions that only private contracts cite.
+pub mod Most
+pub mod RangeMax
+-- Laws.
+pub mod Offsets
+pub mod Maximum
+pub mod Greatest
+pub mod MostLaws
+pub mod NodeCells
+pub mod RootReads
