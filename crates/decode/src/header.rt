@@ -84,14 +84,7 @@ pub(crate) fn medium_at(bytes: &[u8], root: usize) -> Medium
         layout::f32_at(bytes, 372),
         layout::f32_at(bytes, 376),
     ];
-    Medium {
-        low: low,
-        high: high,
-        index_low: index_low,
-        index_high: index_high,
-        map: map,
-        translation: translation,
-    }
+    medium::make_medium(low, high, index_low, index_high, map, translation)
 }
 
 // 1, 2, 3, 4. The world box does not depend on where the root stands.

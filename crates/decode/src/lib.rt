@@ -32,14 +32,9 @@ pub struct Decoded {
 fn refused(number: u32) -> Decoded
     ensures { λ r. ⌜ answer r ≡ answerOf (refusedS number) ⌝ }
 {
-    let none = Medium {
-        low: [0.0, 0.0, 0.0],
-        high: [0.0, 0.0, 0.0],
-        index_low: [0, 0, 0],
-        index_high: [0, 0, 0],
-        map: [0.0, 0.0, 0.0, 0.0, 0.0, 0.0, 0.0, 0.0, 0.0],
-        translation: [0.0, 0.0, 0.0],
-    };
+    let point = [0.0f32; 3];
+    let corner = [0i32; 3];
+    let none = medium::make_medium(point, point, corner, corner, [0.0f32; 9], point);
     Decoded {
         number: number,
         roots: 0,

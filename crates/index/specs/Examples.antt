@@ -9,7 +9,7 @@ use Rattle.float.specs.Zero.{+0}
 use Rattle.float.specs.Fused as F
 use Rattle.float.specs.Coordinate.{coordinate}
 use Rattle.layout.specs.Coordinates.{Coord}
-use Rattle.medium.specs.Medium.{Point, Medium, mapFault}
+use Rattle.medium.specs.Medium.{Point, Medium, makeMedium, mapFault}
 use Rattle.index.specs.Index.{worldToIndex}
 use Rattle.index.specs.Axes.{Line, cornerOn, indexOn, majorantOn, firstLow, firstHigh, secondLow, secondHigh, firstOn, secondOn, endsOn, axisEnds}
 use Rattle.index.specs.Answers.{indexBits}
@@ -81,14 +81,8 @@ far-refused = refl
 
 abbrev unit : Medium
 unit =
-    record {
-      low = at +0;
-      high = at +0;
-      indexLow = here;
-      indexHigh = here;
-      map = fin false 1 (pos 0) ∷ +0 ∷ +0 ∷ +0 ∷ fin false 1 (pos 0) ∷ +0 ∷ +0 ∷ +0 ∷ fin false 1 (pos 0) ∷ [];
-      translation = at +0;
-    }
+    makeMedium (at +0) (at +0) here here
+    (fin false 1 (pos 0) ∷ +0 ∷ +0 ∷ +0 ∷ fin false 1 (pos 0) ∷ +0 ∷ +0 ∷ +0 ∷ fin false 1 (pos 0) ∷ []) (at +0)
   where
     at : Float → Point
     at v = record { x = v; y = v; z = v }
@@ -100,13 +94,7 @@ far : indexBits unit (record { x = inf false; y = +0; z = +0 }) ≡ ok (21390950
 unfolding indexBits mapFault worldToIndex F.fma F.plus add sub mul le lt eq toBits
 far = refl
 
-skewed : indexBits (record {
-  low = unit .low;
-  high = unit .high;
-  indexLow = unit .indexLow;
-  indexHigh = unit .indexHigh;
-  map = fin false 1 (pos 0) ∷ fin false 1 (pos 0) ∷ [];
-  translation = unit .translation;
-}) (record { x = inf false; y = +0; z = +0 }) ≡ refused 13
+skewed : indexBits (makeMedium (unit .low) (unit .high) (unit .indexLow) (unit .indexHigh)
+    (fin false 1 (pos 0) ∷ fin false 1 (pos 0) ∷ []) (unit .translation)) (record { x = inf false; y = +0; z = +0 }) ≡ refused 13
 unfolding indexBits mapFault worldToIndex F.fma F.plus add sub mul le lt eq toBits
 skewed = refl

@@ -11,7 +11,7 @@ use Rattle.layout.specs.Coordinates.{Coord}
 use Rattle.sparse_grid.specs.Tables.{Grid}
 use Rattle.sparse_grid.specs.Validate.{validate, densityFault}
 use Rattle.sparse_grid.specs.Lookup.{lookup}
-use Rattle.medium.specs.Medium.{Point, Medium, boundsFault, indexFault, mapFault}
+use Rattle.medium.specs.Medium.{Point, Medium, makeMedium, boundsFault, indexFault, mapFault}
 use Rattle.index.specs.Cells.{Cells, corner, firstEnds, secondEnds}
 use Rattle.majorant.specs.Figures.{figure, figures}
 use Rattle.index.specs.Index.{worldToIndex, majorantIndex}
@@ -50,14 +50,8 @@ smoke =
 
 abbrev box : Medium
 box =
-    record {
-      low = at +0;
-      high = at (whole 1);
-      indexLow = here (pos 0);
-      indexHigh = here (pos 3);
-      map = whole 1 ∷ +0 ∷ +0 ∷ +0 ∷ whole 1 ∷ +0 ∷ +0 ∷ +0 ∷ whole 1 ∷ [];
-      translation = at +0;
-    }
+    makeMedium (at +0) (at (whole 1)) (here (pos 0)) (here (pos 3))
+    (whole 1 ∷ +0 ∷ +0 ∷ +0 ∷ whole 1 ∷ +0 ∷ +0 ∷ +0 ∷ whole 1 ∷ []) (at +0)
 
 two : Cells
 two = record { x = 2; y = 1; z = 1 }
@@ -74,7 +68,9 @@ too-long = refl
 
 -- an index box that the cells miss: the first box is empty, the second is not
 abbrev aside : Medium
-aside = record { low = at +0; high = at (whole 1); indexLow = here (pos 5); indexHigh = here (pos 7); map = box .map; translation = at +0 }
+aside =
+    makeMedium (at +0) (at (whole 1)) (here (pos 5)) (here (pos 7))
+    (box .map) (at +0)
 
 missed : build smoke aside two ≡ refused 17
 unfolding build two validate densityFault boundsFault indexFault mapFault figures figure firstEnds secondEnds coordinate majorantIndex worldToIndex
@@ -83,7 +79,9 @@ missed = refl
 
 -- a zero width
 abbrev flat : Medium
-flat = record { low = at +0; high = at +0; indexLow = here (pos 0); indexHigh = here (pos 3); map = box .map; translation = at +0 }
+flat =
+    makeMedium (at +0) (at +0) (here (pos 0)) (here (pos 3))
+    (box .map) (at +0)
 
 no-width : build smoke flat two ≡ refused 4
 unfolding build two validate densityFault boundsFault indexFault mapFault figures figure firstEnds secondEnds coordinate majorantIndex worldToIndex
@@ -93,14 +91,8 @@ no-width = refl
 -- a thin world box: corner 63 lies below corner 62, so corners do not rise with k, and cell 62 encloses nothing
 abbrev thin : Medium
 thin =
-    record {
-      low = at (ofBits binary32 1068668056);
-      high = at (ofBits binary32 1068668065);
-      indexLow = here (pos 0);
-      indexHigh = here (pos 3);
-      map = box .map;
-      translation = at +0;
-    }
+    makeMedium (at (ofBits binary32 1068668056)) (at (ofBits binary32 1068668065)) (here (pos 0)) (here (pos 3))
+    (box .map) (at +0)
 
 swapped : lt (corner thin xAxis 64 63) (corner thin xAxis 64 62) ≡ true
 unfolding corner add sub mul div lt ofInt ofBits

@@ -7,7 +7,7 @@ ghost use Rattle.refusals.specs.Results.{numberOf, valueOr, said};
 ghost use Rattle.float.specs.Zero.{+0};
 ghost use Rattle.medium.specs.Record.{asMedium};
 ghost use Rattle.majorant.specs.Build.{publicMaximum, cube, buildInto};
-ghost use Rattle.majorant.specs.Boxes.{between};
+ghost use Rattle.boxes.specs.Boxes.{between};
 
 mod build;
 mod node_max;

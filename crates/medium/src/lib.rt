@@ -6,8 +6,8 @@ ghost use lib.Signed.{leZ};
 ghost use lib.Ieee.{binary32, sub, lt};
 ghost use lib.Ieee.Scale.{finite};
 ghost use Rattle.refusals.specs.Faults.{unless};
-ghost use Rattle.medium.specs.Medium.{boundsFault, indexFault, mapFault, mediumFault, each, diagonal, zeroes};
-ghost use Rattle.medium.specs.Record.{asMedium};
+ghost use Rattle.medium.specs.Medium.{makeMedium, boundsFault, indexFault, mapFault, mediumFault, each, diagonal, zeroes};
+ghost use Rattle.medium.specs.Record.{pointOf, coordOf, nineOf, asMedium};
 use refusals::both;
 use refusals::first_fault;
 
@@ -18,6 +18,29 @@ pub struct Medium {
     pub index_high: [i32; 3],
     pub map: [f32; 9],
     pub translation: [f32; 3],
+}
+
+// Every medium is made here, so that a further field is written in one place.
+pub fn make_medium(
+    low: [f32; 3],
+    high: [f32; 3],
+    index_low: [i32; 3],
+    index_high: [i32; 3],
+    map: [f32; 9],
+    translation: [f32; 3],
+) -> Medium
+    ensures { λ r.
+        ⌜ asMedium r ≡ makeMedium (pointOf low) (pointOf high) (coordOf «index_low») (coordOf «index_high») (nineOf map)
+        (pointOf translation) ⌝ }
+{
+    Medium {
+        low: low,
+        high: high,
+        index_low: index_low,
+        index_high: index_high,
+        map: map,
+        translation: translation,
+    }
 }
 
 // One axis of the world box.

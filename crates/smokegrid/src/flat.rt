@@ -74,15 +74,13 @@ pub(crate) fn medium_from(m: &[f32], c: &[i32]) -> Medium
     requires { ⌜ (length (now m) ≡ 18) × (length (now c) ≡ 6) ⌝ }
     ensures { λ r. ⌜ asMedium r ≡ mediumFrom (now (m .entry)) (now (c .entry)) ⌝ }
 {
+    let low = [m[0], m[1], m[2]];
+    let high = [m[3], m[4], m[5]];
+    let index_low = [c[0], c[1], c[2]];
+    let index_high = [c[3], c[4], c[5]];
     let map = [m[6], m[7], m[8], m[9], m[10], m[11], m[12], m[13], m[14]];
-    Medium {
-        low: [m[0], m[1], m[2]],
-        high: [m[3], m[4], m[5]],
-        index_low: [c[0], c[1], c[2]],
-        index_high: [c[3], c[4], c[5]],
-        map: map,
-        translation: [m[15], m[16], m[17]],
-    }
+    let translation = [m[15], m[16], m[17]];
+    medium::make_medium(low, high, index_low, index_high, map, translation)
 }
 
 // The three bit patterns of a position.

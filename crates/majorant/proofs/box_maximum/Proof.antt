@@ -5,7 +5,7 @@ use Rattle.refusals.specs.Results.{said}
 use Rattle.float.specs.Zero.{+0}
 use Rattle.sparse_grid.specs.Tables.{Grid, gridOf}
 use Rattle.sparse_grid.specs.Lookup.{readIn}
-use Rattle.majorant.specs.Boxes.{boxMaximum, between}
+use Rattle.boxes.specs.Boxes.{boxMaximum, between}
 use Rattle.majorant.specs.Build.{publicMaximum}
 use Rattle.sparse_grid.specs.Signs.{seen}
 use Rattle.majorant.proofs.Refused.{passed, stopped}

@@ -1,5 +1,6 @@
 -- `decode::header::medium_at` meets its contract: field by field. Assumes nothing.
 use native.Mathlib.Omega.{arith}
+use mathlib.Core.Path.{_∙_}
 use borrow.Author.Needs.{needs}
 use Rattle.decode.proofs.header.Faults.{medium-is}
 use Rattle.decode.proofs.tiles.Fields.{i32-seen}
@@ -24,9 +25,11 @@ at-low c = c .before .before .before
 
 returns : tie.Need-returns
 returns c =
-    let m = at-map c in let m₆ = m .before .before .before in let m₃ = m₆ .before .before .before in
+    let t = c .before in
+    let m = at-map t in let m₆ = m .before .before .before in let m₃ = m₆ .before .before .before in
     let j = at-index-high m in let i = at-index-low j in let h = at-high i in let l = at-low h in
-    medium-is _ _
+    c .make-medium .ensures
+    ∙ medium-is _ _
     (l .before .before .bound-at .ensures) (l .before .bound-at2 .ensures) (l .bound-at3 .ensures)
     (h .before .before .bound-at4 .ensures) (h .before .bound-at5 .ensures) (h .bound-at6 .ensures)
     (i32-seen _ _ (i .before .before .i32-at .ok) (i .before .before .i32-at .ensures))
@@ -38,7 +41,7 @@ returns c =
     (m₃ .before .before .f32-at .ensures) (m₃ .before .f32-at2 .ensures) (m₃ .f32-at3 .ensures)
     (m₆ .before .before .f32-at4 .ensures) (m₆ .before .f32-at5 .ensures) (m₆ .f32-at6 .ensures)
     (m .before .before .f32-at7 .ensures) (m .before .f32-at8 .ensures) (m .f32-at9 .ensures)
-    (c .before .before .f32-at10 .ensures) (c .before .f32-at11 .ensures) (c .f32-at12 .ensures)
+    (t .before .before .f32-at10 .ensures) (t .before .f32-at11 .ensures) (t .f32-at12 .ensures)
 
 pub medium-at-spec : {M : Type 1} → statement M
 medium-at-spec =
@@ -60,6 +63,7 @@ medium-at-spec =
     (λ c. omega arith)
     (λ c κs. search needs)
     (λ c. omega arith)
+    (λ c κs. search needs)
     (λ c κs. search needs)
     (λ c κs. search needs)
     (λ c κs. search needs)
