@@ -21,6 +21,7 @@ use crate::round::pack_nonzero;
 use crate::round::power;
 use crate::round::shift_to;
 use crate::round::shifted;
+use refusals::both;
 
 // The exponent of the smallest product, 2^-298.
 const SMALLEST_PRODUCT: u64 = ORIGIN - 298;
@@ -74,13 +75,6 @@ fn add_nonzero(s: bool, p: u64, f: u64, t: bool, m: u64, g: u64) -> u32
     } else {
         add_aligned(t, b, s, a, i, i - h)
     }
-}
-
-// Whether both are true.
-fn both(s: bool, t: bool) -> bool
-    ensures { λ r. ⌜ r ≡ (s && t) ⌝ }
-{
-    if s { t } else { false }
 }
 
 // The same where one of them may be 0. Two zeros give -0 only where both are negative.

@@ -3,9 +3,9 @@ use Prim.Native.Nat.{ℕ, _+_}
 use mathlib.Core.List.{List}
 use lib.ListN.{length}
 use lib.Dec.{leb}
-use mathlib.Core.Bool.{false}
 use lib.IntN.{ℤ, pos}
-use lib.Ieee.{Float, fin}
+use lib.Ieee.{Float}
+use Rattle.float.specs.Zero.{+0}
 use Rattle.refusals.specs.Results.{Result, ok, refused, need, Said, said}
 use Rattle.layout.specs.declared.ReadU32 as U32
 use Rattle.layout.specs.declared.ReadU64 as U64
@@ -44,9 +44,6 @@ ofReadF64 (F64.the-variants.Value v) = ok v
 ofReadF64 (F64.the-variants.Refused n) = refused n
 
 -- the number and the value of each answer: beside a refusal the value is zero
-abbrev pub zero : Float
-zero = fin false 0 (pos 0)
-
 abbrev pub saidU32 : U32.ReadU32 → Said ℕ
 saidU32 r = said 0 (ofReadU32 r)
 
@@ -60,7 +57,7 @@ abbrev pub saidI64 : I64.ReadI64 → Said ℤ
 saidI64 r = said (pos 0) (ofReadI64 r)
 
 abbrev pub saidF32 : F32.ReadF32 → Said Float
-saidF32 r = said zero (ofReadF32 r)
+saidF32 r = said +0 (ofReadF32 r)
 
 abbrev pub saidF64 : F64.ReadF64 → Said Float
-saidF64 r = said zero (ofReadF64 r)
+saidF64 r = said +0 (ofReadF64 r)

@@ -4,11 +4,11 @@ ghost use mathlib.Core.Path.{_≡_};
 ghost use Prim.Native.Nat.{_+_, _*_, _<_, _≤_};
 ghost use lib.Dec.{leb};
 ghost use lib.IntN.{pos};
-ghost use lib.Ieee.{binary32, binary64, ofBits};
+ghost use Rattle.float.specs.Zero.{+0};
 ghost use lib.ListN.{getD, length};
 ghost use Rattle.refusals.specs.Results.{said};
 ghost use Rattle.layout.specs.Bytes.{signed, u32At, u64At, i32At, i64At, f32At, f64At, maskBit};
-ghost use Rattle.layout.specs.Reads.{readField, zero, saidU32, saidU64, saidI32, saidI64, saidF32, saidF64};
+ghost use Rattle.layout.specs.Reads.{readField, saidU32, saidU64, saidI32, saidI64, saidF32, saidF64};
 
 const U32_BYTES: usize = 4;
 
@@ -159,37 +159,16 @@ pub fn i64_at(b: &[u8], at: usize) -> i64
     signed_u64(u64_at(b, at))
 }
 
-// A pattern above the infinity's is a NaN's, which `from_bits` does not take.
-fn float_of(n: u32) -> f32
-    ensures { λ r. ⌜ r ≡ ofBits binary32 n ⌝ }
-{
-    if n % 2147483648 > 2139095040 {
-        0.0 / 0.0
-    } else {
-        f32::from_bits(n)
-    }
-}
-
-fn double_of(n: u64) -> f64
-    ensures { λ r. ⌜ r ≡ ofBits binary64 n ⌝ }
-{
-    if n % 9223372036854775808 > 9218868437227405312 {
-        0.0 / 0.0
-    } else {
-        f64::from_bits(n)
-    }
-}
-
 pub fn f32_at(b: &[u8], at: usize) -> f32
     ensures { λ r. ⌜ r ≡ f32At (now (b .entry)) at ⌝ }
 {
-    float_of(u32_at(b, at))
+    float::float_of(u32_at(b, at))
 }
 
 pub fn f64_at(b: &[u8], at: usize) -> f64
     ensures { λ r. ⌜ r ≡ f64At (now (b .entry)) at ⌝ }
 {
-    double_of(u64_at(b, at))
+    float::f64_of(u64_at(b, at))
 }
 
 // Bit i of the mask that stands at `at`: 0 or 1.
@@ -236,7 +215,7 @@ pub fn read_i64(b: &[u8], at: usize) -> ReadI64
 }
 
 pub fn read_f32(b: &[u8], at: usize) -> ReadF32
-    ensures { λ r. ⌜ saidF32 r ≡ said zero (readField f32At 4 (now (b .entry)) at) ⌝ }
+    ensures { λ r. ⌜ saidF32 r ≡ said +0 (readField f32At 4 (now (b .entry)) at) ⌝ }
 {
     if inside(b.len(), at, U32_BYTES) {
         return ReadF32::Value(f32_at(b, at));
@@ -245,7 +224,7 @@ pub fn read_f32(b: &[u8], at: usize) -> ReadF32
 }
 
 pub fn read_f64(b: &[u8], at: usize) -> ReadF64
-    ensures { λ r. ⌜ saidF64 r ≡ said zero (readField f64At 8 (now (b .entry)) at) ⌝ }
+    ensures { λ r. ⌜ saidF64 r ≡ said +0 (readField f64At 8 (now (b .entry)) at) ⌝ }
 {
     if inside(b.len(), at, U64_BYTES) {
         return ReadF64::Value(f64_at(b, at));
