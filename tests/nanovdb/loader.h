@@ -39,6 +39,20 @@ struct Loaded {
             medium, 18, corners, 6);
     }
 
+    // Bit for bit, and every table with its length.
+    bool same(const Loaded &other) const
+    {
+        const auto bits = [](const auto &a, const auto &b) {
+            return a.size() == b.size() && std::memcmp(a.data(), b.data(), a.size() * sizeof(a[0])) == 0;
+        };
+        return number == other.number && std::memcmp(&background, &other.background, 4) == 0 && blocks == other.blocks &&
+            rootLinks == other.rootLinks && upperLinks == other.upperLinks && lowerLinks == other.lowerLinks &&
+            bits(rootValues, other.rootValues) && bits(upperValues, other.upperValues) &&
+            bits(lowerValues, other.lowerValues) && bits(leafValues, other.leafValues) &&
+            std::memcmp(counts, other.counts, sizeof counts) == 0 && std::memcmp(medium, other.medium, sizeof medium) == 0 &&
+            std::memcmp(corners, other.corners, sizeof corners) == 0;
+    }
+
     template <typename Function, typename... Arguments>
     uint32_t call(Function function, Arguments... arguments) const
     {

@@ -10,10 +10,15 @@ ghost use Rattle.nanovdb.specs.Decode.{markPasses, headerPasses, boundAt, mediu
 use medium::Medium;
 use refusals::both;
 
+// "NanoVDB0" or "NanoVDB1".
 fn mark_passes(mark: u64) -> bool
     ensures { λ r. ⌜ r ≡ markPasses mark ⌝ }
 {
-    mark == 0x304244566f6e614e
+    if mark == 0x304244566f6e614e {
+        true
+    } else {
+        mark == 0x314244566f6e614e
+    }
 }
 
 // Unknown or fog volume.

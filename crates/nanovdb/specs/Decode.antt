@@ -42,9 +42,9 @@ unfoldable pub mediumOf : List ℕ → Medium
 unfolding mediumAt
 mediumOf b = mediumAt b (rootPlace b)
 
--- the mark that a grid begins with: "NanoVDB0"
+-- the two marks that a grid may begin with: "NanoVDB0", and "NanoVDB1" of newer exporters
 abbrev pub markPasses : ℕ → Bool
-markPasses mark = eqb mark 0x304244566f6e614e
+markPasses mark = eqb mark 0x304244566f6e614e || eqb mark 0x314244566f6e614e
 
 -- the header passes (3): mark, major version 32, size, type Float, class unknown or fog volume, and an index below the count
 unfoldable pub headerPasses : List ℕ → Bool

@@ -1,11 +1,13 @@
 -- The decode on worked examples: what is accepted, what is refused, and with which number. Each is computed.
-use mathlib.Core.Path.{_≡_, refl, _∙_, ap}
+use mathlib.Core.Path.{_≡_, refl, sym, _∙_, ap}
 use mathlib.Core.List.{List, [], _∷_, _++_}
 use mathlib.Core.Bool.{Bool, false, cond}
-use Prim.Native.Nat.{ℕ, _+_, _^_}
+use Prim.Native.Nat.{ℕ, zero, suc, _+_, _-_, _/_, _%_, _^_}
+use lib.Dec.{eqb}
+use lib.ListN.{drop}
 use lib.IntN.{pos, negsuc}
 use lib.Ieee.{ofBits, lt, eq, add, sub}
-use Rattle.refusals.specs.Results.{ok, refused, numberOf}
+use Rattle.refusals.specs.Results.{Result, ok, refused, numberOf}
 use Rattle.float.specs.Fused.{narrow}
 use Rattle.layout.specs.Bytes.{le, signed}
 use Rattle.layout.specs.Coordinates.{Coord, Signed32, blockOf, sameBlock}
@@ -17,8 +19,9 @@ use Rattle.sparse_grid.specs.Validate.{validate, densityFault}
 use Rattle.medium.specs.Medium.{boundsFault, indexFault, mapFault}
 use Rattle.nanovdb.specs.Nodes.{Places, childTarget}
 use Rattle.nanovdb.specs.Tree.{rootOf, keyPasses}
-use Rattle.nanovdb.specs.Decode.{decodeDensity}
+use Rattle.nanovdb.specs.Decode.{Accepted, markPasses, decodeDensity}
 use Rattle.nanovdb.specs.Keys.{key-same}
+use Rattle.nanovdb.specs.Marks.{older, newer, newer-density}
 
 -- two spans (header and root), 999 roots and no nodes
 abbrev pub places : Places
@@ -75,6 +78,48 @@ version-passes = refl
 pub version-refused : numberOf (decodeDensity (sampleWith (field 16 4 69206016 ∷ [])) places) ≡ 3
 unfolding decodeDensity written le
 version-refused = refl
+
+-- ---- the mark
+
+-- the sample with this mark
+abbrev marked : ℕ → List ℕ
+marked mark = sampleWith (field 0 8 mark ∷ [])
+
+new-bytes : marked 0x314244566f6e614e ≡ newer ++ drop 8 sample
+unfolding sample written
+new-bytes = refl
+
+old-bytes : sample ≡ older ++ drop 8 sample
+unfolding sample written
+old-bytes = refl
+
+-- with the newer mark the sample is accepted, and its answer is that of the sample: every table and record, and so every figure
+pub newer-sample : decodeDensity (marked 0x314244566f6e614e) places ≡ decodeDensity sample places
+newer-sample =
+    let decode : List ℕ → Result Accepted = λ b. decodeDensity b places in
+    ap decode new-bytes ∙ newer-density (drop 8 sample) places ∙ ap decode (sym old-bytes)
+
+-- "NanoVDB2" is the mark of a file
+pub file-mark-refused : numberOf (decodeDensity (marked 0x324244566f6e614e) places) ≡ 3
+unfolding decodeDensity written le
+file-mark-refused = refl
+
+-- mark with bit k changed
+abbrev changed : ℕ → ℕ → ℕ
+changed mark k = cond (eqb (mark / 2 ^ k % 2) 0) (mark + 2 ^ k) (mark - 2 ^ k)
+
+-- the bits below n whose change leaves a mark that passes
+unfoldable passing-bits : ℕ → ℕ → List ℕ
+passing-bits zero mark = []
+passing-bits (suc n) mark = let rest = passing-bits n mark in cond (markPasses (changed mark n)) (n ∷ rest) rest
+
+-- of the 64 bits of each mark only bit 56 may change: it makes the one the other
+one-bit-changed : (passing-bits 64 0x304244566f6e614e ≡ 56 ∷ []) × (passing-bits 64 0x314244566f6e614e ≡ 56 ∷ [])
+unfolding passing-bits
+one-bit-changed = (refl, refl)
+
+bit-56 : changed 0x304244566f6e614e 56 ≡ 0x314244566f6e614e
+bit-56 = refl
 
 -- ---- where the root may stand
 

@@ -31,8 +31,8 @@ const WORDS: [Words; 18] = [
     words(
         "HEADER",
         "a header field that does not pass: mark, version, size, type, class, index or count",
-        "Hand over one raw Float grid of NanoVDB ABI 32 with its whole length: a density, not a \
-         level set, and not an .nvdb file or a compressed one.",
+        "Hand over one raw Float grid of NanoVDB ABI 32 with its whole length, which begins with \
+         NanoVDB0 or NanoVDB1: a density, not a level set, and not an .nvdb file or a compressed one.",
     ),
     words(
         "WORLD_BOX",

@@ -27,6 +27,23 @@ fn a_tile_is_read() {
     assert_eq!((grid.validate(), grid.validate_density()), (Ok(()), Ok(())));
 }
 
+/// "NanoVDB0" and "NanoVDB1" are one; "NanoVDB2" is a file's, and nothing else passes.
+#[test]
+fn either_mark_is_read() {
+    let marked = |mark: &[u8; 8]| edited(chain(), |b| b[..8].copy_from_slice(mark));
+    let [older, newer] = [b"NanoVDB0", b"NanoVDB1"].map(|m| Grid::decode(&marked(m)).unwrap());
+    assert_eq!(older.counts(), newer.counts());
+    assert_eq!(older.medium(), newer.medium());
+    for at in [[-4096, 0, 0], [-4095, 0, 0], [-3969, 127, 127], [0, 0, 0], [i32::MIN; 3]] {
+        assert_eq!(older.get_value(at), newer.get_value(at), "{at:?}");
+    }
+    let figures = [&older, &newer].map(|grid| grid.build_majorant().unwrap());
+    assert_eq!(figures[0].figures(), figures[1].figures());
+    for mark in [b"NanoVDB2", b"NanoVDB3", b"nanoVDB1", b"NanoVDB\0", b"1BDVonaN"] {
+        assert_eq!(number(&marked(mark)), 3, "{mark:?}");
+    }
+}
+
 #[test]
 fn the_medium_is_that_of_the_header() {
     let medium = Grid::decode(&tile()).unwrap().medium();

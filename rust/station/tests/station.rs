@@ -61,6 +61,18 @@ fn the_sample_is_shown() {
     );
 }
 
+/// The mark of newer exporters: the same grid and figures.
+#[test]
+fn the_newer_mark_is_shown_alike() {
+    let newer = edited("newer", |bytes| bytes[..8].copy_from_slice(b"NanoVDB1"));
+    let [old, new] = [SAMPLE, newer.to_str().unwrap()].map(|path| {
+        let output = station(&[path, "--at", "11", "9", "0", "--box", "0", "0", "0", "23", "23", "23"]);
+        assert_eq!((output.status.code(), err(&output).as_str()), (Some(0), ""));
+        out(&output).lines().skip(1).take(10).map(str::to_string).collect::<Vec<_>>()
+    });
+    assert_eq!(old, new);
+}
+
 #[test]
 fn each_step_has_its_time_and_memory() {
     let text = out(&station(&[SAMPLE]));
@@ -109,7 +121,10 @@ fn a_cut_file_is_refused() {
 
 #[test]
 fn damage_is_refused() {
-    assert_refused(&edited("mark", |bytes| bytes[7] = b'1'), 3);
+    let file = edited("mark", |bytes| bytes[7] = b'2');
+    assert_refused(&file, 3);
+    let words = err(&station(&[file.to_str().unwrap()]));
+    assert!(words.contains("NanoVDB0 or NanoVDB1"), "{words}");
     assert_refused(&edited("count", |bytes| bytes[704] += 1), 10);
     assert_refused(&edited("nothing", Vec::clear), 2);
 }

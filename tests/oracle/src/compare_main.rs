@@ -4,6 +4,7 @@ use oracle::generate::bench::Due;
 use oracle::generate::{self, Case};
 use oracle::loader::{decode_into, Answer, Grid, Held, Lengths, Loader, Rust, CELLS};
 use oracle::random::Random;
+use oracle::source::has_newer_mark;
 use oracle::walk::{self, Places};
 use oracle::{samples, spoil};
 use std::collections::BTreeMap;
@@ -102,7 +103,9 @@ fn usage() -> ! {
 fn run(tally: &mut Tally, case: &Case, random: &mut Random, accepted: &mut u64, every: u64) {
     let (stop, places) = walk::reach(&case.bytes, walk::ROOMY);
     let exact = Lengths::of(places);
-    let (number, held) = compare_decode(tally, "decode, exact tables", &case.bytes, exact);
+    let kind =
+        if has_newer_mark(&case.bytes) { "decode, newer mark" } else { "decode, exact tables" };
+    let (number, held) = compare_decode(tally, kind, &case.bytes, exact);
     let odd = !walk::agrees(number, stop);
     tally.count("walk of the bytes", number, odd.then(|| format!("Rust {number}, walk {stop}")));
     compare_decode(tally, "decode, one short", &case.bytes, one_short(random, places));

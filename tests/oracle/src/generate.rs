@@ -2,6 +2,7 @@
 //! case number give the same bytes everywhere.
 
 use crate::random::Random;
+use crate::source::MARKS;
 use crate::walk::{entries, MASK, SIDE, SIZE, TABLE};
 
 pub mod bench;
@@ -116,7 +117,7 @@ impl Draft {
             near: Vec::new(),
         };
         draft.places([leaf, lower, upper]);
-        draft.header();
+        draft.header(number);
         draft.tree();
         draft.world();
         draft
@@ -182,13 +183,13 @@ impl Draft {
         }
     }
 
-    /// The fields that must pass.
-    fn header(&mut self) {
+    /// The fields that must pass. Cases have the two marks in turn, so that every damage meets both.
+    fn header(&mut self, number: u64) {
         let count = self.random.pick(&[1, 1, 2, 7, u32::MAX]);
         let index = if self.random.percent(50) { 0 } else { count - 1 };
         let minor = self.random.next() as u32 & 0x1fffff;
         let class = self.random.pick(&[0, 2]);
-        self.put64(0, 0x304244566f6e614e);
+        self.put64(0, MARKS[number as usize % 2]);
         self.put32(16, 32 << 21 | minor);
         self.put32(24, index);
         self.put32(28, count);

@@ -7,6 +7,8 @@ pub use crate::gpu::flat::medium::NanoVDBMedium;
 pub use crate::gpu::flat::sparse_grid::{SparseGridEntry, SparseGridRoot, SparseScalarGrid};
 use crate::numbers::{number_of, numbers_of, UNKNOWN};
 use crate::util::error::PbrtError;
+use crate::walk::u64_at;
+use std::borrow::Cow;
 use std::panic::{catch_unwind, set_hook, take_hook, AssertUnwindSafe};
 use std::sync::Once;
 
@@ -46,13 +48,32 @@ fn decoded<T>(bytes: &[u8], decode: impl FnOnce() -> Result<T, PbrtError>) -> Re
     }
 }
 
+/// The marks that a grid may begin with: "NanoVDB0" and "NanoVDB1".
+pub const MARKS: [u64; 2] = [0x304244566f6e614e, 0x314244566f6e614e];
+
+pub fn has_newer_mark(bytes: &[u8]) -> bool {
+    bytes.len() >= 8 && u64_at(bytes, 0) == MARKS[1]
+}
+
+/// The Rust knows the older mark alone: it gets the newer one rewritten (document 02, A1).
+fn with_older_mark(bytes: &[u8]) -> Cow<'_, [u8]> {
+    if !has_newer_mark(bytes) {
+        return Cow::Borrowed(bytes);
+    }
+    let mut older = bytes.to_vec();
+    older[..8].copy_from_slice(&MARKS[0].to_le_bytes());
+    Cow::Owned(older)
+}
+
 pub fn decode_density_grid(bytes: &[u8]) -> Result<NanoVDBMedium, u32> {
-    decoded(bytes, || nanovdb::decode_density_grid(bytes))
+    let bytes = with_older_mark(bytes);
+    decoded(&bytes, || nanovdb::decode_density_grid(&bytes))
 }
 
 /// Everything but the test for negative densities.
 pub fn decode_scalar_grid(bytes: &[u8]) -> Result<SparseScalarGrid, u32> {
-    decoded(bytes, || reach::decode_scalar_grid(bytes).map(|(grid, _)| grid.values))
+    let bytes = with_older_mark(bytes);
+    decoded(&bytes, || reach::decode_scalar_grid(&bytes).map(|(grid, _)| grid.values))
 }
 
 pub fn validate(grid: &SparseScalarGrid) -> Result<(), u32> {

@@ -65,14 +65,17 @@ pub fn bench() -> Vec<Due> {
         edit(&mut bytes);
         bytes
     };
+    let marked = |mark: [u8; 8]| with(sample(), &|b| b[..8].copy_from_slice(&mark));
     let low_x = |x: f64| with(sample(), &|b| put64(b, 560, x.to_bits()));
     vec![
         due("sample", sample(), 0, 0),
         due("no tiles", empty(), 0, 0),
         due("an upper node", upper(), 0, 0),
         due("version 33", with(sample(), &|b| put32(b, 16, 69_206_016)), 3, 0),
-        due("mark of 1", with(sample(), &|b| put64(b, 0, 0x314244566f6e614e)), 3, 0),
-        due("mark of 2", with(sample(), &|b| put64(b, 0, 0x324244566f6e614e)), 3, 0),
+        due("mark NanoVDB1", marked(*b"NanoVDB1"), 0, 0),
+        due("mark NanoVDB2, of a file", marked(*b"NanoVDB2"), 3, 0),
+        due("mark NanoVDB3", marked(*b"NanoVDB3"), 3, 0),
+        due("mark nanoVDB1", marked(*b"nanoVDB1"), 3, 0),
         due("bit 62 alone", with(sample(), &|b| put64(b, 800, 1 << 62)), 7, 0),
         due("child at 832, past the end", with(sample(), &|b| put64(b, 808, 96)), 5, 0),
         due("child at 816", with(sample(), &|b| put64(b, 808, 80)), 8, 0),
