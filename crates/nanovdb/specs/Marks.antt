@@ -17,9 +17,11 @@ use Rattle.sparse_grid.specs.declared.Entry.the-variants.{Child, Tile}
 use Rattle.sparse_grid.specs.Validate.{densityFault}
 use Rattle.medium.specs.Medium.{makeMedium, each, boundsFault}
 use Rattle.nanovdb.specs.Spans.{Span, overlaps, seen}
-use Rattle.nanovdb.specs.Nodes.{Places, State, empty, Slots, Read, Reader, withSpan, claim, childTarget, sizeOf, maskOf, tableOf, nodesAt, placesAt, counted, entriesOf, placed, leafPlaced, opened, again, slotRead, slotsRead, leafValues, node}
+use Rattle.nanovdb.specs.Nodes.{Places, State, empty, Slots, Read, Reader, withSpan, claim, childTarget, sizeOf, maskOf, tableOf, nodesAt}
+use Rattle.nanovdb.specs.Nodes.{placesAt, counted, entriesOf, placed, leafPlaced, opened, again, slotRead, slotsRead, leafValues, node}
 use Rattle.nanovdb.specs.Tree.{Root, Roots, keyPasses, rootOf, tileRead, tilesRead, tree}
-use Rattle.nanovdb.specs.Decode.{boundAt, mediumAt, rootPlace, mediumOf, markPasses, headerPasses, linkOf, valueOf, blocksOf, Accepted, tablesOf, treeFault, bytesFault, decodeScalar, decodeDensity}
+use Rattle.nanovdb.specs.Decode.{boundAt, mediumAt, rootPlace, mediumOf, markPasses, headerPasses, linkOf, valueOf}
+use Rattle.nanovdb.specs.Decode.{blocksOf, Accepted, tablesOf, treeFault, bytesFault, decodeScalar, decodeDensity}
 
 -- the span of a root with so many tiles
 abbrev rootSpan : ℕ → ℕ → Span

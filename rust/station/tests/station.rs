@@ -66,7 +66,8 @@ fn the_sample_is_shown() {
 fn the_newer_mark_is_shown_alike() {
     let newer = edited("newer", |bytes| bytes[..8].copy_from_slice(b"NanoVDB1"));
     let [old, new] = [SAMPLE, newer.to_str().unwrap()].map(|path| {
-        let output = station(&[path, "--at", "11", "9", "0", "--box", "0", "0", "0", "23", "23", "23"]);
+        let output =
+            station(&[path, "--at", "11", "9", "0", "--box", "0", "0", "0", "23", "23", "23"]);
         assert_eq!((output.status.code(), err(&output).as_str()), (Some(0), ""));
         out(&output).lines().skip(1).take(10).map(str::to_string).collect::<Vec<_>>()
     });
