@@ -16,68 +16,17 @@ use claim::Question;
 use decode::Decoded;
 use medium::Medium;
 use refusals::both;
-
-// How many cases the list may have.
-const MOST: u32 = 4096;
-
-// A place and the word there, without and with its sign.
-struct Word {
-    at: usize,
-    word: u32,
-    number: i32,
-}
-
-fn read_word() -> u32 {
-    let mut b = [0u8; 4];
-    io::read_full(libc::STDIN_FILENO, &mut b);
-    layout::u32_at(&b, 0)
-}
-
-fn read_number() -> i32 {
-    let mut b = [0u8; 4];
-    io::read_full(libc::STDIN_FILENO, &mut b);
-    layout::i32_at(&b, 0)
-}
-
-fn read_float() -> f32 {
-    let mut b = [0u8; 4];
-    io::read_full(libc::STDIN_FILENO, &mut b);
-    layout::f32_at(&b, 0)
-}
-
-fn read_place() -> Word {
-    let mut b = [0u8; 8];
-    io::read_full(libc::STDIN_FILENO, &mut b);
-    Word {
-        at: layout::u32_at(&b, 0) as usize,
-        word: layout::u32_at(&b, 4),
-        number: layout::i32_at(&b, 4),
-    }
-}
-
-fn put_byte(bytes: &mut [u8], at: usize, value: u32) {
-    if at < bytes.len() {
-        bytes[at] = (value % 256) as u8;
-    }
-}
-
-fn fill_bytes(n: u32, bytes: &mut [u8]) {
-    let mut i: u32 = 0;
-    while i < n {
-        let place = read_place();
-        put_byte(bytes, place.at, place.word);
-        i += 1;
-    }
-}
-
-fn first_bytes(bytes: &[u8], n: u32) -> &[u8] {
-    let end = n as usize;
-    if end < bytes.len() {
-        &bytes[..end]
-    } else {
-        bytes
-    }
-}
+use replay::fill_bytes;
+use replay::first_bytes;
+use replay::first_links;
+use replay::first_numbers;
+use replay::first_values;
+use replay::read_cases;
+use replay::read_float;
+use replay::read_number;
+use replay::read_place;
+use replay::read_word;
+use replay::report;
 
 // ---- what the answer says
 
@@ -208,30 +157,6 @@ fn small(n: usize) -> usize
     ensures { λ r. ⌜ r ≤ 65536 ⌝ }
 {
     if n < 65536 { n } else { 0 }
-}
-
-fn first_numbers(table: &[i32], end: usize) -> &[i32] {
-    if end < table.len() {
-        &table[..end]
-    } else {
-        table
-    }
-}
-
-fn first_links(table: &[u32], end: usize) -> &[u32] {
-    if end < table.len() {
-        &table[..end]
-    } else {
-        table
-    }
-}
-
-fn first_values(table: &[f32], end: usize) -> &[f32] {
-    if end < table.len() {
-        &table[..end]
-    } else {
-        table
-    }
 }
 
 fn figure_is(majorants: &[f32], cell: usize, bits: u32) -> bool {
@@ -444,7 +369,7 @@ fn replay() -> Counted
     ensures { λ r. ⌜ (r .differ ≤ 1) × (r .smoky ≤ 1) × (r .unbuilt ≤ 1) ⌝ }
 {
     let mut bytes = [0u8; 655360];
-    let length = read_word();
+    let length = read_word() as usize;
     let n = read_word();
     fill_bytes(n, &mut bytes);
     let grid = first_bytes(&bytes, length);
@@ -457,19 +382,8 @@ fn replay() -> Counted
     }
 }
 
-fn report(n: u32, name: &[u8]) {
-    io::print_decimal(libc::STDOUT_FILENO, n as u64);
-    io::write_all(libc::STDOUT_FILENO, name);
-}
-
-fn least(a: u32, b: u32) -> u32
-    ensures { λ r. ⌜ (r ≤ a) × (r ≤ b) ⌝ }
-{
-    if a < b { a } else { b }
-}
-
 fn main() {
-    let cases = least(read_word(), MOST);
+    let cases = read_cases();
     let mut differ: u32 = 0;
     let mut smoky: u32 = 0;
     let mut unbuilt: u32 = 0;

@@ -6,23 +6,6 @@ ghost use Prim.Native.Nat.{_≤_};
 // How many records each function has.
 const RECORDS: u32 = 2048;
 
-fn wide(x: u8) -> u64 {
-    x as u64
-}
-
-// The word that starts at `at`, little-endian.
-fn word(b: &[u8; 16], at: usize) -> u64
-    requires { ⌜ at ≤ 8 ⌝ }
-{
-    let mut w: u64 = 0;
-    let mut k: usize = 8;
-    while k > 0 {
-        k -= 1;
-        w = (w << 8) | wide(b[at + k]);
-    }
-    w
-}
-
 // The lower half of a word, and the upper.
 fn low(w: u64) -> u32 {
     (w % 0x1_0000_0000) as u32
@@ -64,10 +47,10 @@ fn step(f: u32) -> Seen
     ensures { λ r. ⌜ (r .read ≤ 1) × (r .differ ≤ 1) ⌝ }
 {
     let mut b = [0u8; 16];
-    let n = io::read_full(libc::STDIN_FILENO, &mut b);
+    let n = replay::read_bytes(&mut b);
     if n < 16 {
         Seen { read: 0, differ: 0 }
-    } else if agrees(f, word(&b, 0), word(&b, 8)) {
+    } else if agrees(f, layout::u64_at(&b, 0), layout::u64_at(&b, 8)) {
         Seen { read: 1, differ: 0 }
     } else {
         Seen { read: 1, differ: 1 }
@@ -94,10 +77,8 @@ fn replay(f: u32) -> Seen {
 // Writes a function's line.
 fn report(name: &[u8], seen: Seen) {
     io::write_all(libc::STDOUT_FILENO, name);
-    io::print_decimal(libc::STDOUT_FILENO, seen.read as u64);
-    io::write_all(libc::STDOUT_FILENO, b", ");
-    io::print_decimal(libc::STDOUT_FILENO, seen.differ as u64);
-    io::write_all(libc::STDOUT_FILENO, b" differ\n");
+    replay::report(seen.read, b", ");
+    replay::report(seen.differ, b" differ\n");
 }
 
 fn main() {

@@ -1,65 +1,17 @@
 // Replays small tables, valid and damaged, with the answers of sparse_grid.rs on them, and says how many cases and
 // lookups there were and how many answers differ. tests/vectors/grid.rs makes the list, which is read from standard
 // input, and says what a case holds.
-ghost use Prim.Native.Nat.{_+_, _≤_, _<_};
-
-// How many cases the list may have.
-const MOST: u32 = 4096;
-
-fn read_word() -> u32 {
-    let mut b = [0u8; 4];
-    io::read_full(libc::STDIN_FILENO, &mut b);
-    layout::u32_at(&b, 0)
-}
-
-// The next n words of a table, each read with its index.
-fn fill_numbers(n: u32, table: &mut [i32]) {
-    let mut i: u32 = 0;
-    while i < n {
-        let mut b = [0u8; 8];
-        io::read_full(libc::STDIN_FILENO, &mut b);
-        put_number(table, layout::u32_at(&b, 0) as usize, layout::i32_at(&b, 4));
-        i += 1;
-    }
-}
-
-fn put_number(table: &mut [i32], at: usize, z: i32) {
-    if at < table.len() {
-        table[at] = z;
-    }
-}
-
-fn fill_links(n: u32, table: &mut [u32]) {
-    let mut i: u32 = 0;
-    while i < n {
-        let mut b = [0u8; 8];
-        io::read_full(libc::STDIN_FILENO, &mut b);
-        put_link(table, layout::u32_at(&b, 0) as usize, layout::u32_at(&b, 4));
-        i += 1;
-    }
-}
-
-fn put_link(table: &mut [u32], at: usize, link: u32) {
-    if at < table.len() {
-        table[at] = link;
-    }
-}
-
-fn fill_values(n: u32, table: &mut [f32]) {
-    let mut i: u32 = 0;
-    while i < n {
-        let mut b = [0u8; 8];
-        io::read_full(libc::STDIN_FILENO, &mut b);
-        put_value(table, layout::u32_at(&b, 0) as usize, layout::f32_at(&b, 4));
-        i += 1;
-    }
-}
-
-fn put_value(table: &mut [f32], at: usize, v: f32) {
-    if at < table.len() {
-        table[at] = v;
-    }
-}
+ghost use Prim.Native.Nat.{_≤_};
+use replay::fill_links;
+use replay::fill_numbers;
+use replay::fill_values;
+use replay::first_links;
+use replay::first_numbers;
+use replay::first_values;
+use replay::least;
+use replay::read_bytes;
+use replay::read_cases;
+use replay::report;
 
 // Whether a lookup gave this number and this pattern.
 fn answers(answer: sparse_grid::Answer, number: u32, bits: u32) -> bool {
@@ -84,7 +36,7 @@ fn lookup(
     ensures { λ r. ⌜ r ≤ 1 ⌝ }
 {
     let mut b = [0u8; 20];
-    io::read_full(libc::STDIN_FILENO, &mut b);
+    read_bytes(&mut b);
     let answer = sparse_grid::get_value(
         background,
         blocks,
@@ -144,12 +96,6 @@ fn unlike(a: u32, b: u32) -> u32
     ensures { λ r. ⌜ r ≤ 1 ⌝ }
 {
     if a == b { 0 } else { 1 }
-}
-
-fn least(a: u32, b: u32) -> u32
-    ensures { λ r. ⌜ (r ≤ a) × (r ≤ b) ⌝ }
-{
-    if a < b { a } else { b }
 }
 
 // How many of the two checks of a grid differ.
@@ -240,36 +186,12 @@ fn judge(
     first + more
 }
 
-// The first n words of a table.
-fn first_numbers(table: &[i32], n: u32) -> &[i32] {
-    let end = n as usize;
-    if end < table.len() {
-        &table[..end]
-    } else {
-        table
-    }
-}
-
-fn first_links(table: &[u32], n: u32) -> &[u32] {
-    let end = n as usize;
-    if end < table.len() {
-        &table[..end]
-    } else {
-        table
-    }
-}
-
-fn first_values(table: &[f32], n: u32) -> &[f32] {
-    let end = n as usize;
-    if end < table.len() {
-        &table[..end]
-    } else {
-        table
-    }
-}
-
 fn head_word(head: &[u8; 80], at: usize) -> u32 {
     layout::u32_at(head, at)
+}
+
+fn head_count(head: &[u8; 80], at: usize) -> usize {
+    head_word(head, at) as usize
 }
 
 // How many lookups a case has.
@@ -281,7 +203,7 @@ fn asked(head: &[u8; 80]) -> u32
 
 fn read_head() -> [u8; 80] {
     let mut head = [0u8; 80];
-    io::read_full(libc::STDIN_FILENO, &mut head);
+    read_bytes(&mut head);
     head
 }
 
@@ -302,14 +224,14 @@ fn judge_parts(
     let differ = judge(
         head,
         layout::f32_at(head, 64),
-        first_numbers(blocks, head_word(head, 0)),
-        first_links(root_links, head_word(head, 4)),
-        first_values(root_values, head_word(head, 8)),
-        first_links(upper_links, head_word(head, 12)),
-        first_values(upper_values, head_word(head, 16)),
-        first_links(lower_links, head_word(head, 20)),
-        first_values(lower_values, head_word(head, 24)),
-        first_values(leaf_values, head_word(head, 28)),
+        first_numbers(blocks, head_count(head, 0)),
+        first_links(root_links, head_count(head, 4)),
+        first_values(root_values, head_count(head, 8)),
+        first_links(upper_links, head_count(head, 12)),
+        first_values(upper_values, head_count(head, 16)),
+        first_links(lower_links, head_count(head, 20)),
+        first_values(lower_values, head_count(head, 24)),
+        first_values(leaf_values, head_count(head, 28)),
     );
     Seen {
         lookups: asked(head),
@@ -351,33 +273,34 @@ fn replay() -> Seen
     )
 }
 
-// Writes a number and what it counts.
-fn report(n: u32, name: &[u8]) {
-    io::print_decimal(libc::STDOUT_FILENO, n as u64);
-    io::write_all(libc::STDOUT_FILENO, name);
+// How many cases were replayed, and what was seen in them.
+struct Replayed {
+    cases: u32,
+    lookups: u32,
+    differ: u32,
 }
 
-fn replay_all(cases: u32) -> Seen {
-    let most = least(cases, MOST);
+fn replay_all() -> Replayed {
+    let cases = read_cases();
     let mut made: u32 = 0;
     let mut differ: u32 = 0;
     let mut i: u32 = 0;
-    while i < most {
+    while i < cases {
         let seen = replay();
         made += seen.lookups;
         differ += seen.differ;
         i += 1;
     }
-    Seen {
+    Replayed {
+        cases: cases,
         lookups: made,
         differ: differ,
     }
 }
 
 fn main() {
-    let cases = read_word();
-    let seen = replay_all(cases);
-    report(cases, b" cases, ");
-    report(seen.lookups, b" lookups, ");
-    report(seen.differ, b" differ\n");
+    let all = replay_all();
+    report(all.cases, b" cases, ");
+    report(all.lookups, b" lookups, ");
+    report(all.differ, b" differ\n");
 }

@@ -7,17 +7,18 @@ use layout::ReadI32;
 use layout::ReadI64;
 use layout::ReadU32;
 use layout::ReadU64;
-use libc::STDOUT_FILENO;
-use std::num::wrapping_add_u64;
+use replay::first_bytes;
+use replay::report;
+use std::num::wrapping_add_u32;
 
 // How many answers were compared, and how many of them were not as listed.
 struct Tally {
-    reads: u64,
-    differ: u64,
+    reads: u32,
+    differ: u32,
 }
 
 fn count(t: Tally, same: bool) -> Tally {
-    let reads = wrapping_add_u64(t.reads, 1);
+    let reads = wrapping_add_u32(t.reads, 1);
     if same {
         return Tally {
             reads,
@@ -26,31 +27,13 @@ fn count(t: Tally, same: bool) -> Tally {
     }
     Tally {
         reads,
-        differ: wrapping_add_u64(t.differ, 1),
-    }
-}
-
-// The first n bytes.
-fn front(s: &[u8], n: usize) -> &[u8] {
-    if n <= s.len() { &s[..n] } else { s }
-}
-
-// One pattern for every NaN.
-fn bits_of_f32(x: f32) -> u32 {
-    if x != x { 2143289344 } else { f32::to_bits(x) }
-}
-
-fn bits_of_f64(x: f64) -> u64 {
-    if x != x {
-        9221120237041090560
-    } else {
-        f64::to_bits(x)
+        differ: wrapping_add_u32(t.differ, 1),
     }
 }
 
 // The field and the read at a place of the first n bytes. Inside says whether the field lies wholly in them.
 fn try_u32(t: Tally, s: &[u8], n: usize, at: usize, inside: bool, value: u32) -> Tally {
-    let b = front(s, n);
+    let b = first_bytes(s, n);
     let field = layout::u32_at(b, at);
     let t = count(t, field == value);
     match layout::read_u32(b, at) {
@@ -60,7 +43,7 @@ fn try_u32(t: Tally, s: &[u8], n: usize, at: usize, inside: bool, value: u32) ->
 }
 
 fn try_u64(t: Tally, s: &[u8], n: usize, at: usize, inside: bool, value: u64) -> Tally {
-    let b = front(s, n);
+    let b = first_bytes(s, n);
     let field = layout::u64_at(b, at);
     let t = count(t, field == value);
     match layout::read_u64(b, at) {
@@ -70,7 +53,7 @@ fn try_u64(t: Tally, s: &[u8], n: usize, at: usize, inside: bool, value: u64) ->
 }
 
 fn try_i32(t: Tally, s: &[u8], n: usize, at: usize, inside: bool, value: i32) -> Tally {
-    let b = front(s, n);
+    let b = first_bytes(s, n);
     let field = layout::i32_at(b, at);
     let t = count(t, field == value);
     match layout::read_i32(b, at) {
@@ -80,7 +63,7 @@ fn try_i32(t: Tally, s: &[u8], n: usize, at: usize, inside: bool, value: i32) ->
 }
 
 fn try_i64(t: Tally, s: &[u8], n: usize, at: usize, inside: bool, value: i64) -> Tally {
-    let b = front(s, n);
+    let b = first_bytes(s, n);
     let field = layout::i64_at(b, at);
     let t = count(t, field == value);
     match layout::read_i64(b, at) {
@@ -90,27 +73,27 @@ fn try_i64(t: Tally, s: &[u8], n: usize, at: usize, inside: bool, value: i64) ->
 }
 
 fn try_f32(t: Tally, s: &[u8], n: usize, at: usize, inside: bool, value: u32) -> Tally {
-    let b = front(s, n);
+    let b = first_bytes(s, n);
     let field = layout::f32_at(b, at);
-    let t = count(t, bits_of_f32(field) == value);
+    let t = count(t, float::bits_of(field) == value);
     match layout::read_f32(b, at) {
-        ReadF32::Value(v) => count(t, inside && bits_of_f32(v) == value),
+        ReadF32::Value(v) => count(t, inside && float::bits_of(v) == value),
         ReadF32::Refused(number) => count(t, !inside && number == 5),
     }
 }
 
 fn try_f64(t: Tally, s: &[u8], n: usize, at: usize, inside: bool, value: u64) -> Tally {
-    let b = front(s, n);
+    let b = first_bytes(s, n);
     let field = layout::f64_at(b, at);
-    let t = count(t, bits_of_f64(field) == value);
+    let t = count(t, float::f64_bits(field) == value);
     match layout::read_f64(b, at) {
-        ReadF64::Value(v) => count(t, inside && bits_of_f64(v) == value),
+        ReadF64::Value(v) => count(t, inside && float::f64_bits(v) == value),
         ReadF64::Refused(number) => count(t, !inside && number == 5),
     }
 }
 
 fn try_bit(t: Tally, s: &[u8], n: usize, at: usize, i: usize, value: u32) -> Tally {
-    count(t, layout::mask_bit(front(s, n), at, i) == value)
+    count(t, layout::mask_bit(first_bytes(s, n), at, i) == value)
 }
 
 fn replay_u32(t: Tally, s: &[u8]) -> Tally {
@@ -342,8 +325,6 @@ fn main() {
         differ: 0,
     };
     let t = mask_bits(signs(kinds(boundaries(t))));
-    io::print_decimal(STDOUT_FILENO, t.reads);
-    io::write_all(STDOUT_FILENO, b" reads, ");
-    io::print_decimal(STDOUT_FILENO, t.differ);
-    io::write_all(STDOUT_FILENO, b" differ\n");
+    report(t.reads, b" reads, ");
+    report(t.differ, b" differ\n");
 }

@@ -15,26 +15,26 @@ abbrev μ : tie.MeasureT-loop
 abbrev at-loop : tie.After-replay Inv μ → tie.At-loop Inv μ
 at-loop c = c .before .before
 
--- a count and the turn's own sum fit: the turns are at most MOST
+-- a count and the turn's own sum fit: the turns are at most 4,096
 add-differ : tie.Need-add-differ Inv μ
 add-differ c =
     let r = c .before in
-    omega (arith, at-loop r .loop .inv .1, at-loop r .loop .inv .0, r .replay .ensures .0, at-loop r .before .least .ensures .1)
+    omega (arith, at-loop r .loop .inv .1, at-loop r .loop .inv .0, r .replay .ensures .0, at-loop r .before .read-cases .ensures)
 
 add-smoky : tie.Need-add-smoky Inv μ
 add-smoky c =
     let r = c .before .before in
-    omega (arith, at-loop r .loop .inv .2, at-loop r .loop .inv .0, r .replay .ensures .1, at-loop r .before .least .ensures .1)
+    omega (arith, at-loop r .loop .inv .2, at-loop r .loop .inv .0, r .replay .ensures .1, at-loop r .before .read-cases .ensures)
 
 add-unbuilt : tie.Need-add-unbuilt Inv μ
 add-unbuilt c =
     let r = c .before .before .before in
-    omega (arith, at-loop r .loop .inv .3, at-loop r .loop .inv .0, r .replay .ensures .2, at-loop r .before .least .ensures .1)
+    omega (arith, at-loop r .loop .inv .3, at-loop r .loop .inv .0, r .replay .ensures .2, at-loop r .before .read-cases .ensures)
 
 add-i : tie.Need-add-i Inv μ
 add-i c =
     let r = c .before .before .before in
-    omega (arith, r .before .loop-test .taken, at-loop r .before .least .ensures .1)
+    omega (arith, r .before .loop-test .taken, at-loop r .before .read-cases .ensures)
 
 loop-again : tie.Need-loop-again Inv μ
 loop-again c =
@@ -49,7 +49,6 @@ main-spec =
     (tie.spec
     Inv
     μ
-    (λ c κs. search needs)
     (λ c κs. search needs)
     (λ c. (omega arith, omega arith, omega arith, omega arith))
     (λ c κs. search needs)

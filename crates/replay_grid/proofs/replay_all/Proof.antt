@@ -6,10 +6,10 @@ use Rattle.replay_grid.proofs.replay_all.Statement.{statement}
 use Rattle.replay_grid.proofs.replay_all.Tie as tie
 
 abbrev Inv-loop : tie.InvT-loop
-Inv-loop cases most made₀ differ₀ i₀ made differ i = (i ≤ most) × (made ≤ 65535 * i) × (differ ≤ 65537 * i)
+Inv-loop cases made₀ differ₀ i₀ made differ i = (i ≤ cases) × (made ≤ 65535 * i) × (differ ≤ 65537 * i)
 
 abbrev μ-loop : tie.MeasureT-loop
-μ-loop cases most made₀ differ₀ i₀ made differ i = most - i
+μ-loop cases made₀ differ₀ i₀ made differ i = cases - i
 
 loop-holds : tie.Need-loop-holds Inv-loop μ-loop
 loop-holds c = (omega arith, omega arith, omega arith)
@@ -21,18 +21,18 @@ add-made : tie.Need-add-made Inv-loop μ-loop
 add-made c =
     let t = at-turn c in
     let p = t .before in
-    omega (arith, p .loop .inv .1, c .before .replay .ensures .0, p .before .least .ensures .1, t .loop-test .taken)
+    omega (arith, p .loop .inv .1, c .before .replay .ensures .0, p .before .read-cases .ensures, t .loop-test .taken)
 
 add-differ : tie.Need-add-differ Inv-loop μ-loop
 add-differ c =
     let t = at-turn (c .before) in
     let p = t .before in
-    omega (arith, p .loop .inv .2, c .before .before .replay .ensures .1, p .before .least .ensures .1, t .loop-test .taken)
+    omega (arith, p .loop .inv .2, c .before .before .replay .ensures .1, p .before .read-cases .ensures, t .loop-test .taken)
 
 add-i : tie.Need-add-i Inv-loop μ-loop
 add-i c =
     let t = at-turn (c .before) in
-    omega (arith, t .before .before .least .ensures .1, t .loop-test .taken)
+    omega (arith, t .before .before .read-cases .ensures, t .loop-test .taken)
 
 loop-again : tie.Need-loop-again Inv-loop μ-loop
 loop-again c =
