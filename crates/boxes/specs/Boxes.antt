@@ -1,5 +1,5 @@
 -- Boxes of voxels, and the greatest of zero and what is read in one.
-use Prim.Native.Nat.{ℕ, zero, suc}
+use Prim.Native.Nat.{ℕ, zero, suc, _<_}
 use mathlib.Core.Path.{_≡_}
 use mathlib.Core.Bool.{true, false, cond}
 use mathlib.Core.Logic.{_⊎_}
@@ -26,10 +26,18 @@ pub record In (b : Box) (c : Coord) : Type 0 where
   pub z-low : b .lo .z ≤ℤ c .z
   pub z-high : c .z ≤ℤ b .hi .z
 
+-- in one of the first n boxes
+abbrev pub InSome : (ℕ → Box) → ℕ → Coord → Type 0
+InSome box n c = (i : ℕ) × (i < n) × In (box i) c
+
+-- r is the greatest of +0 and what `read` gives on the set S of coordinates
+pub record GreatestOver (read : Coord → Float) (S : Coord → Type 0) (r : Float) : Type 0 where
+  pub covers : (c : Coord) → S c → lt r (read c) ≡ false
+  pub reached : (r ≡ +0) ⊎ ((c : Coord) × S c × (read c ≡ r) × (lt +0 r ≡ true))
+
 -- r is the greatest of +0 and what `read` gives in the box
-pub record Greatest (read : Coord → Float) (b : Box) (r : Float) : Type 0 where
-  pub covers : (c : Coord) → In b c → lt r (read c) ≡ false
-  pub reached : (r ≡ +0) ⊎ ((c : Coord) × In b c × (read c ≡ r) × (lt +0 r ≡ true))
+abbrev pub Greatest : (Coord → Float) → Box → Float → Type 0
+Greatest read b r = GreatestOver read (In b) r
 
 -- ---- the same as a function
 

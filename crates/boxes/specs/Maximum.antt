@@ -51,14 +51,14 @@ greater-number a b p = go (lt a b) refl
     go true e = lt-number a b e
     go false e = p
 
-greater-l : (a b : Float) → lt (greater a b) a ≡ false
+pub greater-l : (a b : Float) → lt (greater a b) a ≡ false
 greater-l a b = go (lt a b) refl
   where
     go : (c : Bool) → lt a b ≡ c → lt (cond c b a) a ≡ false
     go true e = le→not-lt b a (lt-le a b e)
     go false e = same-not-lt a
 
-greater-r : (a b : Float) → lt (greater a b) b ≡ false
+pub greater-r : (a b : Float) → lt (greater a b) b ≡ false
 greater-r a b = go (lt a b) refl
   where
     go : (c : Bool) → lt a b ≡ c → lt (cond c b a) b ≡ false
