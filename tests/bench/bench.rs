@@ -28,8 +28,8 @@ extern "C" {
 struct Row {
     job: String,
     times: Vec<Option<f64>>,
-    /// A part of the job: of a box maximum the Rust's range_max without the validate that the library runs first, of a lookup the
-    /// call through C.
+    /// A part of the job: of a box maximum the Rust's range_max without the validate that the library runs first, of a list the
+    /// library's validate, of a lookup the call through C.
     alone: Option<f64>,
     unit: &'static str,
     units: f64,
@@ -87,6 +87,7 @@ fn measure(name: &str, rounds: usize, lookups: usize) -> Table {
         rows.push(box_row(format!("box of {side}³"), &ours, &rust, low, low + side - 1, rounds));
     }
     rows.push(box_row("whole box".to_string(), &ours, &rust, 0, grid.side - 1, rounds));
+    rows.push(list_row(grid.side, &ours, &rust, rounds));
     rows.push(build(bytes, &ours, &rust, rounds));
     let peaks = ["ours", "rust"].map(|whose| peak_of(whose, name));
     Table { grid: grid.name.clone(), bytes: bytes.len(), rows, peaks }
@@ -180,6 +181,32 @@ fn box_row(job: String, ours: &Ours, rust: &Medium, low: i32, high: i32, rounds:
     ];
     let mut row = row(&job, rounds, "box", 1.0, ways);
     row.alone = best_times(&job, rounds, &mut [way(range_max)])[0];
+    row
+}
+
+/// 1,000 boxes of 8³ by the list: one validate and then the boxes, of both. Beside it: that validate alone.
+fn list_row(side: i32, ours: &Ours, rust: &Medium, rounds: usize) -> Row {
+    let boxes: Vec<([i32; 3], [i32; 3])> =
+        coordinates(side, 1000).into_iter().map(|low| (low, low.map(|c| c + 7))).collect();
+    let density = &rust.density;
+    let sum = |maxima: &mut dyn Iterator<Item = f32>| maxima.map(|m| u64::from(m.to_bits())).sum();
+    let ways = &mut [
+        way(|| match black_box(ours).box_maxima(&boxes) {
+            Ok(maxima) => sum(&mut maxima.each.into_iter()),
+            Err(refusal) => u64::from(refusal.number()),
+        }),
+        way(|| match oracle::source::validate(black_box(density)) {
+            Ok(()) => sum(&mut boxes.iter().map(|(low, high)| {
+                oracle::source::range_max(density, *low, *high).unwrap_or(-1.0)
+            })),
+            Err(number) => u64::from(number),
+        }),
+        None,
+        None,
+    ];
+    let mut row = row("1,000 boxes of 8³", rounds, "box", 1000.0, ways);
+    let validate = way(|| u64::from(black_box(ours).validate().is_ok()));
+    row.alone = best_times("validate", rounds, &mut [validate])[0];
     row
 }
 

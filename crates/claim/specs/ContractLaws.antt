@@ -24,11 +24,14 @@ use Rattle.nanovdb.specs.Numbers.{Numbered, numbered, not-zero}
 use Rattle.nanovdb.specs.Lookups.{reads}
 use Rattle.nanovdb.specs.UsedLaws.{accepts, used-parts, used-room}
 use Rattle.index.specs.Answers.{indexBits}
-use Rattle.boxes.specs.Boxes.{Box, Greatest, boxMaximum}
+use Rattle.boxes.specs.Boxes.{Box, InSome, GreatestOver, Greatest, boxMaximum}
 use Rattle.majorant.specs.Build.{publicMaximum, buildInto}
+use Rattle.majorant.specs.Maxima.{boxAt, maximaOf, greatestOf, greatestInto}
+use Rattle.majorant.specs.MaximaLaws.{maxima-greatest}
 use Rattle.majorant.specs.Accepted as Built
 use Rattle.claim.specs.Claim.{Inside, Bounds, Holds, cells}
 use Rattle.claim.specs.Theorem.{demand3}
+use Rattle.claim.specs.Lists.{listed, listed-greatest}
 use Rattle.claim.specs.Contracts.{indexOf, Keeps, Handed, ThroughContracts}
 
 -- a value says that it is one, 0 and itself
@@ -79,6 +82,15 @@ module _ (b : List ℕ) (bytes : Bytes b) (l : Lent) (t : Accepted) (e : decodeI
         let q = says +0 (boxMaximum (voxel b) x) (publicMaximum (t .grid) x) v a is in
         let w = ap (λ (x : Said Float). x .value) q in
         (ap (λ (x : Said Float). x .accepted) q, ap (λ (x : Said Float). x .number) q, w, subst (Greatest (voxel b) x) (sym w) greatest);
+    lists = λ boxes n long signed a maxima a-is maxima-are.
+        let all = listed b t holds boxes n long signed in
+        let v = listed-greatest b t holds boxes n long signed in
+        let q = says +0 (greatestOf (maximaOf (boxMaximum (voxel b)) boxes n)) (greatestInto (t .grid) boxes n) v a a-is in (
+          ap (λ (x : Said Float). x .accepted) q,
+          ap (λ (x : Said Float). x .number) q,
+          maxima-are ∙ ap (valueOr (replicate n +0)) all,
+          subst (GreatestOver (voxel b) (InSome (boxAt boxes) n)) (sym (ap (λ (x : Said Float). x .value) q)) (maxima-greatest (voxel b) boxes n),
+        );
     positions = λ p r is. is ∙ positioned p;
     figures = figured;
   }

@@ -1,9 +1,10 @@
 -- The one claim over what the contracts of the functions say: on the left what a function answered and left, on the right the bytes.
-use Prim.Native.Nat.{ℕ}
+use Prim.Native.Nat.{ℕ, _*_, _<_}
 use mathlib.Core.Path.{_≡_}
 use mathlib.Core.List.{List, [], _∷_}
 use mathlib.Core.Bool.{true}
-use lib.ListN.{replicate}
+use lib.IntN.{ℤ}
+use lib.ListN.{length, replicate}
 use lib.Ieee.{Float, binary32, toBits}
 use Rattle.refusals.specs.Results.{Result, ok, numberOf, valueOr, Said, said}
 use Rattle.float.specs.Zero.{+0}
@@ -20,8 +21,9 @@ use Rattle.nanovdb.specs.Lent.{Lent, Answer, Tables, decodeInto, answerOf, left
 use Rattle.nanovdb.specs.Agreement.{ReadsAs}
 use Rattle.index.specs.Index.{worldToIndex}
 use Rattle.index.specs.Answers.{indexBits}
-use Rattle.boxes.specs.Boxes.{Box, Greatest, boxMaximum}
+use Rattle.boxes.specs.Boxes.{Box, InSome, GreatestOver, Greatest, boxMaximum}
 use Rattle.majorant.specs.Build.{publicMaximum, buildInto}
+use Rattle.majorant.specs.Maxima.{boxAt, maximaOf, maximaInto, greatestInto}
 use Rattle.claim.specs.Claim.{Inside, Bounds, cells}
 
 -- the bits of a point's index position, with the map and the translation in the bytes
@@ -31,6 +33,10 @@ indexOf b p =
     ∷ toBits binary32 (worldToIndex (mediumOf b) p yAxis)
     ∷ toBits binary32 (worldToIndex (mediumOf b) p zAxis)
     ∷ []
+
+-- the six numbers of each of the first n boxes are i32, as a caller's are
+abbrev pub SignedBoxes : List ℤ → ℕ → Type 0
+SignedBoxes boxes n = (i : ℕ) → i < n → Signed32 (boxAt boxes i .lo) × Signed32 (boxAt boxes i .hi)
 
 -- What holds of a grid and a medium that the functions are handed. Each premise is a contract: what one function answered.
 pub record Keeps (b : List ℕ) (g : Grid) (m : Medium) : Type 0 where
@@ -42,6 +48,11 @@ pub record Keeps (b : List ℕ) (g : Grid) (m : Medium) : Type 0 where
   -- box_maximum is not refused, and answers the greatest of zero and the voxels of the box
   pub maxima : (x : Box) → Signed32 (x .lo) → Signed32 (x .hi) → (a : Said Float) → a ≡ said +0 (publicMaximum g x)
       → (a .accepted ≡ true) × (a .number ≡ 0) × (a .value ≡ boxMaximum (voxel b) x) × Greatest (voxel b) x (a .value)
+  -- box_maxima of a list six to a place is not refused: each maximum is that of its box, and the greatest that of the boxes together
+  pub lists : (boxes : List ℤ) (n : ℕ) → length boxes ≡ 6 * n → SignedBoxes boxes n → (a : Said Float) (maxima : List Float)
+      → a ≡ said +0 (greatestInto g boxes n) → maxima ≡ valueOr (replicate n +0) (maximaInto g boxes n)
+      → (a .accepted ≡ true) × (a .number ≡ 0) × (maxima ≡ maximaOf (boxMaximum (voxel b)) boxes n)
+      × GreatestOver (voxel b) (InSome (boxAt boxes) n) (a .value)
   -- world_to_index_f is not refused, and answers the position by which `Bounds` finds the eight voxels
   pub positions : (p : Point) (r : Result (List ℕ)) → r ≡ indexBits m p → r ≡ ok (indexOf b p)
   -- build_majorant, with a medium of the same corners, map and translation: what a table holds that it filled

@@ -10,5 +10,6 @@ pub mod Inner
 -- Laws.
 pub mod Points
 pub mod Theorem
+pub mod Lists
 pub mod ContractLaws
 pub mod Bench

@@ -1,12 +1,14 @@
 -- Definitions that the public contracts and the one claim cite.
 pub mod Figures
 pub mod Build
+pub mod Maxima
 -- Definitions that only contracts within the crate cite.
 pub mod Rows
 -- Worked examples.
 pub mod BoxExamples
 pub mod BuildExamples
 -- Laws.
+pub mod MaximaLaws
 pub mod FitLaws
 pub mod RowLaws
 pub mod Accepted

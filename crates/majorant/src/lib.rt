@@ -7,15 +7,19 @@ ghost use Rattle.refusals.specs.Results.{numberOf, valueOr, said};
 ghost use Rattle.float.specs.Zero.{+0};
 ghost use Rattle.medium.specs.Record.{asMedium};
 ghost use Rattle.majorant.specs.Build.{publicMaximum, cube, buildInto};
+ghost use Rattle.majorant.specs.Maxima.{maximaInto, greatestInto};
 ghost use Rattle.boxes.specs.Boxes.{between};
 
 mod build;
+mod maxima;
 mod node_max;
 mod range_max;
 
 use build::build_fault;
 use build::cells;
 use lent::zero_f32;
+use maxima::maxima_each;
+use maxima::maxima_fault;
 use medium::Medium;
 use range_max::range_max;
 use sparse_grid::Answer;
@@ -77,6 +81,66 @@ pub fn box_maximum(
         hz,
     );
     Answer::Value(maximum)
+}
+
+// A maximum for each box of a list, six numbers a box, minima first, and the greatest of them. The grid is validated once. After a refusal its number,
+// and the maxima are zero.
+pub fn box_maxima(
+    background: f32,
+    blocks: &[i32],
+    root_links: &[u32],
+    root_values: &[f32],
+    upper_links: &[u32],
+    upper_values: &[f32],
+    lower_links: &[u32],
+    lower_values: &[f32],
+    leaf_values: &[f32],
+    boxes: &[i32],
+    maxima: &mut [f32],
+) -> Answer
+    ensures greatest { λ r.
+        let g = gridOf background (now (blocks .entry)) (now («root_links» .entry)) (now («root_values» .entry))
+        (now («upper_links» .entry)) (now («upper_values» .entry)) (now («lower_links» .entry)) (now («lower_values» .entry))
+        (now («leaf_values» .entry)) in
+        ⌜ answer r ≡ said +0 (greatestInto g (now (boxes .entry)) (length (now (maxima .entry)))) ⌝ }
+    ensures table { λ r.
+        let g = gridOf background (now (blocks .entry)) (now («root_links» .entry)) (now («root_values» .entry))
+        (now («upper_links» .entry)) (now («upper_values» .entry)) (now («lower_links» .entry)) (now («lower_values» .entry))
+        (now («leaf_values» .entry)) in
+        let n = length (now (maxima .entry)) in
+        ⌜ now (maxima .exit) ≡ valueOr (replicate n +0) (maximaInto g (now (boxes .entry)) n) ⌝ }
+{
+    let list = maxima_fault(
+        background,
+        blocks,
+        root_links,
+        root_values,
+        upper_links,
+        upper_values,
+        lower_links,
+        lower_values,
+        leaf_values,
+        boxes.len(),
+        maxima.len(),
+    );
+    if list != 0 {
+        zero_f32(maxima);
+        return Answer::Refused(list);
+    }
+    let greatest = maxima_each(
+        background,
+        blocks,
+        root_links,
+        root_values,
+        upper_links,
+        upper_values,
+        lower_links,
+        lower_values,
+        leaf_values,
+        boxes,
+        maxima,
+    );
+    Answer::Value(greatest)
 }
 
 // The table of majorants, one figure for each of the 64 x 64 x 64 cells: cell x + 64y + 4096z. After a refusal its number, and the table is zero.

@@ -8,7 +8,7 @@ ghost use Rattle.sparse_grid.specs.Validate.{validate as validateS, validateDen
 ghost use Rattle.sparse_grid.specs.Answers.{outcome, at};
 ghost use Rattle.nanovdb.specs.Lent.{tables, lengths};
 ghost use Rattle.boxes.specs.Boxes.{between};
-ghost use Rattle.smokegrid.specs.Promises.{Decodes, GetsValue, BoxMaximum, WorldToIndex, Builds};
+ghost use Rattle.smokegrid.specs.Promises.{Decodes, GetsValue, BoxMaximum, BoxMaxima, WorldToIndex, Builds};
 
 mod flat;
 
@@ -19,6 +19,7 @@ use flat::put_corners;
 use flat::put_counts;
 use flat::put_medium;
 use index::world_to_index_f;
+use majorant::box_maxima;
 use majorant::box_maximum;
 use majorant::build_majorant;
 use sparse_grid::Answer;
@@ -265,6 +266,45 @@ pub extern "C" fn smokegrid_box_maximum(
         hz,
     );
     give(found, value)
+}
+
+// The greatest of +0.0 and the values of each box of a list (six numbers a box, minima first) into `maxima`, the greatest of the list through `greatest`,
+// and 0; or the number of the refusal, and zeros. The grid is validated once.
+#[no_mangle]
+pub extern "C" fn smokegrid_box_maxima(
+    background: f32,
+    blocks: &[i32],
+    root_links: &[u32],
+    root_values: &[f32],
+    upper_links: &[u32],
+    upper_values: &[f32],
+    lower_links: &[u32],
+    lower_values: &[f32],
+    leaf_values: &[f32],
+    boxes: &[i32],
+    maxima: &mut [f32],
+    greatest: &mut f32,
+) -> u32
+    ensures { λ r.
+        let g = gridOf background
+        (now (blocks .entry)) (now («root_links» .entry)) (now («root_values» .entry)) (now («upper_links» .entry))
+        (now («upper_values» .entry)) (now («lower_links» .entry)) (now («lower_values» .entry)) (now («leaf_values» .entry)) in
+        ⌜ BoxMaxima g (now (boxes .entry)) (length (now (maxima .entry))) r (now (maxima .exit)) (now (greatest .exit)) ⌝ }
+{
+    let found = box_maxima(
+        background,
+        blocks,
+        root_links,
+        root_values,
+        upper_links,
+        upper_values,
+        lower_links,
+        lower_values,
+        leaf_values,
+        boxes,
+        maxima,
+    );
+    give(found, greatest)
 }
 
 // The index position of a world point, as the bits of three floats, and 0; or the number of the refusal, and zeros.

@@ -21,11 +21,14 @@ use Rattle.nanovdb.specs.Passed.{density-passed}
 use Rattle.nanovdb.specs.UsedLaws.{accepts}
 use Rattle.index.specs.Index.{worldToIndex}
 use Rattle.index.specs.Answers.{indexBits}
-use Rattle.boxes.specs.Boxes.{Greatest}
+use Rattle.boxes.specs.Boxes.{InSome, GreatestOver, Greatest}
+use Rattle.majorant.specs.Maxima.{boxAt}
+use Rattle.majorant.specs.MaximaLaws.{maxima-greatest}
 use Rattle.majorant.specs.Build.{buildInto}
 use Rattle.claim.specs.Claim.{Holds, cells}
 use Rattle.claim.specs.Contracts.{indexOf}
 use Rattle.claim.specs.Theorem.{demand3}
+use Rattle.claim.specs.Lists.{listed, listed-greatest}
 use Rattle.claim.specs.ContractLaws.{looked, same-medium, figured}
 use Rattle.smokegrid.specs.Flat.{floatsOf, mediumFrom, indexFlat, buildFlat}
 use Rattle.smokegrid.specs.Promises.{Left}
@@ -70,6 +73,13 @@ module _ (b : List ℕ) (bytes : Bytes b) (l : Lent) (t : Accepted) (e : decodeI
         let (v, greatest) = holds .maxima x lo hi in
         let is = M .value-is ∙ ap (valueOr +0) v in
         (M .number-is ∙ ap numberOf v, is, subst (Greatest (voxel b) x) (sym is) greatest);
+    lists = λ boxes n long signed number maxima greatest M.
+        let all = listed b t holds boxes n long signed in
+        let is = M .greatest-is ∙ ap (valueOr +0) (listed-greatest b t holds boxes n long signed) in (
+          M .number-is ∙ ap numberOf all,
+          M .maxima-are ∙ ap (valueOr (replicate n +0)) all,
+          subst (GreatestOver (voxel b) (InSome (boxAt boxes) n)) (sym is) (maxima-greatest (voxel b) boxes n),
+        );
     positions = λ p number bits W. (W .number-is ∙ ap numberOf (indexed p), W .bits-are ∙ ap (valueOr (replicate 3 0)) (indexed p));
     figures = λ corners places number table B z.
         let into = flat-build (t .grid) (floatsOf (t .medium)) corners places (sym (B .number-is) ∙ z) in

@@ -14,10 +14,11 @@ use Rattle.sparse_grid.specs.Lookup.{lookup}
 use Rattle.medium.specs.Medium.{Point}
 use Rattle.nanovdb.specs.Lent.{Lent}
 use Rattle.nanovdb.specs.Agreement.{ReadsAs}
-use Rattle.boxes.specs.Boxes.{Box, Greatest, boxMaximum}
+use Rattle.boxes.specs.Boxes.{Box, InSome, GreatestOver, Greatest, boxMaximum}
+use Rattle.majorant.specs.Maxima.{boxAt, maximaOf}
 use Rattle.claim.specs.Claim.{Inside, Bounds}
-use Rattle.claim.specs.Contracts.{indexOf}
-use Rattle.smokegrid.specs.Promises.{Left, Decodes, GetsValue, BoxMaximum, WorldToIndex, Builds}
+use Rattle.claim.specs.Contracts.{SignedBoxes, indexOf}
+use Rattle.smokegrid.specs.Promises.{Left, Decodes, GetsValue, BoxMaximum, BoxMaxima, WorldToIndex, Builds}
 
 -- the used parts: three numbers of `blocks` a root, and 32,768, 4,096 and 512 places an upper, lower and leaf node, as counted
 abbrev pub used : Left → Grid
@@ -57,6 +58,10 @@ pub record KeepsC (b : List ℕ) (g : Grid) (medium : List Float) : Type 0 where
   -- a box maximum is not refused, and is the greatest of zero and the voxels of the box
   pub maxima : (x : Box) → Signed32 (x .lo) → Signed32 (x .hi) → (number : ℕ) (value : Float) → BoxMaximum g x number value
       → (number ≡ 0) × (value ≡ boxMaximum (voxel b) x) × Greatest (voxel b) x value
+  -- a list of boxes six to a place is not refused: each maximum is that of its box, and the greatest that of the boxes together
+  pub lists : (boxes : List ℤ) (n : ℕ) → length boxes ≡ 6 * n → SignedBoxes boxes n → (number : ℕ) (maxima : List Float) (greatest : Float)
+      → BoxMaxima g boxes n number maxima greatest
+      → (number ≡ 0) × (maxima ≡ maximaOf (boxMaximum (voxel b)) boxes n) × GreatestOver (voxel b) (InSome (boxAt boxes) n) greatest
   -- an index position is not refused, and is the one by which `Bounds` finds the eight voxels
   pub positions : (p : Point) (number : ℕ) (bits : List ℕ) → WorldToIndex medium p 3 number bits → (number ≡ 0) × (bits ≡ indexOf b p)
   -- the figures of a build that is not refused, whatever corners of the index box it was handed

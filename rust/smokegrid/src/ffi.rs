@@ -72,6 +72,10 @@ pub fn box_maximum(tables: &Tables, low: [i32; 3], high: [i32; 3], value: &mut f
     interface::box_maximum(grid(tables), lx, ly, lz, hx, hy, hz, value)
 }
 
+pub fn box_maxima(tables: &Tables, boxes: &[i32], maxima: &mut [f32], greatest: &mut f32) -> u32 {
+    interface::box_maxima(grid(tables), boxes, maxima, greatest)
+}
+
 pub fn world_to_index_f(medium: &[f32; 18], [x, y, z]: [f32; 3], index_bits: &mut [u32; 3]) -> u32 {
     interface::world_to_index_f(medium, x, y, z, index_bits)
 }

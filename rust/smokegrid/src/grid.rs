@@ -35,6 +35,15 @@ pub struct Medium {
     pub index_max: [i32; 3],
 }
 
+/// The maxima of a list of boxes.
+#[derive(Clone, Debug, PartialEq)]
+pub struct Maxima {
+    /// One for each box, in order.
+    pub each: Vec<f32>,
+    /// The greatest of them, and zero where there is none: the greatest density in the boxes together.
+    pub greatest: f32,
+}
+
 /// More tiles than lent root places, or no place for a node or a span.
 const NO_PLACE: u32 = 9;
 
@@ -105,6 +114,16 @@ impl Grid {
     /// The greatest of zero and the densities from `low` to `high`, ends included.
     pub fn box_maximum(&self, low: [i32; 3], high: [i32; 3]) -> Result<f32, Refusal> {
         value(|place| ffi::box_maximum(&self.tables, low, high, place))
+    }
+
+    /// The same for each box of a list, from its low voxel to its high one. The grid is validated once, where each single call
+    /// validates it anew.
+    pub fn box_maxima(&self, boxes: &[([i32; 3], [i32; 3])]) -> Result<Maxima, Refusal> {
+        let numbers: Vec<i32> =
+            boxes.iter().flat_map(|(low, high)| [*low, *high].concat()).collect();
+        let mut each = vec![0.0; boxes.len()];
+        let greatest = value(|place| ffi::box_maxima(&self.tables, &numbers, &mut each, place))?;
+        Ok(Maxima { each, greatest })
     }
 
     /// The index position of a world point.

@@ -17,6 +17,6 @@ mod majorant;
 mod refusal;
 mod tables;
 
-pub use grid::{Counts, Grid, Medium};
+pub use grid::{Counts, Grid, Maxima, Medium};
 pub use majorant::{Majorant, CELLS, CELLS_PER_AXIS};
 pub use refusal::Refusal;

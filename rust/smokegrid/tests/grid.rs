@@ -3,7 +3,7 @@
 mod common;
 
 use common::{chain, put32, put64, put_float, resize, tile, LEAF, LOWER, UPPER};
-use smokegrid::{Counts, Grid, CELLS};
+use smokegrid::{Counts, Grid, Maxima, CELLS};
 
 fn number(bytes: &[u8]) -> u32 {
     Grid::decode(bytes).map_or_else(|refusal| refusal.number(), |_| 0)
@@ -71,6 +71,25 @@ fn a_box_has_its_greatest_density_and_no_less_than_zero() {
     assert_eq!(grid.box_maximum([-4095, 0, 0], [-4090, 7, 7]), Ok(0.0));
     assert_eq!(grid.box_maximum([1, 0, 0], [0, 9, 9]), Ok(0.0));
     assert_eq!(grid.box_maximum([i32::MIN; 3], [i32::MAX; 3]), Ok(0.75));
+}
+
+#[test]
+fn a_list_of_boxes_is_each_box_and_the_greatest() {
+    let grid = Grid::decode(&chain()).unwrap();
+    let boxes = [
+        ([-4096, 0, 0], [-4096, 0, 0]),
+        ([-4095, 0, 0], [-4090, 7, 7]),
+        ([-4096, 0, 0], [-3969, 127, 127]),
+        ([1, 0, 0], [0, 9, 9]),
+    ];
+    let maxima = grid.box_maxima(&boxes).unwrap();
+    assert_eq!(maxima.each, [0.25, 0.0, 0.75, 0.0]);
+    assert_eq!(maxima.greatest, 0.75);
+    for (maximum, (low, high)) in maxima.each.iter().zip(boxes) {
+        assert_eq!(grid.box_maximum(low, high), Ok(*maximum));
+    }
+    assert_eq!(grid.box_maxima(&boxes[..2]).unwrap().greatest, 0.25);
+    assert_eq!(grid.box_maxima(&[]), Ok(Maxima { each: vec![], greatest: 0.0 }));
 }
 
 #[test]

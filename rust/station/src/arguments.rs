@@ -1,5 +1,6 @@
 //! The words after the program's name.
 
+use crate::boxes::{self, Zone};
 use smokegrid::CELLS_PER_AXIS;
 use std::ffi::OsString;
 use std::fmt::Display;
@@ -11,6 +12,8 @@ Decodes one raw NanoVDB density grid (ABI 32), builds its 64 x 64 x 64 cells, pr
 Questions, as many as there are:
   --at X Y Z                 the density at a voxel
   --box LX LY LZ HX HY HZ    the greatest density from the low voxel to the high one, ends included
+  --boxes FILE               the same for each box of a file, and the greatest of them: a box a line,
+                             six numbers as above; # begins a comment
   --cell X Y Z               the figure of a cell, each number from 0 to 63
   --help                     this text
 Exit status: 0, 1 where the grid is refused, 2 where the call is wrong or the file cannot be read.
@@ -32,6 +35,7 @@ pub struct Arguments {
 pub enum Question {
     At([i32; 3]),
     Box([i32; 3], [i32; 3]),
+    Boxes(Vec<Zone>),
     Cell([usize; 3]),
 }
 
@@ -47,6 +51,10 @@ pub fn parse(words: impl Iterator<Item = OsString>) -> Result<Request, String> {
             Some("--box") => {
                 let low = three("--box", &mut words)?;
                 questions.push(Question::Box(low, three("--box", &mut words)?));
+            }
+            Some("--boxes") => {
+                let path = words.next().ok_or("--boxes lacks a file")?;
+                questions.push(Question::Boxes(boxes::read(&PathBuf::from(path))?));
             }
             Some("--cell") => questions.push(Question::Cell(cell(&mut words)?)),
             Some(option) if option.starts_with('-') => {
@@ -114,6 +122,8 @@ mod tests {
             ("a --at 1 2", "--at lacks a number"),
             ("a --at 1 2 2147483648", "--at 2147483648: number too large to fit in target type"),
             ("a --box 1 2 3 4 5 x", "--box x: invalid digit found in string"),
+            ("a --boxes", "--boxes lacks a file"),
+            ("a --boxes no/such", "--boxes no/such: No such file or directory (os error 2)"),
             ("a --cell 1 2 64", "--cell 64: cells are numbered from 0 to 63"),
             ("a --cell 1 2 -1", "--cell -1: invalid digit found in string"),
         ] {

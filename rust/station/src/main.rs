@@ -1,6 +1,7 @@
 //! `station`: what a smoke station shows of one raw grid.
 
 mod arguments;
+mod boxes;
 mod report;
 mod steps;
 
@@ -98,18 +99,17 @@ fn read(path: &Path) -> Result<Vec<u8>, Stop> {
 fn answers(arguments: &Arguments, grid: &Grid, cells: Option<&Majorant>) -> Result<String, Stop> {
     let mut lines = String::new();
     for question in &arguments.questions {
-        let (asked, answer) = match question {
-            Question::At(at) => (format!("at {}", triple(at)), number(grid.get_value(*at)?)),
-            Question::Box(low, high) => (
-                format!("box {} to {}", triple(low), triple(high)),
-                number(grid.box_maximum(*low, *high)?),
-            ),
-            Question::Cell(cell) => (
-                format!("cell {}", triple(cell)),
-                cells.and_then(|cells| cells.figure(*cell)).map_or("none".to_string(), number),
+        lines += &match question {
+            Question::At(at) => {
+                report::line(&format!("at {}", triple(at)), &number(grid.get_value(*at)?))
+            }
+            Question::Box(low, high) => report::zone(low, high, grid.box_maximum(*low, *high)?),
+            Question::Boxes(boxes) => report::zones(boxes, &grid.box_maxima(boxes)?),
+            Question::Cell(cell) => report::line(
+                &format!("cell {}", triple(cell)),
+                &cells.and_then(|cells| cells.figure(*cell)).map_or("none".to_string(), number),
             ),
         };
-        lines += &report::line(&asked, &answer);
     }
     Ok(lines)
 }

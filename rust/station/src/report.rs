@@ -1,6 +1,7 @@
 //! The lines that are printed.
 
-use smokegrid::{Grid, Majorant, CELLS};
+use crate::boxes::Zone;
+use smokegrid::{Grid, Majorant, Maxima, CELLS};
 use std::fmt::Display;
 use std::path::Path;
 
@@ -35,6 +36,17 @@ pub fn cells(cells: &Majorant) -> String {
     let clear = format!("{} of {} cells ({share:.1} %)", counted(clear), counted(all));
     line("greatest figure", &format!("{} in cell {}", number(greatest), triple(&cell)))
         + &line("clear air", &clear)
+}
+
+pub fn zone(low: &[i32; 3], high: &[i32; 3], maximum: f32) -> String {
+    line(&format!("box {} to {}", triple(low), triple(high)), &number(maximum))
+}
+
+/// A line for each box, and the greatest of them.
+pub fn zones(boxes: &[Zone], maxima: &Maxima) -> String {
+    let each = boxes.iter().zip(&maxima.each);
+    let lines: String = each.map(|((low, high), maximum)| zone(low, high, *maximum)).collect();
+    lines + &line(&format!("greatest of {} boxes", counted(boxes.len())), &number(maxima.greatest))
 }
 
 pub fn triple<T: Display>([x, y, z]: &[T; 3]) -> String {

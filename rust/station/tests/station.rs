@@ -114,6 +114,34 @@ fn questions_are_answered_in_their_order() {
 }
 
 #[test]
+fn a_file_of_boxes_is_answered_box_by_box() {
+    let path = Path::new(env!("CARGO_TARGET_TMPDIR")).join("zones");
+    let zones = path.to_str().unwrap();
+    let ask = |text: &str| {
+        std::fs::write(&path, text).unwrap();
+        station(&[SAMPLE, "--boxes", zones])
+    };
+    let output = ask("# two zones, one empty\n0 0 0 23 23 23\n9 0 0 8 0 0 # none\n0 0 0 0 0 0\n");
+    assert_eq!((output.status.code(), err(&output).as_str()), (Some(0), ""));
+    let text = out(&output);
+    let answers: Vec<&str> = text.lines().skip(9).take(4).collect();
+    assert_eq!(
+        answers,
+        [
+            "box (0, 0, 0) to (23, 23, 23) 1",
+            "box (9, 0, 0) to (8, 0, 0) 0",
+            "box (0, 0, 0) to (0, 0, 0) 0",
+            "greatest of 3 boxes 1",
+        ]
+    );
+    assert!(out(&ask("")).contains("greatest of 0 boxes 0\n"));
+    let output = ask("0 0 0 1 1 1\n1 2\n");
+    assert_eq!(output.status.code(), Some(2));
+    let fault = format!("station: --boxes {zones}: line 2: 2 numbers, a box has six");
+    assert!(err(&output).starts_with(&fault), "{}", err(&output));
+}
+
+#[test]
 fn a_cut_file_is_refused() {
     let shown = assert_refused(&edited("cut", |bytes| bytes.truncate(500)), 2);
     assert!(shown.contains("length           500 bytes\n"), "{shown}");

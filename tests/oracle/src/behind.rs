@@ -69,6 +69,10 @@ pub fn box_maximum(
     given(value, Rust.box_maxima(grid, &[[lx, ly, lz, hx, hy, hz]])[0])
 }
 
+pub fn box_maxima(grid: Tables, boxes: &[i32], maxima: &mut [f32], greatest: &mut f32) -> u32 {
+    given(greatest, Rust.list_maxima(grid, boxes, maxima))
+}
+
 pub fn world_to_index_f(medium: &[f32], x: f32, y: f32, z: f32, index_bits: &mut [u32]) -> u32 {
     Rust.world_to_index_f(medium, [x, y, z], index_bits)
 }

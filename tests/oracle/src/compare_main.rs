@@ -2,7 +2,7 @@
 
 use oracle::generate::bench::Due;
 use oracle::generate::{self, Case};
-use oracle::loader::{decode_into, Answer, Grid, Held, Lengths, Loader, Rust, CELLS};
+use oracle::loader::{decode_into, Answer, Grid, Held, Lengths, Loader, Rust, Tables, CELLS};
 use oracle::random::Random;
 use oracle::source::has_newer_mark;
 use oracle::walk::{self, Places};
@@ -267,6 +267,8 @@ fn compare_grid(tally: &mut Tally, grid: &Grid, case: &Case, random: &mut Random
     boxes.push(std::array::from_fn(|i| grid.corners[i]));
     let (rust, ours) = (Rust.box_maxima(tables, &boxes), OURS.box_maxima(tables, &boxes));
     compare_answers(tally, "box_maximum", &boxes, &rust, &ours);
+    compare_list(tally, "box_maxima", tables, &lists(random, &boxes));
+    compare_union(tally, tables, case, random);
     for _ in 0..6 {
         compare_index(
             tally,
@@ -278,6 +280,57 @@ fn compare_grid(tally: &mut Tally, grid: &Grid, case: &Case, random: &mut Random
     if build {
         compare_build(tally, "build_majorant", grid, CELLS);
     }
+}
+
+/// The boxes as a list, with its number of places: as they are, none, or a length that is not six to a place.
+fn lists(random: &mut Random, boxes: &[[i32; 6]]) -> Vec<(Vec<i32>, usize)> {
+    let (numbers, places) = (boxes.concat(), boxes.len());
+    let odd = match random.below(5) {
+        0 => (numbers[1..].to_vec(), places),
+        1 => (numbers.clone(), places - 1),
+        2 => (numbers.clone(), places + 1),
+        3 => ([&numbers[..], &[7]].concat(), places),
+        _ => (vec![0; 6], 0),
+    };
+    vec![(numbers, places), (Vec::new(), 0), odd]
+}
+
+fn compare_list(
+    tally: &mut Tally,
+    kind: &'static str,
+    tables: Tables,
+    lists: &[(Vec<i32>, usize)],
+) {
+    for (boxes, places) in lists {
+        let fill = f32::from_bits(0x5a5a5a5a);
+        let (mut maxima, mut ours) = (vec![fill; *places], vec![fill; *places]);
+        let rust = Rust.list_maxima(tables, boxes, &mut maxima);
+        let our = OURS.list_maxima(tables, boxes, &mut ours);
+        let [maxima, ours] = [maxima, ours].map(|all| all.into_iter().map(f32::to_bits));
+        let same = rust == our && maxima.eq(ours);
+        tally.count(kind, rust.0, (!same).then(|| format!("{boxes:?}: Rust {rust:?}, ours {our:?}")));
+    }
+}
+
+/// The greatest of a list of small boxes beside the greatest of zero and every voxel in some box, by the walk of the bytes.
+fn compare_union(tally: &mut Tally, tables: Tables, case: &Case, random: &mut Random) {
+    let mut boxes = Vec::new();
+    let mut greatest = 0.0f32;
+    for low in samples::coordinates(random, &case.near, 3) {
+        let high = low.map(|c| c.saturating_add(random.between(-1, 4) as i32));
+        boxes.extend([low, high].concat());
+        for (x, y, z) in (low[0]..=high[0])
+            .flat_map(|x| (low[1]..=high[1]).map(move |y| (x, y)))
+            .flat_map(|(x, y)| (low[2]..=high[2]).map(move |z| (x, y, z)))
+        {
+            greatest = greatest.max(f32::from_bits(walk::voxel(&case.bytes, [x, y, z])));
+        }
+    }
+    let mut maxima = [0.0; 3];
+    let due = (0, if greatest == 0.0 { 0 } else { greatest.to_bits() });
+    let ours = OURS.list_maxima(tables, &boxes, &mut maxima);
+    let difference = (due != ours).then(|| format!("{boxes:?}: walk {due:?}, ours {ours:?}"));
+    tally.count("box_maxima, walk of the bytes", 0, difference);
 }
 
 fn compare_index(tally: &mut Tally, kind: &'static str, medium: &[f32], point: [f32; 3]) {
@@ -324,6 +377,7 @@ fn compare_spoiled(tally: &mut Tally, grid: &Grid, case: &Case, random: &mut Ran
     let boxes = samples::areas(random, &case.near, 2);
     let (maxima, our_maxima) = (Rust.box_maxima(tables, &boxes), OURS.box_maxima(tables, &boxes));
     compare_answers(tally, "spoiled: box_maximum", &boxes, &maxima, &our_maxima);
+    compare_list(tally, "spoiled: box_maxima", tables, &lists(random, &boxes));
     // A build of tables that still pass would cost as much as any other.
     if rust != 0 {
         compare_build(tally, "spoiled: build_majorant", &grid, CELLS);

@@ -71,6 +71,10 @@ impl Loader for Linked {
         boxes.iter().map(|b| maximum(*b)).collect()
     }
 
+    fn list_maxima(&self, grid: Tables, boxes: &[i32], maxima: &mut [f32]) -> Answer {
+        answer(|greatest| interface::box_maxima(tables(grid), boxes, maxima, greatest))
+    }
+
     fn world_to_index_f(&self, medium: &[f32], [x, y, z]: [f32; 3], index_bits: &mut [u32]) -> u32 {
         interface::world_to_index_f(medium, x, y, z, index_bits)
     }

@@ -47,6 +47,8 @@ pub trait Loader {
     fn get_values(&self, grid: Tables, coordinates: &[[i32; 3]]) -> Vec<Answer>;
     /// Boxes are low x, y, z and then high x, y, z.
     fn box_maxima(&self, grid: Tables, boxes: &[[i32; 6]]) -> Vec<Answer>;
+    /// A list of boxes, six numbers each: their maxima, and the greatest.
+    fn list_maxima(&self, grid: Tables, boxes: &[i32], maxima: &mut [f32]) -> Answer;
     fn world_to_index_f(&self, medium: &[f32], point: [f32; 3], index_bits: &mut [u32]) -> u32;
     fn build_majorant(
         &self,
@@ -99,6 +101,25 @@ impl Loader for Rust {
             source::range_max(sparse, [b[0], b[1], b[2]], [b[3], b[4], b[5]])
         };
         boxes.iter().map(|b| answer(maximum(b))).collect()
+    }
+
+    /// The Rust has no list: each box by itself, with the order and the zeros of document 02, A8.
+    fn list_maxima(&self, grid: Tables, boxes: &[i32], maxima: &mut [f32]) -> Answer {
+        maxima.fill(0.0);
+        if boxes.len() % 6 != 0 || boxes.len() / 6 != maxima.len() {
+            return (18, 0);
+        }
+        let number = self.validate(grid);
+        if number != 0 {
+            return (number, 0);
+        }
+        let boxes: Vec<[i32; 6]> = boxes.chunks_exact(6).map(|b| b.try_into().unwrap()).collect();
+        let mut greatest = 0.0f32;
+        for (maximum, (_, bits)) in maxima.iter_mut().zip(self.box_maxima(grid, &boxes)) {
+            *maximum = f32::from_bits(bits);
+            greatest = greatest.max(*maximum);
+        }
+        (0, greatest.to_bits())
     }
 
     fn world_to_index_f(&self, medium: &[f32], point: [f32; 3], index_bits: &mut [u32]) -> u32 {
