@@ -7,6 +7,7 @@ pub mod Rows
 -- Worked examples.
 pub mod BoxExamples
 pub mod BuildExamples
+pub mod MaximaExamples
 -- Laws.
 pub mod MaximaLaws
 pub mod FitLaws

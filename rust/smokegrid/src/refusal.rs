@@ -99,7 +99,7 @@ const WORDS: [Words; 18] = [
     words(
         "TABLES",
         "paired tables of unequal length, blocks that are not three a root, a table that is not of \
-         whole nodes",
+         whole nodes, boxes that are not six to a maximum",
         "The program lent tables that do not belong together: a fault of the program, not of the \
          grid. Report it.",
     ),
