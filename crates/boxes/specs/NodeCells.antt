@@ -92,10 +92,6 @@ module _ {x y z : Span} {side at e : ℕ} (f : Full x y z) where
 
 -- ---- children
 
-pub child : (l : ℕ) (v : Float) → 0 < l → Child (l - 1) ≡ entryOf l v
-child zero v h = absurd (omega arith)
-child (suc l) v h = ap Child (omega arith)
-
 child-of : (l : ℕ) (v : Float) {j : ℕ} → entryOf l v ≡ Child j → l ≡ suc j
 child-of zero v q = let w : _≡_ {A = ℕ} 0 1 = cc in absurd (omega arith)
 child-of (suc l) v q = cc

@@ -13,7 +13,8 @@ use Rattle.layout.specs.Coordinates.{Coord, slot, blockOf, sameBlock}
 use Rattle.sparse_grid.specs.Tables.{Grid, entryOf, entryAt, blockAt}
 use Rattle.sparse_grid.specs.Validate.{earlier}
 use Rattle.sparse_grid.specs.Lookup.{refused, lookup, rootsFrom, rootEntry, upperEntry, lowerEntry, upperAt, lowerAt, leafAt, valueIn}
-use Rattle.sparse_grid.specs.Biased.{place, mod-8, mod-128, mod-4096, shr-4096}
+use Rattle.sparse_grid.specs.Biased.{place}
+use Rattle.sparse_grid.specs.BiasedLaws.{mod-8, mod-128, mod-4096, shr-4096}
 use Rattle.sparse_grid.specs.Sound.{Sound}
 use Rattle.boxes.specs.RangeMax.{entryRead, leafRead, lowerRead, upperRead, lowerSlot, upperSlot, readAt, blockAtPlace}
 

@@ -15,7 +15,8 @@ use Rattle.float.specs.Literal.{zero-literal}
 use Rattle.layout.specs.Coordinates.{Coord}
 use Rattle.sparse_grid.specs.Tables.{Grid}
 use Rattle.sparse_grid.specs.Lookup.{readIn}
-use Rattle.sparse_grid.specs.Biased.{back, place, back-le, back-between}
+use Rattle.sparse_grid.specs.Biased.{back, place}
+use Rattle.sparse_grid.specs.BiasedLaws.{back-le, back-between}
 use Rattle.boxes.specs.declared.Span.{Span}
 use Rattle.boxes.specs.Boxes.{Greatest, boxMaximum, between}
 use Rattle.boxes.specs.Maximum.{greatest}

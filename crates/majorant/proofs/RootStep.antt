@@ -11,12 +11,11 @@ use lib.Ieee.{Float}
 use mir.Syntax.{w32}
 use mir.Val.{toZ, ofZ}
 use Rattle.sparse_grid.specs.declared.Entry.{Entry}
-use Rattle.sparse_grid.specs.declared.Root.{Root}
-use Rattle.sparse_grid.specs.Tables.{Grid, blockAt}
+use Rattle.layout.specs.Coordinates.{Coord}
+use Rattle.sparse_grid.specs.Tables.{Grid, blockAt, entryAt}
 use Rattle.sparse_grid.specs.Validate.{blockIn}
-use Rattle.sparse_grid.specs.Biased.{back}
+use Rattle.sparse_grid.specs.Biased.{back, raised}
 use Rattle.sparse_grid.specs.Sound.{Sound}
-use Rattle.sparse_grid.specs.Inner.{rootOf, Has, raised}
 use Rattle.boxes.specs.declared.Span.{Span}
 use Rattle.boxes.specs.Boxes.{greater}
 use Rattle.boxes.specs.Most.{Most}
@@ -30,25 +29,15 @@ use Rattle.majorant.proofs.Signs.{handed, back-raised}
 abbrev handedOn : ℤ → ℤ
 handedOn z = toZ w32 (ofZ w32 z)
 
-whole : (z y : ℤ) → z ≡ y → blockIn y ≡ true → handedOn z ≡ y
-whole z y e h = handed z (ap blockIn e ∙ h) ∙ e
+held : (z : ℤ) → blockIn z ≡ true → z ≡ back 524288 (raised (handedOn z))
+held z h = back-raised z h ∙ ap (λ (k : ℤ). back 524288 (raised k)) (sym (handed z h))
 
-in-range : (z y : ℤ) → z ≡ y → blockIn y ≡ true → blockIn (handedOn z) ≡ true
-in-range z y e h = ap blockIn (whole z y e h) ∙ h
-
-held : (z y : ℤ) → z ≡ y → blockIn y ≡ true → y ≡ back 524288 (raised (handedOn z))
-held z y e h = back-raised y h ∙ ap (λ (k : ℤ). back 524288 (raised k)) (sym (whole z y e h))
-
-pub has : (g : Grid) (i : ℕ) → Sound g → i < length (g .rootLinks) → Has (g .blocks) (g .rootLinks) (g .rootValues) i
-has g i s l = record { block = omega (arith, s .blocks); link = l; value = omega (arith, s .roots) }
-
--- root i of a sound grid, as the code reads it
-pub record Rooted (g : Grid) (i : ℕ) (root : Root) : Type 0 where
+-- root i of a sound grid
+pub record Rooted (g : Grid) (i : ℕ) : Type 0 where
   pub sound : Sound g
   pub inside : i < length (g .rootLinks)
-  pub is : root ≡ rootOf (g .blocks) (g .rootLinks) (g .rootValues) i
 
--- the root's block, and whether it is apart from a span, by the number that a callee is handed
+-- a number of a block, and whether it is apart from a span, by what a callee is handed
 abbrev blockNumber : ℤ → ℕ
 blockNumber z = raised (handedOn z)
 
@@ -60,16 +49,16 @@ abbrev below : Grid → Entry → ℕ → ℕ → ℕ → Float
 below g e a b c =
     entryRead e (λ j. upperRead (g .upperLinks) (g .upperValues) (g .lowerLinks) (g .lowerValues) (g .leafValues) j a b c)
 
--- the part of three spans in the root's block, which meets them all
-pub record Clips (root : Root) (x y z cx cy cz : Span) : Type 0 where
-  pub x-part : Clip (blockNumber (root .x)) (x .lo) (x .hi) (cx .lo) (cx .hi)
-  pub y-part : Clip (blockNumber (root .y)) (y .lo) (y .hi) (cy .lo) (cy .hi)
-  pub z-part : Clip (blockNumber (root .z)) (z .lo) (z .hi) (cz .lo) (cz .hi)
-  pub x-met : apartFrom (root .x) x ≡ false
-  pub y-met : apartFrom (root .y) y ≡ false
-  pub z-met : apartFrom (root .z) z ≡ false
+-- the part of three spans in a root's block, which meets them all
+pub record Clips (block : Coord) (x y z cx cy cz : Span) : Type 0 where
+  pub x-part : Clip (blockNumber (block .x)) (x .lo) (x .hi) (cx .lo) (cx .hi)
+  pub y-part : Clip (blockNumber (block .y)) (y .lo) (y .hi) (cy .lo) (cy .hi)
+  pub z-part : Clip (blockNumber (block .z)) (z .lo) (z .hi) (cz .lo) (cz .hi)
+  pub x-met : apartFrom (block .x) x ≡ false
+  pub y-met : apartFrom (block .y) y ≡ false
+  pub z-met : apartFrom (block .z) z ≡ false
 
-pub part : {root : Root} {x y z cx cy cz : Span} → Full x y z → Clips root x y z cx cy cz → Full cx cy cz
+pub part : {block : Coord} {x y z cx cy cz : Span} → Full x y z → Clips block x y z cx cy cz → Full cx cy cz
 part f p = record {
   x-some = clip-some (f .x-some) (p .x-met) (p .x-part);
   y-some = clip-some (f .y-some) (p .y-met) (p .y-part);
@@ -79,46 +68,47 @@ part f p = record {
   z-top = le-trans (p .z-part .high) (f .z-top);
 }
 
-module _ {g : Grid} {i : ℕ} {root : Root} (r : Rooted g i root) where
-  pub x-in : blockIn (handedOn (root .x)) ≡ true
-  x-in = in-range (root .x) (blockAt g i .x) (λ k. r .is k .x) (r .sound .ranged i (r .inside) .0)
+-- the entry of root i, as the code reads it
+abbrev pub IsEntry : Grid → ℕ → Entry → Type 0
+IsEntry g i e = e ≡ entryAt (g .rootLinks) (g .rootValues) i
 
-  pub y-in : blockIn (handedOn (root .y)) ≡ true
-  y-in = in-range (root .y) (blockAt g i .y) (λ k. r .is k .y) (r .sound .ranged i (r .inside) .1)
+module _ {g : Grid} {i : ℕ} (r : Rooted g i) where
+  pub value-in : i < length (g .rootValues)
+  value-in = omega (arith, r .sound .roots, r .inside)
 
-  pub z-in : blockIn (handedOn (root .z)) ≡ true
-  z-in = in-range (root .z) (blockAt g i .z) (λ k. r .is k .z) (r .sound .ranged i (r .inside) .2)
-
-  pub child-in : childIn (root .entry) (length (g .upperLinks))
-  child-in =
+  pub child-in : {e : Entry} → IsEntry g i e → childIn e (length (g .upperLinks))
+  child-in is =
       let n = length (g .upperLinks) in
-      subst (λ (e : Entry). childIn e n) (λ k. sym (r .is) k .entry) (linked-room (g .rootLinks) (g .rootValues) i n (r .sound .root-linked i))
+      subst (λ (e : Entry). childIn e n) (sym is) (linked-room (g .rootLinks) (g .rootValues) i n (r .sound .root-linked i))
 
-  here : blockAt g i ≡ corner (blockNumber (root .x)) (blockNumber (root .y)) (blockNumber (root .z))
-  here = λ k. record {
-    x = held (root .x) (blockAt g i .x) (λ j. r .is j .x) (r .sound .ranged i (r .inside) .0) k;
-    y = held (root .y) (blockAt g i .y) (λ j. r .is j .y) (r .sound .ranged i (r .inside) .1) k;
-    z = held (root .z) (blockAt g i .z) (λ j. r .is j .z) (r .sound .ranged i (r .inside) .2) k;
-  }
+  here : blockAt g i ≡ corner (blockNumber (blockAt g i .x)) (blockNumber (blockAt g i .y)) (blockNumber (blockAt g i .z))
+  here =
+      let h = r .sound .ranged i (r .inside) in
+      λ k. record { x = held (blockAt g i .x) (h .0) k; y = held (blockAt g i .y) (h .1) k; z = held (blockAt g i .z) (h .2) k }
 
   module _ {x y z : Span} (full : Full x y z) where
-    pub misses : (apartFrom (root .x) x ≡ true) ⊎ ((apartFrom (root .y) y ≡ true) ⊎ (apartFrom (root .z) z ≡ true))
-        → {m : Float} {k : ℕ} → CoveredIn g i x y z m k → CoveredIn g (i + 1) x y z m k
+    pub misses : {m : Float} {k : ℕ} →
+        let b = blockAt g i in
+        (apartFrom (b .x) x ≡ true) ⊎ ((apartFrom (b .y) y ≡ true) ⊎ (apartFrom (b .z) z ≡ true))
+        → CoveredIn g i x y z m k → CoveredIn g (i + 1) x y z m k
     misses h v =
-        step-apart g i (blockNumber (root .x)) (blockNumber (root .y)) (blockNumber (root .z))
+        let b = blockAt g i in
+        step-apart g i (blockNumber (b .x)) (blockNumber (b .y)) (blockNumber (b .z))
         (x .lo) (x .hi) (y .lo) (y .hi) (z .lo) (z .hi) here (full .x-some) (full .y-some) (full .z-some) h v
 
-    pub meets : {cx cy cz : Span} {m v n : Float} {k : ℕ} → Clips root x y z cx cy cz → CoveredIn g i x y z m k
-        → Most (below g (root .entry)) (Within cx cy cz) v → n ≡ greater m v → CoveredIn g (i + 1) x y z n (k + 1)
-    meets {cx} {cy} {cz} p v w e =
+    pub meets : {cx cy cz : Span} {e : Entry} {m v n : Float} {k : ℕ} → Clips (blockAt g i) x y z cx cy cz → IsEntry g i e → CoveredIn g i x y z m k
+        → Most (below g e) (Within cx cy cz) v → n ≡ greater m v → CoveredIn g (i + 1) x y z n (k + 1)
+    meets {cx} {cy} {cz} {e} p is v w q =
         let f = part full p in
-        step-meets g (r .sound) i (blockNumber (root .x)) (blockNumber (root .y)) (blockNumber (root .z))
+        let b = blockAt g i in
+        step-meets g (r .sound) i (blockNumber (b .x)) (blockNumber (b .y)) (blockNumber (b .z))
         (x .lo) (x .hi) (y .lo) (y .hi) (z .lo) (z .hi) (cx .lo) (cx .hi) (cy .lo) (cy .hi) (cz .lo) (cz .hi)
-        (r .inside) here (p .x-part) (p .y-part) (p .z-part) (f .x-some) (f .y-some) (f .z-some) v (most-as same w) e
+        (r .inside) here (p .x-part) (p .y-part) (p .z-part) (f .x-some) (f .y-some) (f .z-some) v (most-as same w) q
       where
-        same : (a b c : ℕ) → Within cx cy cz a b c → below g (root .entry) a b c ≡ readAt g a b c
+        same : (a b c : ℕ) → Within cx cy cz a b c → below g e a b c ≡ readAt g a b c
         same a b c t =
-            ap (λ (e : Entry). below g e a b c) (λ k. r .is k .entry)
-            ∙ sym (root-read g (r .sound) i (blockNumber (root .x)) (blockNumber (root .y)) (blockNumber (root .z))
+            let h = blockAt g i in
+            ap (λ (e : Entry). below g e a b c) is
+            ∙ sym (root-read g (r .sound) i (blockNumber (h .x)) (blockNumber (h .y)) (blockNumber (h .z))
             (x .lo) (x .hi) (y .lo) (y .hi) (z .lo) (z .hi) (cx .lo) (cx .hi) (cy .lo) (cy .hi) (cz .lo) (cz .hi)
             (r .inside) here (p .x-part) (p .y-part) (p .z-part) a b c t)

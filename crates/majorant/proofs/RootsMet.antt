@@ -15,7 +15,7 @@ use Rattle.float.specs.Plain.{up-plain}
 use Rattle.layout.specs.Coordinates.{Coord, sameBlock}
 use Rattle.sparse_grid.specs.Tables.{Grid, blockAt, entryAt}
 use Rattle.sparse_grid.specs.Validate.{earlier}
-use Rattle.sparse_grid.specs.Biased.{eqZ-back}
+use Rattle.sparse_grid.specs.BiasedLaws.{eqZ-back}
 use Rattle.sparse_grid.specs.Sound.{Sound}
 use Rattle.sparse_grid.specs.Count.{sum, bit, split-lt, sum-same, sum-one, sum-most, sum-full, sum-gap, sum-nil, bit-most, bit-one, bit-none}
 use Rattle.boxes.specs.declared.Span.{Span}

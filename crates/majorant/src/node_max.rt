@@ -2,31 +2,18 @@
 ghost use mathlib.Core.Path.{_≡_};
 ghost use Prim.Native.Nat.{_+_, _*_, _/_, _<_, _≤_};
 ghost use lib.ListN.{length};
-ghost use Rattle.sparse_grid.specs.Tables.{entryAt};
 ghost use Rattle.boxes.specs.Boxes.{greater as greaterS};
 ghost use Rattle.boxes.specs.Most.{Most, Inside};
 ghost use Rattle.boxes.specs.RangeMax.{Within, Full, Cut, InCell, entryRead, leafRead, lowerRead, upperRead, LowerIn, UpperIn, Linked, childIn};
 use boxes::Span;
 use sparse_grid::Entry;
+use sparse_grid::entry_of;
 
 // b where a is less, and a otherwise.
 pub(crate) fn greater(a: f32, b: f32) -> f32
     ensures { λ r. ⌜ r ≡ greaterS a b ⌝ }
 {
     if a < b { b } else { a }
-}
-
-// Link 0 is a tile, k + 1 is child k.
-pub(crate) fn entry_at(links: &[u32], values: &[f32], i: usize) -> Entry
-    requires { ⌜ (i < length (now links)) × (i < length (now values)) ⌝ }
-    ensures { λ r. ⌜ r ≡ entryAt (now (links .entry)) (now (values .entry)) i ⌝ }
-{
-    let link = links[i];
-    if link == 0 {
-        Entry::Tile(values[i])
-    } else {
-        Entry::Child(link - 1)
-    }
 }
 
 // The place of a slot in a node that is `dimension` slots a side.
@@ -107,7 +94,7 @@ fn lower_cell(
     ensures { λ r. ⌜ Most (lowerRead (now («lower_links» .entry)) (now («lower_values» .entry)) (now («leaf_values» .entry)) k) (Within x y z) r ⌝ }
 {
     let i = 4096 * k + table_index(x.lo % 128 / 8, y.lo % 128 / 8, z.lo % 128 / 8, 16);
-    match entry_at(lower_links, lower_values, i) {
+    match entry_of(lower_links[i], lower_values[i]) {
         Entry::Child(j) => leaf_max(leaf_values, j as usize, x, y, z),
         Entry::Tile(v) => greater(0.0f32, v),
     }
@@ -215,7 +202,7 @@ fn upper_cell(
         ⌜ Most read (Within x y z) r ⌝ }
 {
     let i = 32768 * k + table_index(x.lo % 4096 / 128, y.lo % 4096 / 128, z.lo % 4096 / 128, 32);
-    match entry_at(upper_links, upper_values, i) {
+    match entry_of(upper_links[i], upper_values[i]) {
         Entry::Child(j) => lower_max(lower_links, lower_values, leaf_values, j as usize, x, y, z),
         Entry::Tile(v) => greater(0.0f32, v),
     }

@@ -1,23 +1,22 @@
 // The greatest of +0.0 and the voxels of a box, over the lent tables of a grid that passed validate.
 // Coordinates here are biased: a coordinate plus 2^31, so that blocks and slots are plain quotients and remainders.
 ghost use mathlib.Core.Path.{_≡_};
-ghost use mathlib.Core.Bool.{true};
 ghost use Prim.Native.Nat.{ℕ, _+_, _*_, _<_, _≤_};
 ghost use lib.ListN.{length};
 ghost use Rattle.sparse_grid.specs.Tables.{gridOf};
-ghost use Rattle.sparse_grid.specs.Validate.{validate, blockIn};
+ghost use Rattle.sparse_grid.specs.Validate.{validate};
 ghost use Rattle.sparse_grid.specs.Lookup.{readIn};
-ghost use Rattle.sparse_grid.specs.Biased.{back};
+ghost use Rattle.sparse_grid.specs.Biased.{raised};
 ghost use Rattle.sparse_grid.specs.Sound.{Sound};
-ghost use Rattle.sparse_grid.specs.Inner.{rootOf, Has, raised};
 ghost use Rattle.boxes.specs.Boxes.{boxMaximum, between};
 ghost use Rattle.boxes.specs.Most.{Most};
 ghost use Rattle.boxes.specs.RangeMax.{Within, Full, Ends, Clip, apart, empty, readAt, wide as wideS, CoveredIn};
-use crate::node_max::entry_at;
 use crate::node_max::greater;
 use crate::node_max::root_max;
 use boxes::Span;
-use sparse_grid::Root;
+use sparse_grid::biased;
+use sparse_grid::entry_of;
+use sparse_grid::lifted;
 
 // What the roots so far hold of a box: its maximum, and how many blocks of the box it covers.
 pub struct Covered {
@@ -25,19 +24,12 @@ pub struct Covered {
     pub blocks: usize,
 }
 
-// A coordinate plus 2^31.
-fn biased(c: i32) -> usize
-    ensures { λ r. ⌜ (c ≡ back 2147483648 r) × (r < 4294967296) ⌝ }
-{
-    (c as i64 + 2147483648) as usize
-}
-
 // The coordinates from lo to hi, ends included.
 fn span_of(lo: i32, hi: i32) -> Span
     ensures { λ r. ⌜ Ends lo hi r ⌝ }
 {
-    let a = biased(lo);
-    let e = biased(hi);
+    let a = biased(lo) as usize;
+    let e = biased(hi) as usize;
     Span { lo: a, hi: e + 1 }
 }
 
@@ -66,20 +58,12 @@ fn lesser(a: usize, b: usize) -> usize
     if a < b { a } else { b }
 }
 
-// A block's number plus 2^19.
-fn lifted(block: i32) -> usize
-    requires { ⌜ blockIn block ≡ true ⌝ }
-    ensures { λ r. ⌜ (r ≡ raised block) × (r < 1048576) ⌝ }
-{
-    (block + 524288) as usize
-}
-
 // Whether a span meets no coordinate of a block of 4,096.
 fn is_apart(block: i32, span: Span) -> bool
-    requires { ⌜ (blockIn block ≡ true) × (span .lo < span .hi) ⌝ }
+    requires { ⌜ span .lo < span .hi ⌝ }
     ensures { λ r. ⌜ r ≡ apart (raised block) (span .lo) (span .hi) ⌝ }
 {
-    let b = lifted(block);
+    let b = lifted(block) as usize;
     if b < span.lo / 4096 {
         return true;
     }
@@ -88,29 +72,12 @@ fn is_apart(block: i32, span: Span) -> bool
 
 // The part of a span in a block of 4,096 coordinates.
 fn intersect_bounds(block: i32, span: Span) -> Span
-    requires { ⌜ blockIn block ≡ true ⌝ }
     ensures { λ r. ⌜ Clip (raised block) (span .lo) (span .hi) (r .lo) (r .hi) ⌝ }
 {
-    let start = lifted(block) * 4096;
+    let start = lifted(block) as usize * 4096;
     let lo = higher(span.lo, start);
     let hi = lesser(span.hi, start + 4096);
     Span { lo: lo, hi: hi }
-}
-
-fn root_at(blocks: &[i32], root_links: &[u32], root_values: &[f32], i: usize) -> Root
-    requires { ⌜ Has (now blocks) (now «root_links») (now «root_values») i ⌝ }
-    ensures { λ r. ⌜ r ≡ rootOf (now (blocks .entry)) (now («root_links» .entry)) (now («root_values» .entry)) i ⌝ }
-{
-    let x = blocks[3 * i];
-    let y = blocks[3 * i + 1];
-    let z = blocks[3 * i + 2];
-    let entry = entry_at(root_links, root_values, i);
-    Root {
-        x: x,
-        y: y,
-        z: z,
-        entry: entry,
-    }
 }
 
 // Root i more. Blocks differ, so a root that meets the box covers one block of it that none before has.
@@ -139,20 +106,22 @@ fn cover(
         (now («leaf_values» .entry)) in
         ⌜ CoveredIn g (i + 1) x y z (r .maximum) (r .blocks) ⌝ }
 {
-    let root = root_at(blocks, root_links, root_values, i);
-    if is_apart(root.x, x) {
+    let bx = blocks[3 * i];
+    if is_apart(bx, x) {
         return covered;
     }
-    if is_apart(root.y, y) {
+    let by = blocks[3 * i + 1];
+    if is_apart(by, y) {
         return covered;
     }
-    if is_apart(root.z, z) {
+    let bz = blocks[3 * i + 2];
+    if is_apart(bz, z) {
         return covered;
     }
-    let cx = intersect_bounds(root.x, x);
-    let cy = intersect_bounds(root.y, y);
-    let cz = intersect_bounds(root.z, z);
-    let entry = root.entry;
+    let cx = intersect_bounds(bx, x);
+    let cy = intersect_bounds(by, y);
+    let cz = intersect_bounds(bz, z);
+    let entry = entry_of(root_links[i], root_values[i]);
     let held = root_max(
         entry,
         upper_links,

@@ -1,4 +1,3 @@
-pub mod Lists
 pub mod Tested
 pub mod Tests
 pub mod Steps

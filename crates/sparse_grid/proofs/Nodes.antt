@@ -17,7 +17,8 @@ use Rattle.sparse_grid.specs.Validate.{pairFault}
 use Rattle.sparse_grid.specs.Lookup as found
 use Rattle.sparse_grid.specs.Lookup.{Found, lowerEntry, lowerAt, upperEntry, upperAt, rootEntry, rootsFrom, lookup}
 use Rattle.sparse_grid.specs.Answers.{valueOnly}
-use Rattle.sparse_grid.specs.Biased.{place, mod-8, mod-128, mod-4096}
+use Rattle.sparse_grid.specs.Biased.{place}
+use Rattle.sparse_grid.specs.BiasedLaws.{mod-8, mod-128, mod-4096}
 use Rattle.sparse_grid.specs.Inner.{rootBlock, entryFrom, nodesOf, told}
 
 -- ---- a node, by the n entries that its table must have

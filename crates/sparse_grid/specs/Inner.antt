@@ -1,8 +1,8 @@
 -- What only the contracts of private functions cite: root records, the order of blocks, and faults and lookups of a part of a grid.
-use Prim.Native.Nat.{ℕ, zero, suc, _+_, _-_, _*_, _/_, _≤_, _<_}
+use Prim.Native.Nat.{ℕ, zero, suc, _+_, _*_, _/_, _≤_, _<_}
 use mathlib.Core.Bool.{Bool, not, cond, _&&_}
 use mathlib.Core.List.{List, []}
-use lib.IntN.{ℤ, pos, negsuc}
+use lib.IntN.{ℤ, pos}
 use lib.Dec.{ltb}
 use lib.ListN.{getD, length}
 use lib.Ieee.{Float}
@@ -14,7 +14,7 @@ use Rattle.sparse_grid.specs.declared.Entry.{Entry}
 use Rattle.sparse_grid.specs.declared.Entry.the-variants.{Child, Tile}
 use Rattle.sparse_grid.specs.declared.Root.{Root}
 use Rattle.sparse_grid.specs.declared.lookup.Place.{Place}
-use Rattle.sparse_grid.specs.Biased.{place}
+use Rattle.sparse_grid.specs.Biased.{place, raised}
 use Rattle.sparse_grid.specs.Tables.{Grid, gridOf, entryAt, blockAt}
 use Rattle.sparse_grid.specs.Validate.{valueFault, entryFault, entriesFault, valuesFault, blockIn, earlier, pairFault, shapeFault}
 
@@ -45,11 +45,6 @@ ranged b = blockIn (b .x) && blockIn (b .y) && blockIn (b .z)
 abbrev pub faultOf : ℕ → Entry → Bool → ℕ
 faultOf count (Child k) clear = unless (ltb k count && clear) 11
 faultOf count (Tile v) clear = valueFault v
-
--- a block's number plus 2^19
-abbrev pub raised : ℤ → ℕ
-raised (pos n) = 524288 + n
-raised (negsuc n) = 524288 - (n + 1)
 
 -- a number that rises with the blocks in range: by x, then y, then z, each with its sign
 unfoldable pub rank : Coord → ℕ

@@ -4,6 +4,8 @@ pub mod Lookup
 pub mod Count
 pub mod Answers
 pub mod Biased
+pub mod BiasedLaws
+pub mod TableLaws
 pub mod Signs
 pub mod Sound
 pub mod Inner

@@ -1,20 +1,20 @@
 -- How code has a signed number: as its bits, which are compared, handed on, raised and biased. Assumes nothing.
-use Prim.Native.Nat.{ℕ, suc, _-_, _≤_, _<_}
+use Prim.Native.Nat.{ℕ, _≤_, _<_}
 use mathlib.Core.Path.{_≡_, refl, sym, ap, _∙_, subst}
-use mathlib.Core.Bool.{Bool, true, false, cond, _&&_}
+use mathlib.Core.Bool.{Bool, true, false, _&&_}
 use native.Mathlib.Omega.{arith}
 use native.Mathlib.Nat.{lt-of-lt-of-le, lt-of-le-of-lt}
 use lib.IntN.{ℤ, pos, negsuc, natAbs, _+ℤ_}
 use lib.Signed.{mag-shr, nonNeg, leZ, shrZ}
 use lib.Dec.{T, lit≤, leb→le, eqb}
-use borrow.Author.Tests.{eq-eqb, ne-eqb, eqb-true, le-ltb}
+use borrow.Author.Tests.{eq-eqb, ne-eqb, eqb-true}
 use mir.Syntax.{w32, w64}
-use mir.Val.{Fits, SFits, toZ, ofZ}
+use mir.Val.{SFits, toZ, ofZ}
 use mir.ValLaws.{toZ-ofZ}
 use Rattle.layout.specs.Coordinates.{eqZ}
 use Rattle.sparse_grid.specs.Validate.{blockIn}
-use Rattle.sparse_grid.specs.Biased.{back, lift}
-use Rattle.sparse_grid.specs.Inner.{raised}
+use Rattle.sparse_grid.specs.Biased.{back, raised}
+use Rattle.sparse_grid.specs.BiasedLaws.{lift, raised-pos, raised-neg}
 
 -- ---- equal bits are equal numbers
 
@@ -43,7 +43,7 @@ module _ {a b : ℤ} (f : SFits w32 a) (g : SFits w32 b) where
 pub seen : {z : ℤ} → SFits w32 z → toZ w32 (ofZ w32 z) ≡ z
 seen {z} f = toZ-ofZ w32 z f
 
--- ---- a block in range, plus 2^19
+-- ---- a block in range
 
 pub low : (k : ℕ) → leZ (negsuc 524287) (negsuc k) ≡ true → k ≤ 524287
 low k h = leb→le k 524287 (subst T (sym h) tt)
@@ -55,35 +55,9 @@ pub both : (a b : Bool) → (a && b) ≡ true → (a ≡ true) × (b ≡ true)
 both true b h = (refl, h)
 both false b h = absurd (subst T (sym h) tt)
 
-pub raise : (z : ℤ) → blockIn z ≡ true → (z +ℤ pos 524288 ≡ pos (raised z)) × (raised z < 1048576)
-raise (pos k) h = let l = high k (both true (leZ (pos k) (pos 524287)) h .1) in (ap pos (omega arith), omega arith)
-raise (negsuc k) h =
-    let l = low k (both (leZ (negsuc 524287) (negsuc k)) true h .0) in (
-      ap (λ (b : Bool). cond b (negsuc (suc k - suc 524288)) (pos (524288 - suc k))) (le-ltb 524288 (suc k) (omega arith)) ∙ ap pos (omega arith),
-      omega arith,
-    )
-
--- as the code comes by it
-abbrev pub raisedBits : ℤ → ℤ
-raisedBits z = toZ w32 (ofZ w32 (toZ w32 (ofZ w32 z) +ℤ pos 524288))
-
-module _ (z : ℤ) (f : SFits w32 z) (h : blockIn z ≡ true) where
-  sum : toZ w32 (ofZ w32 z) +ℤ pos 524288 ≡ pos (raised z)
-  sum = ap (λ (k : ℤ). k +ℤ pos 524288) (seen f) ∙ raise z h .0
-
-  pub raised-fits : SFits w32 (toZ w32 (ofZ w32 z) +ℤ pos 524288)
-  raised-fits = subst (SFits w32) (sym sum) (record { sfits = lt-of-lt-of-le (raise z h .1) (lit≤ {m = 1048576} {n = 2147483648} tt) })
-
-  result : raisedBits z ≡ pos (raised z)
-  result = seen raised-fits ∙ sum
-
-  pub raised-cast : T (nonNeg (raisedBits z)) × Fits w64 (natAbs (raisedBits z))
-  raised-cast =
-      subst (λ (k : ℤ). T (nonNeg k) × Fits w64 (natAbs k)) (sym result)
-      (tt, record { fits = lt-of-lt-of-le (raise z h .1) (lit≤ {m = 1048576} {n = 18446744073709551616} tt) })
-
-  pub is-raised : (natAbs (raisedBits z) ≡ raised z) × (natAbs (raisedBits z) < 1048576)
-  is-raised = subst (λ (k : ℤ). (natAbs k ≡ raised z) × (natAbs k < 1048576)) (sym result) (refl, raise z h .1)
+pub raised-below : (z : ℤ) → blockIn z ≡ true → raised z < 1048576
+raised-below (pos k) h = let l = high k (both true (leZ (pos k) (pos 524287)) h .1) in omega (arith, raised-pos k l)
+raised-below (negsuc k) h = let l = low k (both (leZ (negsuc 524287) (negsuc k)) true h .0) in omega (arith, raised-neg k l)
 
 -- ---- a coordinate, shifted and biased
 

@@ -11,11 +11,12 @@ ghost use Rattle.sparse_grid.specs.Tables.{gridOf};
 ghost use Rattle.sparse_grid.specs.Validate.{valueFault, negative, entriesFault, valuesFault, negativesFault};
 ghost use Rattle.sparse_grid.specs.Validate.{blockIn, earlier, pairFault, shapeFault};
 ghost use Rattle.sparse_grid.specs.Answers.{at};
-ghost use Rattle.sparse_grid.specs.Inner.{blockOfRoot, rootBlock, blocksOf, faultOf, raised, ranged, rank, rootOf};
+ghost use Rattle.sparse_grid.specs.Inner.{blockOfRoot, rootBlock, blocksOf, faultOf, ranged, rank, rootOf};
 ghost use Rattle.sparse_grid.specs.Inner.{rootsFault, tablesFault, contentsFault, Has, Topped};
 use crate::Entry;
 use crate::Root;
-use crate::entry_at;
+use crate::entry_of;
+use crate::lifted;
 use crate::root_at;
 use refusals::NEGATIVE;
 use refusals::NOT_FINITE;
@@ -85,14 +86,6 @@ fn in_range(root: Root) -> bool
     number_in(root.z)
 }
 
-// A block's number plus 2^19.
-fn lifted(b: i32) -> u64
-    requires { ⌜ blockIn b ≡ true ⌝ }
-    ensures { λ r. ⌜ (r ≡ raised b) × (r < 1048576) ⌝ }
-{
-    (b + 524288) as u64
-}
-
 // Whether a root's block is this one.
 fn is_block(root: Root, x: i32, y: i32, z: i32) -> bool
     ensures { λ r. ⌜ r ≡ sameBlock (blockOfRoot root) (at x y z) ⌝ }
@@ -111,9 +104,9 @@ fn rank_of(root: Root) -> u64
     requires { ⌜ ranged (blockOfRoot root) ≡ true ⌝ }
     ensures { λ r. ⌜ (r ≡ rank (blockOfRoot root)) × (r < 1152921504606846976) ⌝ }
 {
-    let x = lifted(root.x);
-    let y = lifted(root.y);
-    let z = lifted(root.z);
+    let x = lifted(root.x) as u64;
+    let y = lifted(root.y) as u64;
+    let z = lifted(root.z) as u64;
     (x * 1048576 + y) * 1048576 + z
 }
 
@@ -189,8 +182,9 @@ fn entries_fault(links: &[u32], values: &[f32], count: usize) -> u32
 {
     let mut i = 0;
     while i < links.len() {
-        let clear = is_zero(values[i]);
-        let fault = entry_fault(entry_at(links, values, i), clear, count);
+        let value = values[i];
+        let clear = is_zero(value);
+        let fault = entry_fault(entry_of(links[i], value), clear, count);
         if fault != 0 {
             return fault;
         }

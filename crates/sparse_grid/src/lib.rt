@@ -2,11 +2,10 @@
 // A grid is its background and eight tables side by side, always in this order. A root's block is three numbers of `blocks`.
 ghost use mathlib.Core.Path.{_≡_};
 ghost use mathlib.Core.List.{[]};
-ghost use Prim.Native.Nat.{_<_};
-ghost use lib.ListN.{length};
 ghost use Rattle.refusals.specs.Results.{said};
 ghost use Rattle.float.specs.Zero.{+0};
-ghost use Rattle.sparse_grid.specs.Tables.{gridOf, entryAt};
+ghost use Rattle.sparse_grid.specs.Tables.{gridOf, entryOf};
+ghost use Rattle.sparse_grid.specs.Biased.{back, raised};
 ghost use Rattle.sparse_grid.specs.Validate.{validate as validateS, densityFault, validateDensity};
 ghost use Rattle.sparse_grid.specs.Lookup.{lookup as lookupS};
 ghost use Rattle.sparse_grid.specs.Answers.{answer, valueOnly, at};
@@ -45,17 +44,29 @@ pub enum Answer {
     Refused(u32),
 }
 
-// Link 0 is a tile, k + 1 is child k.
-pub(crate) fn entry_at(links: &[u32], values: &[f32], i: usize) -> Entry
-    requires { ⌜ (i < length (now links)) × (i < length (now values)) ⌝ }
-    ensures { λ r. ⌜ r ≡ entryAt (now (links .entry)) (now (values .entry)) i ⌝ }
+// Link 0 is a tile, k + 1 is child k. Callers read the two where the index is known to be in the tables.
+pub fn entry_of(link: u32, value: f32) -> Entry
+    ensures { λ r. ⌜ r ≡ entryOf link value ⌝ }
 {
-    let link = links[i];
     if link == 0 {
-        Entry::Tile(values[i])
+        Entry::Tile(value)
     } else {
         Entry::Child(link - 1)
     }
+}
+
+// A coordinate plus 2^31.
+pub fn biased(c: i32) -> u32
+    ensures { λ r. ⌜ c ≡ back 2147483648 r ⌝ }
+{
+    (c as i64 + 2147483648) as u32
+}
+
+// A block's number plus 2^19, modulo 2^32: a test of the range here would be made again for every root of every box.
+pub fn lifted(block: i32) -> u32
+    ensures { λ r. ⌜ r ≡ raised block ⌝ }
+{
+    std::num::wrapping_add_u32(biased(block), 2148007936)
 }
 
 pub(crate) fn root_at(blocks: &[i32], links: &[u32], values: &[f32], i: usize) -> Root
@@ -65,7 +76,7 @@ pub(crate) fn root_at(blocks: &[i32], links: &[u32], values: &[f32], i: usize) -
     let x = blocks[3 * i];
     let y = blocks[3 * i + 1];
     let z = blocks[3 * i + 2];
-    let entry = entry_at(links, values, i);
+    let entry = entry_of(links[i], values[i]);
     Root {
         x: x,
         y: y,

@@ -7,10 +7,10 @@ ghost use lib.Signed.{shrZ};
 ghost use Rattle.layout.specs.Coordinates.{blockOf, sameBlock};
 ghost use Rattle.sparse_grid.specs.Lookup.{leafAt, lowerAt, upperAt, rootEntry};
 ghost use Rattle.sparse_grid.specs.Answers.{valueOnly, at};
-ghost use Rattle.sparse_grid.specs.Biased.{back};
 ghost use Rattle.sparse_grid.specs.Inner.{entryFrom, nodesOf, placed, rootBlock, told};
 use crate::Entry;
-use crate::entry_at;
+use crate::biased;
+use crate::entry_of;
 use crate::root_at;
 use refusals::RECORD;
 
@@ -26,12 +26,6 @@ fn block_of(c: i32) -> i32
     ensures { λ r. ⌜ r ≡ shrZ c 4096 ⌝ }
 {
     c >> 12
-}
-
-fn biased(c: i32) -> u32
-    ensures { λ r. ⌜ c ≡ back 2147483648 r ⌝ }
-{
-    (c as i64 + 2147483648) as u32
 }
 
 pub(crate) fn place_of(x: i32, y: i32, z: i32) -> Place
@@ -120,7 +114,8 @@ fn lower_at(
         return RECORD;
     }
     let slot = (place.x % 128 / 8 * 256 + place.y % 128 / 8 * 16 + place.z % 128 / 8) as usize;
-    match entry_at(links, values, start + slot) {
+    let i = start + slot;
+    match entry_of(links[i], values[i]) {
         Entry::Child(j) => leaf_at(leaf_values, j, place, value),
         Entry::Tile(v) => {
             *value = v;
@@ -152,7 +147,8 @@ fn upper_at(
     let slot = (place.x % 4096 / 128 * 1024
         + place.y % 4096 / 128 * 32
         + place.z % 4096 / 128) as usize;
-    match entry_at(links, values, start + slot) {
+    let i = start + slot;
+    match entry_of(links[i], values[i]) {
         Entry::Child(j) => lower_at(lower_links, lower_values, leaf_values, j, place, value),
         Entry::Tile(v) => {
             *value = v;

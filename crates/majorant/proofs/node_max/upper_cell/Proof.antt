@@ -1,18 +1,26 @@
 -- `majorant::node_max::upper_cell` meets its contract: every place of a cell goes by the entry of its first one. Assumes nothing.
-use Prim.Native.Nat.{ℕ, _+_, _*_}
+use Prim.Native.Nat.{ℕ, _+_, _*_, _<_}
 use mathlib.Core.Path.{_≡_, sym, ap, _∙_}
 use mathlib.Core.List.{List}
 use native.Mathlib.Omega.{arith}
+use lib.ListN.{length}
 use lib.Ieee.{Float}
 use borrow.Author.Needs.{needs}
 use Rattle.sparse_grid.specs.Tables.{entryAt}
+use Rattle.sparse_grid.specs.TableLaws.{entry-read}
 use Rattle.boxes.specs.RangeMax.{Within, entryRead, lowerRead, upperRead, upperSlot}
 use Rattle.boxes.specs.NodeCells.{cell-tile, cell-child, upper-same, child-link}
 use Rattle.majorant.proofs.node_max.upper_cell.Statement.{statement}
 use Rattle.majorant.proofs.node_max.upper_cell.Tie as tie
 
-abbrev start : tie.After-entry-at → tie.Start
-start c = c .before .before .before .before .before .before .before .before .before .before
+abbrev at-index : tie.After-entry-of → tie.After-table-index
+at-index c = c .before .before .before
+
+abbrev begin : tie.After-table-index → tie.Start
+begin c = c .before .before .before .before .before .before .before .before .before
+
+abbrev start : tie.After-entry-of → tie.Start
+start c = begin (at-index c)
 
 -- the node's two tables, the slot of the first place, and what is read below
 abbrev links : tie.Start → List ℕ
@@ -27,11 +35,18 @@ slot c = let a = c .args in upperSlot (a .k) (a .x .lo) (a .y .lo) (a .z .lo)
 abbrev below : tie.Start → ℕ → ℕ → ℕ → ℕ → Float
 below c = let a = c .args in lowerRead (a .lower-links .now) (a .lower-values .now) (a .leaf-values .now)
 
+-- a place of the node lies in both of its tables
+slot-in : (c : tie.After-table-index) →
+    let i = 32768 * begin c .args .k + c .table-index .result in (i < length (links (begin c))) × (i < length (values (begin c)))
+slot-in c = let h = begin c .pre .0 in (omega (arith, c .table-index .ensures, h .room), omega (arith, c .table-index .ensures, h .room, h .tables .upper))
+
 -- the entry that the code reads is that of the slot
-entry : (c : tie.After-entry-at) → entryAt (links (start c)) (values (start c)) (slot (start c)) ≡ c .entry-at .result
+entry : (c : tie.After-entry-of) → entryAt (links (start c)) (values (start c)) (slot (start c)) ≡ c .entry-of .result
 entry c =
     let b = start c in
-    ap (λ (n : ℕ). entryAt (links b) (values b) (32768 * b .args .k + n)) (sym (c .before .table-index .ensures)) ∙ sym (c .entry-at .ensures)
+    let i = 32768 * b .args .k + at-index c .table-index .result in
+    ap (λ (n : ℕ). entryAt (links b) (values b) (32768 * b .args .k + n)) (sym (at-index c .table-index .ensures))
+    ∙ sym (c .entry-of .ensures ∙ entry-read (links b) (values b) i (slot-in (at-index c) .1))
 
 -- and every place of the cell goes by it
 same : (c : tie.Start) →
@@ -72,6 +87,10 @@ upper-cell-spec =
     (λ c. omega arith)
     (λ c κs. search needs)
     (λ c. omega arith)
+    (λ c. omega arith)
+    (λ c. slot-in (c .before) .0)
+    (λ c. omega arith)
+    (λ c. slot-in (c .before .before) .1)
     (λ c κs. search needs)
     (λ c. search needs)
     (λ c. omega arith)

@@ -2,8 +2,7 @@
 use mathlib.Core.Path.{_≡_, ap, _∙_}
 use native.Mathlib.Omega.{arith}
 use borrow.Author.Needs.{needs}
-use Rattle.sparse_grid.specs.Validate.{blockIn}
-use Rattle.sparse_grid.specs.Inner.{raised}
+use Rattle.sparse_grid.specs.Biased.{raised}
 use Rattle.sparse_grid.specs.Signs.{seen}
 use Rattle.majorant.proofs.range_max.intersect_bounds.Statement.{statement}
 use Rattle.majorant.proofs.range_max.intersect_bounds.Tie as tie
@@ -11,25 +10,25 @@ use Rattle.majorant.proofs.range_max.intersect_bounds.Tie as tie
 returns : tie.Need-returns
 returns c =
     let d = c .before .before in
-    let b = d .before in
-    let s : d .lifted .result ≡ raised (b .args .block) = d .lifted .ensures .0 ∙ ap raised (seen (b .fits .block)) in
+    let s : d .lifted .result ≡ raised (d .before .args .block) = d .lifted .ensures ∙ ap raised (seen (d .before .fits .block)) in
     let h = c .before .higher .ensures in
     let l = c .lesser .ensures in
     record {
       low = h .0;
-      block-low = omega (arith, h .1);
+      block-low = omega (arith, h .1, s);
       high = l .0;
-      block-high = omega (arith, l .1);
-      all = λ x p q e. (h .2 x p (omega arith), l .2 x q (omega arith));
+      block-high = omega (arith, l .1, s);
+      all = λ x p q e. (h .2 x p (omega (arith, s)), l .2 x q (omega (arith, s)));
     }
 
 pub intersect-bounds-spec : {M : Type 1} → statement M
 intersect-bounds-spec =
     tie.close
     (tie.spec
-    (λ c κs. ap blockIn (seen (c .fits .block)) ∙ c .pre)
-    (λ c. search needs)
     (λ c κs. search needs)
     (λ c. search needs)
+    (λ c. omega (arith, c .lifted .ok))
+    (λ c κs. search needs)
+    (λ c. omega (arith, c .before .lifted .ok))
     (λ c κs. search needs)
     returns)

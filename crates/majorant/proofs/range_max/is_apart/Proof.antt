@@ -5,15 +5,15 @@ use mathlib.Core.Bool.{Bool, true, false, _||_}
 use native.Mathlib.Omega.{arith}
 use lib.Dec.{ltb}
 use borrow.Author.Tests.{lt-ltb, le-ltb}
-use Rattle.sparse_grid.specs.Validate.{blockIn}
-use Rattle.sparse_grid.specs.Inner.{raised}
+use borrow.Author.Needs.{needs}
+use Rattle.sparse_grid.specs.Biased.{raised}
 use Rattle.boxes.specs.RangeMax.{apart}
 use Rattle.sparse_grid.specs.Signs.{seen}
 use Rattle.majorant.proofs.range_max.is_apart.Statement.{statement}
 use Rattle.majorant.proofs.range_max.is_apart.Tie as tie
 
 lift : (c : tie.After-lifted) → c .lifted .result ≡ raised (c .before .args .block)
-lift c = c .lifted .ensures .0 ∙ ap raised (seen (c .before .fits .block))
+lift c = c .lifted .ensures ∙ ap raised (seen (c .before .fits .block))
 
 -- the first test of the two decided so
 decided : (c : tie.After-lifted) (t : Bool) →
@@ -27,7 +27,8 @@ pub is-apart-spec : {M : Type 1} → statement M
 is-apart-spec =
     tie.close
     (tie.spec
-    (λ c κs. ap blockIn (seen (c .fits .block)) ∙ c .pre .0)
+    (λ c κs. search needs)
+    (λ c. search needs)
     (λ c. decided (c .before .before) true (lt-ltb _ _ (c .if1 .taken)))
     (λ c. omega arith)
     (λ c. decided (c .before .before .before) false (le-ltb _ _ (c .before .if1 .left))))

@@ -13,11 +13,11 @@ returns c =
     let f = c .before .before .fits in
     let e : c .biased2 .result + 1 - 1 ≡ c .biased2 .result = omega arith in
     record {
-      low = sym (seen (f .lo)) ∙ c .before .biased .ensures .0;
-      high = sym (seen (f .hi)) ∙ c .biased2 .ensures .0 ∙ ap (back 2147483648) (sym e);
+      low = sym (seen (f .lo)) ∙ c .before .biased .ensures;
+      high = sym (seen (f .hi)) ∙ c .biased2 .ensures ∙ ap (back 2147483648) (sym e);
       some = omega arith;
-      top = omega (arith, c .biased2 .ensures .1);
+      top = omega (arith, c .biased2 .ok);
     }
 
 pub span-of-spec : {M : Type 1} → statement M
-span-of-spec = tie.close (tie.spec (λ c κs. search needs) (λ c κs. search needs) (λ c. omega arith) returns)
+span-of-spec = tie.close (tie.spec (λ c κs. search needs) (λ c. omega arith) (λ c κs. search needs) (λ c. omega arith) (λ c. omega arith) returns)

@@ -1,5 +1,5 @@
 -- `sparse_grid::faults::entries_fault` meets its contract: the invariant: no entry before i has a fault. Assumes nothing.
-use Prim.Native.Nat.{ℕ, _-_, _≤_}
+use Prim.Native.Nat.{ℕ, _-_, _≤_, _<_}
 use mathlib.Core.Path.{_≡_, sym, ap, _∙_}
 use native.Mathlib.Omega.{arith}
 use lib.ListN.{length, getD}
@@ -7,6 +7,7 @@ use borrow.Author.Needs.{needs}
 use Rattle.refusals.specs.Faults.{firstFault}
 use Rattle.refusals.specs.FaultSteps.{firstFault-none, firstFault-next, firstFault-end}
 use Rattle.float.specs.Zero.{+0}
+use Rattle.sparse_grid.specs.TableLaws.{entry-read}
 use Rattle.sparse_grid.specs.Validate.{entryFault}
 use Rattle.sparse_grid.specs.Inner.{faultOf}
 use Rattle.sparse_grid.proofs.Blocks.{slot-entry}
@@ -26,21 +27,25 @@ abbrev at-start : tie.At-loop Inv-loop μ-loop → tie.Start Inv-loop μ-loop
 at-start c = c .before .before .before
 
 abbrev at-turn : tie.After-entry-fault Inv-loop μ-loop → tie.In-loop Inv-loop μ-loop
-at-turn c = c .before .before .before .before
+at-turn c = c .before .before .before .before .before
 
 abbrev fault : tie.At-loop Inv-loop μ-loop → ℕ → ℕ
 fault c k = let a = at-start c .args in entryFault (a .count) (getD (a .links .now) k 0) (getD (a .values .now) k +0)
 
 -- the fault of the entry that was read
+slot-in : (c : tie.After-entry-fault Inv-loop μ-loop)
+    → let p = at-turn c .before in p .loop .i < length (at-start p .args .values .now)
+slot-in c = omega (arith, at-turn c .loop-test .taken, at-start (at-turn c .before) .pre)
+
 here : (c : tie.After-entry-fault Inv-loop μ-loop)
     → let p = at-turn c .before in fault p (p .loop .i) ≡ c .entry-fault .result
 here c =
     let p = at-turn c .before in
     let a = at-start p .args in
     sym (c .entry-fault .ensures
-    ∙ ap (faultOf (a .count) (c .before .entry-at .result)) (c .before .before .is-zero .ensures)
-    ∙ slot-entry (a .links .now) (a .values .now) (a .count) (p .loop .i) (c .before .entry-at .ensures)
-    (omega (arith, at-turn c .loop-test .taken, at-start p .pre)))
+    ∙ ap (faultOf (a .count) (c .before .entry-of .result)) (c .before .before .before .is-zero .ensures)
+    ∙ slot-entry (a .links .now) (a .values .now) (a .count) (p .loop .i)
+    (c .before .entry-of .ensures ∙ entry-read (a .links .now) (a .values .now) (p .loop .i) (slot-in c)) (slot-in c))
 
 loop-holds : tie.Need-loop-holds Inv-loop μ-loop
 loop-holds c = (omega arith, firstFault-none _)
@@ -69,8 +74,8 @@ entries-fault-spec =
     Inv-loop
     μ-loop
     loop-holds
-    (λ c. omega arith) (λ c. omega arith) (λ c κs. search needs) (λ c κs. search needs)
-    (λ c κs. search needs)
+    (λ c. omega arith) (λ c. omega arith) (λ c κs. search needs) (λ c. omega arith) (λ c. omega arith)
+    (λ c κs. search needs) (λ c κs. search needs)
     returns
     (λ c. omega arith) (λ c. omega arith)
     loop-again

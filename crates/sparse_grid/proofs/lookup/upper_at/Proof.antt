@@ -8,6 +8,7 @@ use borrow.Author.Needs.{needs}
 use Rattle.refusals.specs.Results.{Result}
 use Rattle.sparse_grid.specs.declared.Entry.{Entry}
 use Rattle.sparse_grid.specs.Tables.{Grid, entryAt}
+use Rattle.sparse_grid.specs.TableLaws.{entry-read}
 use Rattle.sparse_grid.specs.Lookup.{upperEntry, upperAt}
 use Rattle.sparse_grid.specs.Answers.{valueOnly}
 use Rattle.sparse_grid.specs.Inner.{nodesOf, placed}
@@ -25,8 +26,11 @@ at-missing c = c .before .before .before .before .before .before
 abbrev at-whole : tie.After-struct-known3 → tie.Else1
 at-whole c = c .before .before .before
 
-abbrev start : tie.After-entry-at → tie.Start
-start c = at-start (at-whole (c .before))
+abbrev at-read : tie.After-entry-of → tie.After-struct-known3
+at-read c = c .before .before .before
+
+abbrev start : tie.After-entry-of → tie.Start
+start c = at-start (at-whole (at-read c))
 
 abbrev at-child : tie.After-lower-at → tie.After-j
 at-child c = c .before .before .before
@@ -41,18 +45,15 @@ abbrev gives : tie.Start → Entry → Result Float
 gives c e = valueOnly (upperEntry (nodes c) (placed (c .args .place)) e)
 
 -- what the entry of the slot gives is the answer
-read : (c : tie.After-entry-at)
-    → gives (start c) (c .entry-at .result) ≡ valueOnly (upperAt (nodes (start c)) (start c .args .k) (placed (start c .args .place)))
+read : (c : tie.After-entry-of)
+    → gives (start c) (c .entry-of .result) ≡ valueOnly (upperAt (nodes (start c)) (start c .args .k) (placed (start c .args .place)))
 read c =
     let a = start c .args in
     let p = a .place in
-    ap (gives (start c)) (c .entry-at .ensures ∙ ap (entryAt (a .links .now) (a .values .now)) (upper-slot (a .k) (p .x) (p .y) (p .z)))
-    ∙ present (32768 * (a .k + 1)) (length (a .links .now)) _ (omega (arith, at-whole (c .before) .if1 .left))
-
-entry-at-requires : tie.Need-entry-at-requires
-entry-at-requires c κs =
-    let p = at-whole c in
-    (omega (arith, p .if1 .left), omega (arith, p .if1 .left, at-start p .pre))
+    let whole = at-whole (at-read c) .if1 .left in
+    ap (gives (start c)) (c .entry-of .ensures ∙ entry-read (a .links .now) (a .values .now) _ (omega (arith, whole, start c .pre))
+    ∙ ap (entryAt (a .links .now) (a .values .now)) (upper-slot (a .k) (p .x) (p .y) (p .z)))
+    ∙ present (32768 * (a .k + 1)) (length (a .links .now)) _ (omega (arith, whole))
 
 -- ---- the ways out: no whole node, a child, a tile
 returns : tie.Need-returns
@@ -80,8 +81,8 @@ upper-at-spec =
     (λ c. omega arith) (λ c. omega arith)
     returns
     (λ c. omega arith) (λ c. omega arith) (λ c. omega arith) (λ c. omega arith) (λ c. omega arith)
-    (λ c. omega arith)
-    entry-at-requires
+    (λ c. omega arith) (λ c. omega arith) (λ c. omega (arith, at-whole (c .before) .if1 .left)) (λ c. omega arith)
+    (λ c. omega (arith, at-whole (c .before .before) .if1 .left, at-start (at-whole (c .before .before)) .pre)) (λ c κs. search needs)
     (λ c. search needs) (λ c κs. search needs) (λ c. search needs)
     returns-2
     returns-3)

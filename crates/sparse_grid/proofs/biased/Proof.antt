@@ -1,7 +1,7 @@
--- `sparse_grid::lookup::biased` meets its contract: a coordinate plus 2^31 fits and is not negative. Assumes nothing.
+-- `sparse_grid::biased` meets its contract: a coordinate plus 2^31 fits and is not negative. Assumes nothing.
 use Rattle.sparse_grid.specs.Signs.{wide-fits, sum-fits, not-negative, is-biased}
-use Rattle.sparse_grid.proofs.lookup.biased.Statement.{statement}
-use Rattle.sparse_grid.proofs.lookup.biased.Tie as tie
+use Rattle.sparse_grid.proofs.biased.Statement.{statement}
+use Rattle.sparse_grid.proofs.biased.Tie as tie
 
 cast-result : tie.Need-cast-result
 cast-result c = wide-fits (c .args .c) (c .fits .c)
