@@ -1,7 +1,8 @@
 -- Laws of the node reader.
 pub mod Levels
 pub mod Targets
-pub mod Leaves
+pub mod Runs
+pub mod Children
 pub mod Steps
 pub mod Fits
 pub mod Tables

@@ -99,7 +99,7 @@ fn grid_fault(
     )
 }
 
-// Reads a grid into tables of zeros: the tree, once every test has passed.
+// Reads a grid into tables of zeros, and a table of leaves that holds anything: the tree, once every test has passed.
 pub(crate) fn read_grid(
     density: bool,
     bytes: &[u8],

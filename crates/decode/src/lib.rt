@@ -1,5 +1,6 @@
 // From the bytes to the tables (nanovdb.rs, Decoder).
 ghost use mathlib.Core.Path.{_≡_};
+ghost use mathlib.Core.List.{[]};
 ghost use Rattle.refusals.specs.Results.{refused as refusedS};
 ghost use Rattle.nanovdb.specs.Decode.{decodeScalar, decodeDensity};
 ghost use Rattle.nanovdb.specs.Lent.{tables, lengths, zeros, decodeInto, answerOf, leftOf};
@@ -12,6 +13,7 @@ mod nodes;
 mod spans;
 mod tiles;
 mod tree;
+mod values;
 
 use grid::read_grid;
 use medium::Medium;
@@ -68,6 +70,34 @@ fn answered(bytes: &[u8], read: TreeRead) -> Decoded
     }
 }
 
+// Every table but the leaves' is set to zeros: each value of a leaf is stored, and what stands behind the last is zeroed once they are read.
+fn clear_nodes(
+    blocks: &mut [i32],
+    root_links: &mut [u32],
+    root_values: &mut [f32],
+    upper_links: &mut [u32],
+    upper_values: &mut [f32],
+    lower_links: &mut [u32],
+    lower_values: &mut [f32],
+    work: &mut [u64],
+)
+    ensures { λ _.
+        let before = tables (now (blocks .entry)) (now («root_links» .entry)) (now («root_values» .entry)) (now («upper_links» .entry))
+        (now («upper_values» .entry)) (now («lower_links» .entry)) (now («lower_values» .entry)) [] (now (work .entry)) in
+        let after = tables (now (blocks .exit)) (now («root_links» .exit)) (now («root_values» .exit)) (now («upper_links» .exit))
+        (now («upper_values» .exit)) (now («lower_links» .exit)) (now («lower_values» .exit)) [] (now (work .exit)) in
+        ⌜ after ≡ zeros (lengths before) ⌝ }
+{
+    lent::zero_i32(blocks);
+    lent::zero_u32(root_links);
+    lent::zero_f32(root_values);
+    lent::zero_u32(upper_links);
+    lent::zero_f32(upper_values);
+    lent::zero_u32(lower_links);
+    lent::zero_f32(lower_values);
+    lent::zero_u64(work);
+}
+
 // Every table is set to zeros.
 pub fn clear(
     blocks: &mut [i32],
@@ -87,18 +117,20 @@ pub fn clear(
         (now («upper_values» .exit)) (now («lower_links» .exit)) (now («lower_values» .exit)) (now («leaf_values» .exit)) (now (work .exit)) in
         ⌜ after ≡ zeros (lengths before) ⌝ }
 {
-    lent::zero_i32(blocks);
-    lent::zero_u32(root_links);
-    lent::zero_f32(root_values);
-    lent::zero_u32(upper_links);
-    lent::zero_f32(upper_values);
-    lent::zero_u32(lower_links);
-    lent::zero_f32(lower_values);
+    clear_nodes(
+        blocks,
+        root_links,
+        root_values,
+        upper_links,
+        upper_values,
+        lower_links,
+        lower_values,
+        work,
+    );
     lent::zero_f32(leaf_values);
-    lent::zero_u64(work);
 }
 
-// The work table is emptied and, after a refusal, every other table.
+// The work table is emptied, and the leaves' table behind what was read; after a refusal every table.
 fn leave(
     read: TreeRead,
     blocks: &mut [i32],
@@ -119,7 +151,11 @@ fn leave(
         ⌜ after ≡ leftIn before read ⌝ }
 {
     match read {
-        TreeRead::Read(x) => lent::zero_u64(work),
+        TreeRead::Read(x) => {
+            let nodes = x.nodes;
+            values::zero_behind(leaf_values, nodes.leaves);
+            lent::zero_u64(work);
+        }
         TreeRead::Refused(number) => clear(
             blocks,
             root_links,
@@ -159,7 +195,7 @@ fn decode(
         (now («upper_values» .exit)) (now («lower_links» .exit)) (now («lower_values» .exit)) (now («leaf_values» .exit)) (now (work .exit)) in
         ⌜ after ≡ leftOf (lengths before) (decodeInto (decodeOf density) (now (bytes .entry)) (lengths before)) ⌝ }
 {
-    clear(
+    clear_nodes(
         blocks,
         root_links,
         root_values,
@@ -167,7 +203,6 @@ fn decode(
         upper_values,
         lower_links,
         lower_values,
-        leaf_values,
         work,
     );
     let read = read_grid(

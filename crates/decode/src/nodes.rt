@@ -1,13 +1,16 @@
 // The node reader: a node of level 2, 1 or 0 (upper, lower, leaf) is read with its children, depth first, slots rising.
+// The child mask is read a word at a time: the slots up to the next child are values, and are read in one run.
 ghost use mathlib.Core.Path.{_≡_};
-ghost use Prim.Native.Nat.{ℕ, _+_, _-_, _*_, _/_, _<_, _≤_, _^_};
+ghost use Prim.Native.Nat.{ℕ, _+_, _*_, _%_, _<_, _≤_};
 ghost use lib.ListN.{length};
-ghost use Rattle.layout.specs.Bytes.{signed, f32At};
-ghost use Rattle.nanovdb.specs.Nodes.{entriesOf, maskOf, tableOf, childTarget};
-ghost use Rattle.decode.specs.Inner.Filled.{ofTarget, countIn, placesIn, grownBy, roomIn, atUpper, atLower, LeafFilled, tabs, Fit, NodeOut, SlotOut};
+ghost use Rattle.layout.specs.Bytes.{signed, maskBit};
+ghost use Rattle.nanovdb.specs.Nodes.{sizeOf, entriesOf, maskOf, tableOf, childTarget};
+ghost use Rattle.decode.specs.Inner.Stored.{atUpper, atLower, slotValue, TilesStored, NextChild};
+ghost use Rattle.decode.specs.Inner.Filled.{ofTarget, slotTarget, countIn, placesIn, grownBy, roomIn, tabs, Fit, NodeOut, SlotOut};
 use crate::spans;
 use crate::spans::Entered;
 use crate::spans::Spans;
+use crate::values;
 
 // How far the reader has come: the spans that it has claimed, and how many nodes of each level it has numbered.
 pub struct State {
@@ -36,7 +39,7 @@ pub enum Target {
 // ---- places in the bytes
 
 fn entries_of(level: u64) -> usize
-    ensures { λ r. ⌜ (r ≡ entriesOf level) × (r ≤ 32768) ⌝ }
+    ensures { λ r. ⌜ (r ≡ entriesOf level) × (r ≤ 32768) × (r % 64 ≡ 0) ⌝ }
 {
     if level == 0 {
         return 512;
@@ -89,6 +92,33 @@ pub(crate) fn child_target(base: usize, bits: u64) -> Target
         return Target::Refused(refusals::CHILD_TARGET);
     }
     Target::At(down)
+}
+
+// The place of the child whose slot has these bits: none of them set is no place.
+fn slot_target(source: usize, bits: u64) -> Target
+    requires { ⌜ source < 4294967296 ⌝ }
+    ensures { λ r. ⌜ ofTarget r ≡ slotTarget source bits ⌝ }
+{
+    if bits == 0 {
+        return Target::Refused(refusals::CHILD_TARGET);
+    }
+    child_target(source, bits)
+}
+
+// The first slot from i on, below n, that has a child, or n. A word of the mask is shifted so that slot `at` is its lowest bit.
+fn next_child(bytes: &[u8], mask: usize, i: usize, n: usize) -> usize
+    requires { ⌜ (i ≤ n) × (n ≤ 32768) × (n % 64 ≡ 0) ⌝ }
+    ensures { λ r. ⌜ NextChild (now (bytes .entry)) mask i n r ⌝ }
+{
+    let mut at = i;
+    while at < n {
+        let left = layout::mask_word(bytes, mask, at / 64) >> ((at % 64) as u32);
+        if left != 0 {
+            return at + (u64::trailing_zeros(left) as usize);
+        }
+        at = at / 64 * 64 + 64;
+    }
+    n
 }
 
 // ---- places in the lent tables
@@ -156,26 +186,27 @@ fn link(level: u64, ul: &mut [u32], ll: &mut [u32], at: usize, x: u32)
     }
 }
 
-fn value(level: u64, uv: &mut [f32], lv: &mut [f32], at: usize, x: f32)
-    requires { ⌜ at < roomIn level (length (now uv)) (length (now lv)) ⌝ }
-    ensures { λ r. ⌜ (now (uv .exit) ≡ atUpper level (now (uv .entry)) at x) × (now (lv .exit) ≡ atLower level (now (lv .entry)) at x) ⌝ }
+// The values of the slots `from` to `to` of a node at source, none of which has a child.
+fn tiles_between(
+    level: u64,
+    bytes: &[u8],
+    source: usize,
+    base: usize,
+    from: usize,
+    to: usize,
+    uv: &mut [f32],
+    lv: &mut [f32],
+)
+    requires { ⌜ (0 < level) × (source + sizeOf level ≤ length (now bytes)) × (from ≤ to) × (to ≤ entriesOf level)
+        × (base + entriesOf level ≤ roomIn level (length (now uv)) (length (now lv))) ⌝ }
+    ensures { λ r.
+        let value = slotValue (now (bytes .entry)) source level in
+        ⌜ TilesStored level value base from (now (uv .entry)) (now (lv .entry)) to (now (uv .exit)) (now (lv .exit)) ⌝ }
 {
     if level == 1 {
-        lv[at] = x;
+        values::run(bytes, source + 1088, lv, base, from, to);
     } else {
-        uv[at] = x;
-    }
-}
-
-// Reads the values of a leaf behind those of the leaves before it.
-fn leaf(bytes: &[u8], source: usize, leaves: &mut [f32], base: usize)
-    requires { ⌜ (source < 4294967296) × (base + 512 ≤ length (now leaves)) ⌝ }
-    ensures { λ r. ⌜ LeafFilled (now (bytes .entry)) source base (now (leaves .entry)) (now (leaves .exit)) ⌝ }
-{
-    let mut i: usize = 0;
-    while i < 512 {
-        leaves[base + i] = layout::f32_at(bytes, source + 96 + 4 * i);
-        i += 1;
+        values::run(bytes, source + 8256, uv, base, from, to);
     }
 }
 
@@ -221,17 +252,20 @@ pub(crate) fn node(
             let base = k * entries;
             let mut now = grown(level, st, next);
             if level == 0 {
-                leaf(bytes, source, leaves, base);
+                values::leaf(bytes, source, leaves, base);
                 return Placed::Node(k as u32, now);
             }
+            let mask = mask_at(source, level);
             let mut i: usize = 0;
-            while i < entries {
-                match slot(
+            let mut j = next_child(bytes, mask, 0, entries);
+            while j < entries {
+                tiles_between(level, bytes, source, base, i, j, uv, lv);
+                match child(
                     bytes,
                     source,
                     level,
                     base,
-                    i,
+                    j,
                     now,
                     work,
                     ul,
@@ -243,15 +277,17 @@ pub(crate) fn node(
                     Step::Stop(e) => return Placed::Refused(e),
                     Step::Next(s) => now = s,
                 }
-                i += 1;
+                i = j + 1;
+                j = next_child(bytes, mask, i, entries);
             }
+            tiles_between(level, bytes, source, base, i, entries, uv, lv);
             Placed::Node(k as u32, now)
         }
     }
 }
 
-// Slot i of the node at source, whose entries stand from base on in its table: a child, or a value.
-fn slot(
+// The child in slot i of the node at source, whose entries stand from base on in its table.
+fn child(
     bytes: &[u8],
     source: usize,
     level: u64,
@@ -266,6 +302,7 @@ fn slot(
     leaves: &mut [f32],
 ) -> Step
     requires { ⌜ (length (now bytes) < 4294967296) × (source < 4294967296) × (0 < level) × (level < 3) × (i < entriesOf level)
+        × (maskBit (now bytes) (source + maskOf level) i ≡ 1)
         × (base + entriesOf level ≤ roomIn level (length (now ul)) (length (now ll)))
         × Fit (length (now bytes)) (tabs (now work) (now ul) (now uv) (now ll) (now lv) (now leaves)) st ⌝ }
     ensures { λ r.
@@ -273,16 +310,8 @@ fn slot(
         let after = tabs (now (work .exit)) (now (ul .exit)) (now (uv .exit)) (now (ll .exit)) (now (lv .exit)) (now (leaves .exit)) in
         ⌜ SlotOut level (now (bytes .entry)) source base i before st after r ⌝ }
 {
-    let at = slot_at(source, level, i);
-    if layout::mask_bit(bytes, mask_at(source, level), i) == 0 {
-        value(level, uv, lv, base + i, layout::f32_at(bytes, at));
-        return Step::Next(st);
-    }
-    let relative = layout::u64_at(bytes, at);
-    if relative == 0 {
-        return Step::Stop(refusals::CHILD_TARGET);
-    }
-    match child_target(source, relative) {
+    let relative = layout::u64_at(bytes, slot_at(source, level, i));
+    match slot_target(source, relative) {
         Target::Refused(e) => Step::Stop(e),
         Target::At(to) => match node(bytes, to, level - 1, st, work, ul, uv, ll, lv, leaves) {
             Placed::Refused(e) => Step::Stop(e),

@@ -36,6 +36,10 @@ i64At b at = signed 64 (u64At b at)
 abbrev pub maskBit : List ℕ → ℕ → ℕ → ℕ
 maskBit b at i = getD b (at + i / 8) 0 / 2 ^ (i % 8) % 2
 
+-- word k of the mask that stands at: eight of its bytes
+abbrev pub maskWord : List ℕ → ℕ → ℕ → ℕ
+maskWord b at k = u64At b (at + 8 * k)
+
 abbrev pub f32At : List ℕ → ℕ → Float
 f32At b at = ofBits binary32 (u32At b at)
 

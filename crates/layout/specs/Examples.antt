@@ -1,11 +1,13 @@
 -- The definitions on worked examples: fields, blocks, slots, and the walk of the sample. Each is computed.
 use mathlib.Core.Path.{_≡_, refl}
 use mathlib.Core.Bool.{cond}
+use mathlib.Core.List.{List, [], _∷_}
+use Prim.Native.Nat.{ℕ, _/_, _^_, _%_}
 use lib.IntN.{pos, negsuc}
 use lib.Signed.{shrZ}
 use lib.Dec.{eqb}
 use lib.ListN.{length}
-use Rattle.layout.specs.Bytes.{le, signed, u32At, u64At, i32At, maskBit}
+use Rattle.layout.specs.Bytes.{le, signed, u32At, u64At, i32At, maskBit, maskWord}
 use Rattle.layout.specs.Coordinates.{Coord, slot}
 use Rattle.layout.specs.Walk.{ofRoot, ofBackground, key, walk}
 use Rattle.layout.specs.Sample.{sample}
@@ -35,6 +37,22 @@ third = refl
 twelfth : maskBit sample 0 12 ≡ 0
 unfolding sample
 twelfth = refl
+
+-- the first word of a mask has its lowest byte first; bit 70 is bit 6 of the second word, of which the last five bytes lie past the end
+first-word : maskWord sample 0 0 ≡ 0x304244566f6e614e
+unfolding sample le
+first-word = refl
+
+abbrev short : List ℕ
+short = 2 ∷ 0 ∷ 0 ∷ 0 ∷ 0 ∷ 0 ∷ 0 ∷ 128 ∷ 64 ∷ 0 ∷ 1 ∷ []
+
+words : (maskWord short 0 0 ≡ 0x8000000000000002) × (maskWord short 0 1 ≡ 0x10040) × (maskWord short 0 2 ≡ 0)
+unfolding le
+words = (refl, refl, refl)
+
+seventieth : (maskBit short 0 70 ≡ 1) × (maskWord short 0 1 / 2 ^ 6 % 2 ≡ 1)
+unfolding le
+seventieth = (refl, refl)
 
 -- ---- blocks and slots of coordinates below zero
 

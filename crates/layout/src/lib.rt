@@ -7,7 +7,7 @@ ghost use lib.IntN.{pos};
 ghost use Rattle.float.specs.Zero.{+0};
 ghost use lib.ListN.{getD, length};
 ghost use Rattle.refusals.specs.Results.{said};
-ghost use Rattle.layout.specs.Bytes.{signed, u32At, u64At, i32At, i64At, f32At, f64At, maskBit};
+ghost use Rattle.layout.specs.Bytes.{signed, u32At, u64At, i32At, i64At, f32At, f64At, maskBit, maskWord};
 ghost use Rattle.layout.specs.Reads.{readField, saidU32, saidU64, saidI32, saidI64, saidF32, saidF64};
 
 const U32_BYTES: usize = 4;
@@ -176,6 +176,20 @@ pub fn mask_bit(b: &[u8], at: usize, i: usize) -> u32
     ensures { λ r. ⌜ r ≡ maskBit (now (b .entry)) at i ⌝ }
 {
     (byte_after(b, at, i / 8) >> ((i % 8) as u32)) % 2
+}
+
+// Word k of the mask that stands at `at`: its bit i is bit 64 k + i of the mask. The sum at + 8 k may pass 2^64, so it is formed inside the bytes alone.
+pub fn mask_word(b: &[u8], at: usize, k: usize) -> u64
+    ensures { λ r. ⌜ r ≡ maskWord (now (b .entry)) at k ⌝ }
+{
+    let n = b.len();
+    if n <= at {
+        return 0;
+    }
+    if (n - at) / 8 < k {
+        return 0;
+    }
+    u64_at(b, at + 8 * k)
 }
 
 pub fn read_u32(b: &[u8], at: usize) -> ReadU32

@@ -1,63 +1,54 @@
--- `decode::clear` meets its contract: table by table. Assumes nothing.
+-- `decode::clear` meets its contract: the tables of the nodes, and that of the leaves. Assumes nothing.
+use mathlib.Core.Path.{_≡_}
+use mathlib.Core.List.{[]}
 use borrow.Author.Needs.{needs}
+use Rattle.nanovdb.specs.Lent.{Tables, tables, lengths, zeros}
+use Rattle.decode.specs.Inner.GridRead.{leafless}
 use Rattle.decode.proofs.clear.Statement.{statement}
 use Rattle.decode.proofs.clear.Tie as tie
 
--- ---- from each call to the one before it
-abbrev at-leaf-values : tie.After-zero-u64 → tie.After-zero-f324
-at-leaf-values c = c .before .before .before .before
+-- ---- places on the way to a place: the two calls, and the start
+abbrev at-nodes : tie.After-zero-f32 → tie.After-clear-nodes
+at-nodes c = c .before .before .before .before .before .before .before .before .before .before .before .before .before .before .before .before .before
 
-abbrev at-lower-values : tie.After-zero-f324 → tie.After-zero-f323
-at-lower-values c = c .before .before .before .before
+abbrev at-start : tie.After-clear-nodes → tie.Start
+at-start c = c .before .before .before .before .before .before .before .before .before .before .before .before .before .before .before .before .before
 
-abbrev at-lower-links : tie.After-zero-f323 → tie.After-zero-u323
-at-lower-links c = c .before .before .before .before
+-- ---- the tables as they are lent, and as the first call leaves them
+abbrev lent : tie.Start → Tables
+lent c =
+    let a = c .args in
+    tables (a .blocks .now) (a .root-links .now) (a .root-values .now) (a .upper-links .now) (a .upper-values .now) (a .lower-links .now)
+    (a .lower-values .now) (a .leaf-values .now) (a .work .now)
 
-abbrev at-upper-values : tie.After-zero-u323 → tie.After-zero-f322
-at-upper-values c = c .before .before .before .before
+abbrev cleared : tie.After-clear-nodes → Tables
+cleared c =
+    let (blocks, (rl, (rv, (ul, (uv, (ll, (lv, (work, _)))))))) = c .clear-nodes .last in
+    tables blocks rl rv ul uv ll lv [] work
 
-abbrev at-upper-links : tie.After-zero-f322 → tie.After-zero-u322
-at-upper-links c = c .before .before .before .before
-
-abbrev at-root-values : tie.After-zero-u322 → tie.After-zero-f32
-at-root-values c = c .before .before .before .before
-
-abbrev at-root-links : tie.After-zero-f32 → tie.After-zero-u32
-at-root-links c = c .before .before .before .before
-
-abbrev at-blocks : tie.After-zero-u32 → tie.After-zero-i32
-at-blocks c = c .before .before .before
+zeros-are : (c : tie.After-clear-nodes) → cleared c ≡ zeros (lengths (leafless (lent (at-start c))))
+zeros-are c = c .clear-nodes .ensures
 
 returns : tie.Need-returns
 returns c =
-    let work = c .before .before in
-    let leaves = at-leaf-values work in
-    let lv = at-lower-values leaves in let ll = at-lower-links lv in
-    let uv = at-upper-values ll in let ul = at-upper-links uv in
-    let rv = at-root-values ul in let rl = at-root-links rv in
+    let z = c .before .before in
+    let e = zeros-are (at-nodes z) in
     λ i. record {
-      blocks = at-blocks rl .zero-i32 .ensures i;
-      rootLinks = rl .zero-u32 .ensures i;
-      rootValues = rv .zero-f32 .ensures i;
-      upperLinks = ul .zero-u322 .ensures i;
-      upperValues = uv .zero-f322 .ensures i;
-      lowerLinks = ll .zero-u323 .ensures i;
-      lowerValues = lv .zero-f323 .ensures i;
-      leafValues = leaves .zero-f324 .ensures i;
-      work = work .zero-u64 .ensures i;
+      blocks = e i .blocks;
+      rootLinks = e i .rootLinks;
+      rootValues = e i .rootValues;
+      upperLinks = e i .upperLinks;
+      upperValues = e i .upperValues;
+      lowerLinks = e i .lowerLinks;
+      lowerValues = e i .lowerValues;
+      leafValues = z .zero-f32 .ensures i;
+      work = e i .work;
     }
 
 pub clear-spec : {M : Type 1} → statement M
 clear-spec =
     tie.close
     (tie.spec
-    (λ c κs. search needs)
-    (λ c κs. search needs)
-    (λ c κs. search needs)
-    (λ c κs. search needs)
-    (λ c κs. search needs)
-    (λ c κs. search needs)
-    (λ c κs. search needs)
     (λ c κs. search needs)
     (λ c κs. search needs)
     (λ c. search needs)

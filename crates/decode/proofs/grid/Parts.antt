@@ -1,10 +1,11 @@
 -- The used parts of the tables are the tables of the tree that was read. Assumes nothing.
 use mathlib.Core.Path.{_≡_, sym, ap, _∙_, subst}
 use mathlib.Core.List.{List, [], _++_, map, append-nil}
-use Prim.Native.Nat.{ℕ, _+_, _*_, _/_, _≤_}
+use Prim.Native.Nat.{ℕ, _+_, _-_, _*_, _/_, _≤_}
 use native.Mathlib.Omega.{arith}
 use lib.IntN.{pos}
-use lib.ListN.{length, take, length-map}
+use lib.ListN.{length, take, replicate, length-append, length-map}
+use lib.Seq.{take-append-seam}
 use lib.Ieee.{Float}
 use Rattle.refusals.specs.Results.{ok}
 use Rattle.float.specs.Zero.{+0}
@@ -16,9 +17,10 @@ use Rattle.nanovdb.specs.Tree.{Root, Roots}
 use Rattle.nanovdb.specs.Decode.{linkOf, valueOf, blocksOf, tablesOf, mediumAt, mediumOf, rootPlace}
 use Rattle.nanovdb.specs.Lent.{tables, lengths, answerOf, leftOf}
 use Rattle.nanovdb.specs.HeldNodes.{Inv2}
-use Rattle.decode.specs.Inner.Filled.{Tabs, Holds}
+use Rattle.decode.specs.Inner.Filled.{Tabs, Starts, Holds}
+use Rattle.decode.specs.Inner.Stored.{zeroBehind}
 use Rattle.decode.specs.Inner.Rooted.{RootTabs, RootsHeld}
-use Rattle.decode.specs.Inner.GridRead.{usedIn, Used, allTables, workless, answerIn}
+use Rattle.decode.specs.Inner.GridRead.{usedIn, Used, allTables, tidied, answerIn}
 use Rattle.decode.specs.declared.tree.Tree as Tree
 use Rattle.decode.specs.declared.tree.TreeRead.the-variants.{Read}
 use Rattle.decode.proofs.tiles.Roots.{blocks-length}
@@ -30,6 +32,19 @@ part t z l n e h = ap (take n) e ∙ ap (λ (k : ℕ). take k (padded (length t)
 
 fits : {A : Type 0} (t : List A) (z : A) (l : List A) (n : ℕ) → t ≡ padded (length t) z l → length l ≡ n → n ≤ length t
 fits t z l n e h = subst (λ (k : ℕ). k ≤ length t) h (padded-fits t z l e)
+
+-- the same of a table that begins with them, and with zeros put behind them
+starts-part : {A : Type 0} (t l : List A) (n : ℕ) → Starts t l → length l ≡ n → take n t ≡ l
+starts-part t l n (rest, e) h = ap (take n) e ∙ ap (λ (k : ℕ). take k (l ++ rest)) (sym h) ∙ take-append-seam l rest
+
+starts-fits : {A : Type 0} (t l : List A) (n : ℕ) → Starts t l → length l ≡ n → n ≤ length t
+starts-fits t l n (rest, e) h = omega (arith, ap length e ∙ length-append l rest)
+
+starts-zeroed : (t l : List Float) (leaves : ℕ) → Starts t l → length l ≡ 512 * leaves → zeroBehind leaves t ≡ padded (length t) +0 l
+unfolding padded
+starts-zeroed t l leaves s h =
+    ap (λ (x : List Float). x ++ replicate (length t - 512 * leaves) +0) (starts-part t l (512 * leaves) s h)
+    ∙ ap (λ (k : ℕ). l ++ replicate (length t - k) +0) (sym h)
 
 -- no node is open
 shut : {A : Type 0} (t : List A) (z : A) (f : Entry → A) (d : List Entry) → t ≡ padded (length t) z (map f (d ++ [])) → t ≡ padded (length t) z (map f d)
@@ -81,7 +96,7 @@ module _ (b : List ℕ) (x : Tree.Tree) (u : Tabs) (v : RootTabs) (r : Roots) (h
     upperValues-in = fits (u .upperValues) +0 (map valueOf (r .state .upper)) (32768 * x .nodes .uppers) upperValues (upper-size valueOf);
     lowerLinks-in = fits (u .lowerLinks) 0 (map linkOf (r .state .lower)) (4096 * x .nodes .lowers) lowerLinks (lower-size linkOf);
     lowerValues-in = fits (u .lowerValues) +0 (map valueOf (r .state .lower)) (4096 * x .nodes .lowers) lowerValues (lower-size valueOf);
-    leafValues-in = fits (u .leafValues) +0 (r .state .leaf) (512 * x .nodes .leaves) (holds .leafValues) leaf-size;
+    leafValues-in = starts-fits (u .leafValues) (r .state .leaf) (512 * x .nodes .leaves) (holds .leafValues) leaf-size;
   }
 
   -- the accepted grid is the used parts
@@ -97,13 +112,13 @@ module _ (b : List ℕ) (x : Tree.Tree) (u : Tabs) (v : RootTabs) (r : Roots) (h
       upperValues = part (u .upperValues) +0 (map valueOf (r .state .upper)) (32768 * x .nodes .uppers) upperValues (upper-size valueOf) i;
       lowerLinks = part (u .lowerLinks) 0 (map linkOf (r .state .lower)) (4096 * x .nodes .lowers) lowerLinks (lower-size linkOf) i;
       lowerValues = part (u .lowerValues) +0 (map valueOf (r .state .lower)) (4096 * x .nodes .lowers) lowerValues (lower-size valueOf) i;
-      leafValues = part (u .leafValues) +0 (r .state .leaf) (512 * x .nodes .leaves) (holds .leafValues) leaf-size i;
+      leafValues = starts-part (u .leafValues) (r .state .leaf) (512 * x .nodes .leaves) (holds .leafValues) leaf-size i;
     };
     medium = mediumAt b (place i);
   }
 
   -- what stands in the tables is what the definition leaves there
-  pub left : workless (allTables u v) ≡ leftOf (lengths (allTables u v)) (ok (acceptedOf b r))
+  pub left : tidied (allTables u v) (x .nodes .leaves) ≡ leftOf (lengths (allTables u v)) (ok (acceptedOf b r))
   unfolding tablesOf
   left = λ i. record {
     blocks = roots .blocks i;
@@ -113,8 +128,8 @@ module _ (b : List ℕ) (x : Tree.Tree) (u : Tabs) (v : RootTabs) (r : Roots) (h
     upperValues = upperValues i;
     lowerLinks = lowerLinks i;
     lowerValues = lowerValues i;
-    leafValues = holds .leafValues i;
-    work = workless (allTables u v) .work;
+    leafValues = starts-zeroed (u .leafValues) (r .state .leaf) (x .nodes .leaves) (holds .leafValues) leaf-size i;
+    work = tidied (allTables u v) 0 .work;
   }
 
   -- and the counts are those of the definition's answer

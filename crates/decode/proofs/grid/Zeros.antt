@@ -1,4 +1,4 @@
--- Tables of zeros: what the reader asks of them, and what `decode` then answers. Assumes nothing.
+-- Tables of zeros, but for the leaves': what the reader asks of them, and what `decode` then answers. Assumes nothing.
 use mathlib.Core.Path.{_≡_, sym, ap, _∙_}
 use Prim.Native.Nat.{ℕ}
 use mathlib.Core.List.{List}
@@ -10,25 +10,12 @@ use Rattle.nanovdb.specs.Lent.{Answer, Lent, Tables, lengths, zeros, decodeInto
 use Rattle.decode.specs.Inner.Filled.{Tabs, tabs}
 use Rattle.decode.specs.Inner.Rooted.{RootTabs, rootTabs}
 use Rattle.decode.specs.Inner.TreeRead.{Zeroed}
-use Rattle.decode.specs.Inner.GridRead.{decodeOf, answerIn, leftIn, GridOut}
+use Rattle.decode.specs.Inner.GridRead.{decodeOf, leafless, answerIn, leftIn, GridOut}
 use Rattle.decode.specs.declared.tree.TreeRead.{TreeRead}
 
 -- a table of n zeros is as many zeros as it is long
 own : {A : Type 0} (t : List A) (n : ℕ) (z : A) → t ≡ replicate n z → t ≡ replicate (length t) z
 own t n z e = e ∙ ap (λ (k : ℕ). replicate k z) (sym (ap length e ∙ length-replicate n z))
-
-lengths-zeros : (l : Lent) → lengths (zeros l) ≡ l
-lengths-zeros l = λ i. record {
-  blocks = length-replicate (l .blocks) (pos 0) i;
-  rootLinks = length-replicate {A = ℕ} (l .rootLinks) 0 i;
-  rootValues = length-replicate (l .rootValues) +0 i;
-  upperLinks = length-replicate {A = ℕ} (l .upperLinks) 0 i;
-  upperValues = length-replicate (l .upperValues) +0 i;
-  lowerLinks = length-replicate {A = ℕ} (l .lowerLinks) 0 i;
-  lowerValues = length-replicate (l .lowerValues) +0 i;
-  leafValues = length-replicate (l .leafValues) +0 i;
-  work = length-replicate {A = ℕ} (l .work) 0 i;
-}
 
 -- ---- the tables by name: those of the nodes, and those of the roots
 abbrev pub nodesOf : Tables → Tabs
@@ -37,7 +24,7 @@ nodesOf t = tabs (t .work) (t .upperLinks) (t .upperValues) (t .lowerLinks) (t .
 abbrev pub rootsOf : Tables → RootTabs
 rootsOf t = rootTabs (t .blocks) (t .rootLinks) (t .rootValues)
 
-module _ (t : Tables) (l : Lent) (e : t ≡ zeros l) where
+module _ (t : Tables) (l : Lent) (e : leafless t ≡ zeros l) where
   pub zeroed : Zeroed (nodesOf t) (rootsOf t)
   zeroed = record {
     blocks = own (t .blocks) (l .blocks) (pos 0) (ap (λ (x : Tables). x .blocks) e);
@@ -47,14 +34,13 @@ module _ (t : Tables) (l : Lent) (e : t ≡ zeros l) where
     upperValues = own (t .upperValues) (l .upperValues) +0 (ap (λ (x : Tables). x .upperValues) e);
     lowerLinks = own (t .lowerLinks) (l .lowerLinks) 0 (ap (λ (x : Tables). x .lowerLinks) e);
     lowerValues = own (t .lowerValues) (l .lowerValues) +0 (ap (λ (x : Tables). x .lowerValues) e);
-    leafValues = own (t .leafValues) (l .leafValues) +0 (ap (λ (x : Tables). x .leafValues) e);
   }
 
-  -- a grid read from zeros, once its answer is given and what it leaves is left
-  pub decoded : {density : Bool} {b : List ℕ} {u v : Tables} {r : TreeRead} {a : Answer} → GridOut density b t u r → a ≡ answerIn b r → v ≡ leftIn u r
-      → (a ≡ answerOf (decodeInto (decodeOf density) b l)) × (v ≡ leftOf l (decodeInto (decodeOf density) b l))
-  decoded {density} {b} out answer left =
-      let same : lengths t ≡ l = ap lengths e ∙ lengths-zeros l in (
-        answer ∙ out .says ∙ ap (λ (k : Lent). answerOf (decodeInto (decodeOf density) b k)) same,
-        left ∙ out .left ∙ ap (λ (k : Lent). leftOf k (decodeInto (decodeOf density) b k)) same,
-      )
+-- a grid read from zeros, once its answer is given and what it leaves is left
+pub decoded : {density : Bool} {b : List ℕ} {t u v : Tables} {l : Lent} {r : TreeRead} {a : Answer} → lengths t ≡ l → GridOut density b t u r
+    → a ≡ answerIn b r → v ≡ leftIn u r
+    → (a ≡ answerOf (decodeInto (decodeOf density) b l)) × (v ≡ leftOf l (decodeInto (decodeOf density) b l))
+decoded {density} {b} same out answer left = (
+  answer ∙ out .says ∙ ap (λ (k : Lent). answerOf (decodeInto (decodeOf density) b k)) same,
+  left ∙ out .left ∙ ap (λ (k : Lent). leftOf k (decodeInto (decodeOf density) b k)) same,
+)

@@ -9,10 +9,11 @@ use lib.Ieee.{Float}
 use Rattle.refusals.specs.Results.{ok}
 use Rattle.sparse_grid.specs.declared.Entry.{Entry}
 use Rattle.nanovdb.specs.Spans.{Span, nowhere, seen}
-use Rattle.nanovdb.specs.Nodes.{Places, State, claim, withSpan, entriesOf, nodesAt, placesAt, leafPlaced, placed, slotsRead, node}
+use Rattle.nanovdb.specs.Nodes.{Places, State, claim, withSpan, sizeOf, entriesOf, nodesAt, placesAt, leafPlaced, placed, slotsRead, node}
 use Rattle.nanovdb.specs.HeldNodes.{spanOf, opening}
 use Rattle.decode.specs.Inner.WorkTable.{size, nodeSpan, Pushed, EnterOut, ClaimOut}
-use Rattle.decode.specs.Inner.Filled.{countIn, grownBy, LeafFilled, Tabs, Fit, NodeFit, Holds, Lends, Reads, NodeOut, SlotOut}
+use Rattle.decode.specs.Inner.Filled.{countIn, grownBy, Tabs, Fit, NodeFit, Holds, Lends, Reads, NodeOut, SlotOut}
+use Rattle.decode.specs.Inner.Stored.{leafValue, Stored}
 use Rattle.decode.specs.declared.spans.Spans.{Spans}
 use Rattle.decode.specs.declared.spans.Entered.{Entered}
 use Rattle.decode.specs.declared.spans.Entered.the-variants.{Again, Fresh, Stop}
@@ -22,7 +23,7 @@ use Rattle.decode.specs.declared.nodes.Placed.{Placed}
 use Rattle.decode.specs.declared.nodes.Placed.the-variants.{Node, Refused}
 use Rattle.decode.specs.declared.nodes.Step as Step
 use Rattle.decode.proofs.nodes.Steps.{node-again, node-stops, node-full, node-leaf, node-broke, node-ends}
-use Rattle.decode.proofs.nodes.Fits.{size-least, withWork, placesOf, fresh-inside, fit-fresh, fit-kept, number-small}
+use Rattle.decode.proofs.nodes.Fits.{size-least, withWork, placesOf, leaf-room, fresh-inside, fit-fresh, fit-kept, number-small}
 use Rattle.decode.proofs.nodes.Levels.{below-is}
 use Rattle.decode.proofs.nodes.Tables.{withLeaves, holds-opened, holds-leaf, holds-placed, holds-begun, slots-ready, leaf-base}
 use Rattle.decode.proofs.nodes.Turns.{Begins, Turn, turn-begins, turn-stops}
@@ -113,6 +114,10 @@ module _ {b : List ℕ} {source level : ℕ} {t : Tabs} {st : Progress.State} {k
     claimed p d R =
         subst (λ (s : Span). claim b p d s ≡ ok (withSpan d s)) (span-is (R .holds)) (granted .1 b p d refl (R .lends .spans) (R .holds .spans-are))
 
+    whole : source + sizeOf level ≤ length b
+    unfolding size
+    whole = fresh-inside (length b) (t .work) w (st .spans) next source level k granted
+
     inside : source < 4294967296
     inside = omega (arith, fresh-inside (length b) (t .work) w (st .spans) next source level k granted, size-least level, e .short)
 
@@ -137,6 +142,9 @@ module _ {b : List ℕ} {source level : ℕ} {t : Tabs} {st : Progress.State} {k
     (o : Opened b source level t st k w entries now) where
   pub node-inside : source < 4294967296
   node-inside = inside (o .entering) (o .fresh)
+
+  pub node-whole : source + sizeOf level ≤ length b
+  node-whole = whole (o .entering) (o .fresh)
 
   pub node-fit : Fit (length b) (withWork t w) now
   node-fit = subst (Fit (length b) (withWork t w)) (sym (o .grown)) (fits (o .entering) (o .fresh))
@@ -170,7 +178,7 @@ module _ {b : List ℕ} {source level : ℕ} {t : Tabs} {st : Progress.State} {k
   small : k < 4294967295
   small = subst (λ (n : ℕ). n < 4294967295) (sym (o .entering .number)) (number-small (o .entering .fit) (o .entering .short) level)
 
-  pub node-out-leaf : {lf : List Float} → level ≡ 0 → LeafFilled b source (k * entries) (t .leafValues) lf
+  pub node-out-leaf : {lf : List Float} → level ≡ 0 → Stored (leafValue b source) (k * entries) 0 (t .leafValues) 512 lf
       → NodeOut level b source t st (withLeaves (withWork t w) lf) (Node k now)
   node-out-leaf {lf} z f = record {
     fit = (fit-kept node-fit (withLeaves (withWork t w) lf) refl refl refl refl, small);
@@ -178,7 +186,8 @@ module _ {b : List ℕ} {source level : ℕ} {t : Tabs} {st : Progress.State} {k
       leafPlaced b source (opening level source d),
       subst (λ (n : ℕ). node level b p source d ≡ ok (record { number = n; state = leafPlaced b source (opening level source d) })) (number p d R)
           (node-leaf level source b p d (is-new p d R) (is-claimed p d R) (has-room p d R) z),
-      holds-leaf (is-opened p d R) (same-leaf level d z ∙ leaf-base level b d z (R .ready) ∙ from p d R) f,
+      holds-leaf (is-opened p d R) b source (same-leaf level d z ∙ leaf-base level b d z (R .ready) ∙ from p d R)
+          (leaf-room level t (o .all) (o .room) z) f,
     );
   }
     where

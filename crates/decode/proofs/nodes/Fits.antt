@@ -9,7 +9,7 @@ use lib.ListN.{length, drop, replicate, length-replicate}
 use Rattle.refusals.specs.Results.{ok, need}
 use Rattle.refusals.specs.ResultLaws.{need-ok}
 use Rattle.nanovdb.specs.Spans.{overlaps}
-use Rattle.nanovdb.specs.Nodes.{Places, State, claim, withSpan, entriesOf}
+use Rattle.nanovdb.specs.Nodes.{Places, State, claim, withSpan, sizeOf, entriesOf}
 use Rattle.decode.specs.Inner.WorkTable.{Rep, nodes, spans, size, headerSpan, rootSpan, nodeSpan, ClaimOut}
 use Rattle.decode.specs.Inner.Packed.{Packed, packed-more, packed-few, no-either}
 use Rattle.decode.specs.Inner.Filled.{Tabs, tabs, Fit, countIn, grownBy, placesIn, roomIn}
@@ -175,6 +175,11 @@ module _ (level : ℕ) (t : Tabs) {k entries : ℕ} (is : entries ≡ entriesOf 
       go zero h = omega arith
       go (suc zero) h = omega arith
       go (suc (suc n)) h = omega arith
+
+-- a leaf's bytes
+pub leaf-inside : (level source : ℕ) {len : ℕ} → level ≡ 0 → source + sizeOf level ≤ len → source + 2144 ≤ len
+leaf-inside zero source e h = h
+leaf-inside (suc n) source e h = absurd (omega arith)
 
 pub room-fits : (level at : ℕ) {t : Tabs} → Sized t → at < roomOf level t → at < 18446744073709551616
 room-fits zero at s h = omega arith

@@ -4,15 +4,18 @@ use mathlib.Core.List.{List, [], _∷_, _++_}
 use Prim.Native.Nat.{ℕ, zero, suc, _+_, _*_, _≤_, _<_}
 use native.Mathlib.Omega.{arith}
 use lib.Ieee.{Float}
+use lib.Dec.{eqb}
+use mathlib.Core.Bool.{Bool, true, false, not}
 use borrow.Author.Tests.{lt-ltb, le-ltb, eq-eqb, ne-eqb}
-use Rattle.refusals.specs.Results.{Result, ok, refused, bind}
+use Rattle.refusals.specs.Results.{Result, ok, refused, bind, need}
 use Rattle.refusals.specs.ResultLaws.{run-more, run-stop}
-use Rattle.layout.specs.Bytes.{u64At, i64At, f32At, maskBit}
+use Rattle.layout.specs.Bytes.{u64At, f32At, maskBit}
 use Rattle.sparse_grid.specs.declared.Entry.the-variants.{Child, Tile}
 use Rattle.nanovdb.specs.Spans.{at, nowhere, seen}
-use Rattle.nanovdb.specs.Nodes.{Places, State, Read, Slots, Reader, claim, withSpan, childTarget, entriesOf, maskOf, tableOf, nodesAt, placesAt}
+use Rattle.nanovdb.specs.Nodes.{Places, State, Read, Slots, Reader, claim, withSpan, entriesOf, maskOf, tableOf, nodesAt, placesAt}
 use Rattle.nanovdb.specs.Nodes.{slotRead, slotsRead, placed, leafPlaced, opened, again, node}
 use Rattle.nanovdb.specs.HeldNodes.{spanOf, opening}
+use Rattle.decode.specs.Inner.Filled.{slotTarget}
 
 -- ---- one slot
 
@@ -21,21 +24,31 @@ module _ (b : List ℕ) (child : Reader) (level source i : ℕ) (now : Slots) wh
       → slotRead b child level source i now ≡ ok (record { entries = now .entries ++ (Tile v ∷ []); state = now .state })
   slot-tile v clear e = rw (eq-eqb (maskBit b (source + maskOf level) i) 0 clear, e)
 
-  module _ (set : maskBit b (source + maskOf level) i ≡ 0 → ⊥) where
-    pub slot-zero : u64At b (source + tableOf level + 8 * i) ≡ 0 → slotRead b child level source i now ≡ refused 8
-    slot-zero e = rw (ne-eqb (maskBit b (source + maskOf level) i) 0 set, eq-eqb (u64At b (source + tableOf level + 8 * i)) 0 e)
+  -- a child: its target, its reader, and its number
+  abbrev read : Result Read → Result Slots
+  read r = bind r (λ (r : Read). ok (record { entries = now .entries ++ (Child (r .number) ∷ []); state = r .state }))
 
-    module _ (some : u64At b (source + tableOf level + 8 * i) ≡ 0 → ⊥) where
-      pub slot-off : (e : ℕ) → refused e ≡ childTarget source (i64At b (source + tableOf level + 8 * i)) → slotRead b child level source i now ≡ refused e
-      slot-off e t = rw (ne-eqb (maskBit b (source + maskOf level) i) 0 set, ne-eqb (u64At b (source + tableOf level + 8 * i)) 0 some, sym t)
+  abbrev follow : Result ℕ → Result Slots
+  follow target = bind target (λ (to : ℕ). read (child to (now .state)))
 
-      pub slot-refused : (to e : ℕ) → ok to ≡ childTarget source (i64At b (source + tableOf level + 8 * i)) → child to (now .state) ≡ refused e
-          → slotRead b child level source i now ≡ refused e
-      slot-refused to e t c = rw (ne-eqb (maskBit b (source + maskOf level) i) 0 set, ne-eqb (u64At b (source + tableOf level + 8 * i)) 0 some, sym t, c)
+  module _ (set : maskBit b (source + maskOf level) i ≡ 1) where
+    slot-set : slotRead b child level source i now ≡ follow (slotTarget source (u64At b (source + tableOf level + 8 * i)))
+    slot-set = rw (ne-eqb (maskBit b (source + maskOf level) i) 0 (λ e. omega arith)) (go (not (eqb (u64At b (source + tableOf level + 8 * i)) 0)) _)
+      where
+        go : (t : Bool) (r : Result ℕ) → need t 8 (follow r) ≡ follow (need t 8 r)
+        go true r = refl
+        go false r = refl
 
-      pub slot-child : (to : ℕ) (r : Read) → ok to ≡ childTarget source (i64At b (source + tableOf level + 8 * i)) → child to (now .state) ≡ ok r
-          → slotRead b child level source i now ≡ ok (record { entries = now .entries ++ (Child (r .number) ∷ []); state = r .state })
-      slot-child to r t c = rw (ne-eqb (maskBit b (source + maskOf level) i) 0 set, ne-eqb (u64At b (source + tableOf level + 8 * i)) 0 some, sym t, c)
+    pub slot-off : (e : ℕ) → refused e ≡ slotTarget source (u64At b (source + tableOf level + 8 * i)) → slotRead b child level source i now ≡ refused e
+    slot-off e t = slot-set ∙ ap follow (sym t)
+
+    pub slot-refused : (to e : ℕ) → ok to ≡ slotTarget source (u64At b (source + tableOf level + 8 * i)) → child to (now .state) ≡ refused e
+        → slotRead b child level source i now ≡ refused e
+    slot-refused to e t c = slot-set ∙ ap follow (sym t) ∙ ap read c
+
+    pub slot-child : (to : ℕ) (r : Read) → ok to ≡ slotTarget source (u64At b (source + tableOf level + 8 * i)) → child to (now .state) ≡ ok r
+        → slotRead b child level source i now ≡ ok (record { entries = now .entries ++ (Child (r .number) ∷ []); state = r .state })
+    slot-child to r t c = slot-set ∙ ap follow (sym t) ∙ ap read c
 
 -- ---- the slots of a node
 

@@ -1,7 +1,7 @@
 -- The tables hold the definition's state after each step of the reader. Assumes nothing.
 use mathlib.Core.Path.{_≡_, refl, sym, ap, _∙_, subst}
 use mathlib.Core.List.{List, [], _∷_, _++_, map, append-assoc, append-nil}
-use Prim.Native.Nat.{ℕ, zero, suc, _+_, _*_, _<_}
+use Prim.Native.Nat.{ℕ, zero, suc, _+_, _*_, _≤_, _<_}
 use native.Mathlib.Omega.{arith}
 use lib.ListN.{length, set, length-append, length-map, length-set}
 use lib.Ieee.{Float}
@@ -12,14 +12,16 @@ use Rattle.lent.specs.PaddedLaws.{padded-push, padded-zero}
 use Rattle.sparse_grid.specs.declared.Entry.{Entry}
 use Rattle.sparse_grid.specs.declared.Entry.the-variants.{Child, Tile}
 use Rattle.nanovdb.specs.Spans.{Span}
-use Rattle.nanovdb.specs.Nodes.{byLevel, Places, State, Read, Slots, entriesOf, nodesAt, leafValues, leafPlaced, placed, slotsRead, node}
+use Rattle.nanovdb.specs.Nodes.{byLevel, Places, State, Read, Slots, entriesOf, nodesAt, leafPlaced, placed, slotsRead, node}
 use Rattle.nanovdb.specs.Decode.{linkOf, valueOf}
 use Rattle.nanovdb.specs.HeldNodes.{spanOf, opening, lower-filled, upper-filled, read-leaf, read-lower}
 use Rattle.decode.specs.Inner.WorkTable.{spans, size, Pushed}
-use Rattle.decode.specs.Inner.Filled.{countIn, grownBy, atLower, atUpper, LeafFilled, Tabs, tabs, Holds, Ready, Shut, lowerOpen, upperOpen, before}
+use Rattle.decode.specs.Inner.Filled.{countIn, grownBy, Tabs, tabs, Holds, Ready, Shut, lowerOpen, upperOpen, before}
+use Rattle.decode.specs.Inner.Stored.{leafValue, Stored, atUpper, atLower}
 use Rattle.decode.specs.declared.spans.Spans.{Spans}
 use Rattle.decode.specs.declared.nodes.State as Progress
 use Rattle.decode.proofs.nodes.Fits.{withWork, roomOf}
+use Rattle.decode.proofs.nodes.Runs.{leaf-filled}
 
 -- ---- tables and states with a part exchanged
 
@@ -107,9 +109,9 @@ module _ {t : Tabs} {st : Progress.State} {d : State} {lower upper : List Entry}
     leafValues = h .leafValues;
   }
 
-  pub holds-leaf : {lf : List Float} {b : List ℕ} {source base : ℕ} → length (d .leaf) ≡ base → LeafFilled b source base (t .leafValues) lf
-      → Holds (withLeaves t lf) st (leafPlaced b source d) lower upper
-  holds-leaf {lf} {b} {source} size f = record {
+  pub holds-leaf : (b : List ℕ) (source : ℕ) {lf : List Float} {base : ℕ} → length (d .leaf) ≡ base → base + 512 ≤ length (t .leafValues)
+      → Stored (leafValue b source) base 0 (t .leafValues) 512 lf → Holds (withLeaves t lf) st (leafPlaced b source d) lower upper
+  holds-leaf b source from room f = record {
     spans-are = h .spans-are;
     uppers = h .uppers;
     lowers = h .lowers;
@@ -118,7 +120,7 @@ module _ {t : Tabs} {st : Progress.State} {d : State} {lower upper : List Entry}
     upperValues = h .upperValues;
     lowerLinks = h .lowerLinks;
     lowerValues = h .lowerValues;
-    leafValues = f .filled (d .leaf) (h .leafValues) size ∙ ap (λ (k : ℕ). padded k +0 (d .leaf ++ leafValues b source 512)) (sym (f .kept));
+    leafValues = leaf-filled b source (d .leaf) (h .leafValues) from room f (omega arith);
   }
 
   refilled : {ul : List ℕ} {uv : List Float} {ll : List ℕ} {lv : List Float} {us ls es os : List Entry}

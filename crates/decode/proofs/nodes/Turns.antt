@@ -6,85 +6,82 @@ use native.Mathlib.Omega.{arith}
 use lib.ListN.{length}
 use lib.Ieee.{Float}
 use Rattle.refusals.specs.Results.{ok, refused}
-use Rattle.layout.specs.Bytes.{signed, u64At, i64At, f32At, maskBit}
+use Rattle.layout.specs.Bytes.{u64At, maskBit}
 use Rattle.sparse_grid.specs.declared.Entry.{Entry}
-use Rattle.nanovdb.specs.Nodes.{Places, State, Slots, childTarget, maskOf, tableOf, slotRead, slotsRead, node}
-use Rattle.decode.specs.Inner.Filled.{ofTarget, atLower, atUpper, Tabs, Fit, Kept, Holds, Lends, Ready, Shut, Reads}
+use Rattle.nanovdb.specs.Nodes.{Places, State, Slots, maskOf, tableOf, slotRead, slotsRead, node}
+use Rattle.decode.specs.Inner.Filled.{ofTarget, slotTarget, Tabs, Fit, Kept, Holds, Lends, Ready, Shut, Reads}
 use Rattle.decode.specs.Inner.Filled.{NodeSays, NodeFit, NodeOut, lowerOpen, upperOpen, before, ReadsSlot, SlotSays, SlotFit, SlotOut}
+use Rattle.decode.specs.Inner.Stored.{atUpper, atLower, slotValue, TilesStored, tiles-none, tiles-more, NextChild}
 use Rattle.decode.specs.declared.nodes.State as Progress
 use Rattle.decode.specs.declared.nodes.Target as Target
 use Rattle.decode.specs.declared.nodes.Placed as Placed
 use Rattle.decode.specs.declared.nodes.Step as Step
-use Rattle.decode.proofs.nodes.Steps.{slot-tile, slot-zero, slot-off, slot-refused, slot-child, slots-more}
+use Rattle.decode.proofs.nodes.Steps.{slot-tile, slot-off, slot-refused, slot-child, slots-more}
 use Rattle.decode.proofs.nodes.Fits.{roomOf, room-kept, fit-kept}
 use Rattle.decode.proofs.nodes.Levels.{less-one}
+use Rattle.decode.proofs.nodes.Runs.{upper-kept, lower-kept, tiles-from}
 use Rattle.decode.proofs.nodes.Tables.{withLinks, withValues, Next, holds-tile, holds-child, child-before}
 
 -- ---- the answers of `slot`
 
--- slot i stands at `at` in the bytes, m is its mask bit, and the tables have room for it
-pub record Slot (b : List ℕ) (source level base i : ℕ) (t : Tabs) (st : Progress.State) (at m : ℕ) : Type 0 where
+-- slot i has its place in the tables
+pub record Slot (b : List ℕ) (source level base i : ℕ) (t : Tabs) (st : Progress.State) : Type 0 where
   pub above : 0 < level
   pub three : level < 3
   pub fit : Fit (length b) t st
   pub room : base + i < roomOf level t
-  pub place : at ≡ source + tableOf level + 8 * i
-  pub bit : m ≡ maskBit b (source + maskOf level) i
 
 -- a child stands there, `relative` is its slot's word, and `target` what that leads to
-pub record Aimed (b : List ℕ) (source level base i : ℕ) (t : Tabs) (st : Progress.State) (at m relative : ℕ) (target : Target.Target) : Type 0 where
-  pub slot : Slot b source level base i t st at m
-  pub set : m ≡ 0 → ⊥
-  pub word : relative ≡ u64At b at
-  pub some : relative ≡ 0 → ⊥
-  pub aims : ofTarget target ≡ childTarget source (signed 64 relative)
+pub record Aimed (b : List ℕ) (source level base i : ℕ) (t : Tabs) (st : Progress.State) (relative : ℕ) (target : Target.Target) : Type 0 where
+  pub slot : Slot b source level base i t st
+  pub set : maskBit b (source + maskOf level) i ≡ 1
+  pub word : relative ≡ u64At b (source + tableOf level + 8 * i)
+  pub aims : ofTarget target ≡ slotTarget source relative
 
-module _ {b : List ℕ} {source level base i : ℕ} {t : Tabs} {st : Progress.State} {at m : ℕ} (s : Slot b source level base i t st at m) where
+-- the tables with a value more
+abbrev pub withTile : ℕ → Tabs → ℕ → Float → Tabs
+withTile level t at v = withValues t (atUpper level (t .upperValues) at v) (atLower level (t .lowerValues) at v)
+
+pub tile-kept : (level : ℕ) {t : Tabs} (at : ℕ) (v : Float) → Kept t (withTile level t at v)
+tile-kept level {t} at v = record {
+  work = refl;
+  upperLinks = refl;
+  upperValues = upper-kept level (t .upperValues) at v;
+  lowerLinks = refl;
+  lowerValues = lower-kept level (t .lowerValues) at v;
+  leafValues = refl;
+}
+
+module _ {b : List ℕ} {source level base i : ℕ} {t : Tabs} {st : Progress.State} (s : Slot b source level base i t st) where
   -- the slot's entry is the next of its level
   next : (p : Places) (now : Slots) (outer : List Entry) → ReadsSlot level b (base + i) t st p now outer
       → Next level t st (now .state) (now .entries) outer (base + i)
   next p now outer R =
       record { holds = R .holds; upper-pair = s .fit .upper-pair; lower-pair = s .fit .lower-pair; place = R .place; room = s .room }
 
-  pub slot-out-tile : {v : Float} {uv lv : List Float} → m ≡ 0 → v ≡ f32At b at
-      → (uv ≡ atUpper level (t .upperValues) (base + i) v) × (lv ≡ atLower level (t .lowerValues) (base + i) v)
-      → length uv ≡ length (t .upperValues) → length lv ≡ length (t .lowerValues)
-      → SlotOut level b source base i t st (withValues t uv lv) (Step.the-variants.Next st)
-  slot-out-tile {v} {uv} {lv} clear is stored ku kl = record {
-    fit = fit-kept (s .fit) (withValues t uv lv) refl ku refl kl;
-    says = λ k e p now outer R. (
-      _,
-      slot-tile b (node k b p) level source i now v (sym (s .bit) ∙ clear) (is ∙ ap (f32At b) (s .place)),
-      holds-tile level v (s .three) (next p now outer R) (stored .0) (stored .1),
-    );
-  }
+  pub slot-out-tile : maskBit b (source + maskOf level) i ≡ 0
+      → SlotOut level b source base i t st (withTile level t (base + i) (slotValue b source level i)) (Step.the-variants.Next st)
+  slot-out-tile clear =
+      let v = slotValue b source level i in
+      let k = tile-kept level {t = t} (base + i) v in
+      record {
+        fit = fit-kept (s .fit) (withTile level t (base + i) v) refl (k .upperValues) refl (k .lowerValues);
+        says = λ n e p now outer R. (
+          _,
+          slot-tile b (node n b p) level source i now v clear refl,
+          holds-tile level v (s .three) (next p now outer R) refl refl,
+        );
+      }
 
-  isSet : (m ≡ 0 → ⊥) → maskBit b (source + maskOf level) i ≡ 0 → ⊥
-  isSet set e = set (s .bit ∙ e)
-
-  pub slot-out-zero : {relative : ℕ} {u : Tabs} → (m ≡ 0 → ⊥) → relative ≡ u64At b at → relative ≡ 0
-      → SlotOut level b source base i t st u (Step.the-variants.Stop 8)
-  slot-out-zero set word e = record {
-    fit = tt;
-    says = λ k q p now outer R. slot-zero b (node k b p) level source i now (isSet set) (ap (u64At b) (sym (s .place)) ∙ sym word ∙ e);
-  }
-
-module _ {b : List ℕ} {source level base i : ℕ} {t : Tabs} {st : Progress.State} {at m relative : ℕ} {target : Target.Target}
-    (a : Aimed b source level base i t st at m relative target) where
-  there : relative ≡ u64At b (source + tableOf level + 8 * i)
-  there = a .word ∙ ap (u64At b) (a .slot .place)
-
-  isSome : u64At b (source + tableOf level + 8 * i) ≡ 0 → ⊥
-  isSome e = a .some (there ∙ e)
-
-  aimed : ofTarget target ≡ childTarget source (i64At b (source + tableOf level + 8 * i))
-  aimed = a .aims ∙ ap (λ (x : ℕ). childTarget source (signed 64 x)) there
+module _ {b : List ℕ} {source level base i : ℕ} {t : Tabs} {st : Progress.State} {relative : ℕ} {target : Target.Target}
+    (a : Aimed b source level base i t st relative target) where
+  aimed : ofTarget target ≡ slotTarget source (u64At b (source + tableOf level + 8 * i))
+  aimed = a .aims ∙ ap (slotTarget source) (a .word)
 
   pub slot-out-off : {e : ℕ} {u : Tabs} → target ≡ Target.the-variants.Refused e → SlotOut level b source base i t st u (Step.the-variants.Stop e)
   slot-out-off {e} q = record {
     fit = tt;
-    says = λ k z p now outer R.
-        slot-off b (node k b p) level source i now (isSet (a .slot) (a .set)) isSome e (sym (ap ofTarget q) ∙ aimed);
+    says = λ k z p now outer R. slot-off b (node k b p) level source i now (a .set) e (sym (ap ofTarget q) ∙ aimed);
   }
 
   -- the child at `to` has been read into the tables u
@@ -116,7 +113,7 @@ module _ {b : List ℕ} {source level base i : ℕ} {t : Tabs} {st : Progress.St
       fit = tt;
       says = λ k d p now outer R.
           let read = told z p (now .state) (lowerOpen level (now .entries)) (upperOpen level (now .entries) outer) (handed p now outer R) in
-          slot-refused b (node k b p) level source i now (isSet (a .slot) (a .set)) isSome to e (sym (ap ofTarget q) ∙ aimed)
+          slot-refused b (node k b p) level source i now (a .set) to e (sym (ap ofTarget q) ∙ aimed)
           (subst (λ (n : ℕ). node n b p to (now .state) ≡ refused e) (same-level k d) read);
     }
 
@@ -133,7 +130,7 @@ module _ {b : List ℕ} {source level base i : ℕ} {t : Tabs} {st : Progress.St
           let here = child-before level (level - 1) down (a .slot .three) b p to (now .state) (now .entries) (record { number = n; state = e })
           (R .ready (level - 1) down) read in (
             _,
-            slot-child b (node k b p) level source i now (isSet (a .slot) (a .set)) isSome to (record { number = n; state = e })
+            slot-child b (node k b p) level source i now (a .set) to (record { number = n; state = e })
                 (sym (ap ofTarget q) ∙ aimed)
                 (subst (λ (m : ℕ). node m b p to (now .state) ≡ ok (record { number = n; state = e })) (same-level k d) read),
             holds-child level n x (a .slot .three) (record {
@@ -239,3 +236,32 @@ module _ {level : ℕ} {b : List ℕ} {source base entries : ℕ} {t₀ t : Tabs
     turn-stops is l e p d outer B =
         let (now, read, handed) = slot-handed l e p d outer B in
         (now, read, told-slot is l e p now outer handed)
+
+-- a run of values: each of its slots is a tile
+module _ {level : ℕ} {b : List ℕ} {source base entries : ℕ} {t₀ t : Tabs} {st₀ st : Progress.State} {from : ℕ} (above : 0 < level) (three : level < 3)
+    (room : base + entries ≤ roomOf level t) (turn : Turn level b source base entries t₀ st₀ t st from) where
+  pub turn-tiles : {i : ℕ} {uv lv : List Float}
+      → TilesStored level (slotValue b source level) base from (t .upperValues) (t .lowerValues) i uv lv → i ≤ entries
+      → ((j : ℕ) → from ≤ j → j < i → maskBit b (source + maskOf level) j ≡ 0) → Turn level b source base entries t₀ st₀ (withValues t uv lv) st i
+  turn-tiles tiles-none h clear = turn
+  turn-tiles (tiles-more {i} s) h clear =
+      let so = turn-tiles s (omega arith) (λ j f l. clear j f (omega arith)) in
+      let here : Slot b source level base i _ st = record { above = above; three = three; fit = so .fit; room = omega arith } in
+      turn-more so (slot-out-tile here (clear i (tiles-from s) (omega arith))) (omega arith) refl (tile-kept level (base + i) (slotValue b source level i))
+
+-- the slots before i have been read, and j is the next that has a child
+pub record Going (level : ℕ) (b : List ℕ) (source base entries : ℕ) (t₀ : Tabs) (st₀ : Progress.State) (t : Tabs) (st : Progress.State) (i j : ℕ)
+    : Type 0 where
+  pub turn : Turn level b source base entries t₀ st₀ t st i
+  pub next : NextChild b (source + maskOf level) i entries j
+
+module _ {level : ℕ} {b : List ℕ} {source base entries : ℕ} {t₀ t : Tabs} {st₀ st : Progress.State} {i j : ℕ} (above : 0 < level) (three : level < 3)
+    (room : base + entries ≤ roomOf level t) (g : Going level b source base entries t₀ st₀ t st i j) {uv lv : List Float} where
+  -- the values up to the child, and those behind the last
+  pub going-run : TilesStored level (slotValue b source level) base i (t .upperValues) (t .lowerValues) j uv lv
+      → Turn level b source base entries t₀ st₀ (withValues t uv lv) st j
+  going-run s = turn-tiles above three room (g .turn) s (g .next .to) (g .next .clear)
+
+  pub going-last : entries ≤ j → TilesStored level (slotValue b source level) base i (t .upperValues) (t .lowerValues) entries uv lv
+      → Turn level b source base entries t₀ st₀ (withValues t uv lv) st entries
+  going-last h s = turn-tiles above three room (g .turn) s (omega arith) (λ k f l. g .next .clear k f (omega arith))

@@ -159,7 +159,7 @@ module _ {b : List ℕ} {t : Tabs} {offset tiles : ℕ} {w : List ℕ} {r : Clai
         upperValues = Z .upperValues ∙ sym (padded-none (length (t .upperValues)) +0);
         lowerLinks = Z .lowerLinks ∙ sym (padded-none (length (t .lowerLinks)) 0);
         lowerValues = Z .lowerValues ∙ sym (padded-none (length (t .lowerValues)) +0);
-        leafValues = Z .leafValues ∙ sym (padded-none (length (t .leafValues)) +0);
+        leafValues = (t .leafValues, refl);
       };
       lends = record {
         spans = L .nodes .spans ∙ ap (λ (k : ℕ). k / 4) (sym (told z .0 .size-kept));

@@ -2,13 +2,16 @@
 use Prim.Native.Nat.{ℕ, zero, suc, _+_, _/_, _<_}
 use mathlib.Core.Path.{_≡_}
 use mathlib.Core.List.{List, [], _++_, map}
-use lib.ListN.{length, set}
+use lib.ListN.{length}
+use lib.Dec.{eqb}
+use mathlib.Core.Bool.{not}
 use lib.Ieee.{Float}
-use Rattle.refusals.specs.Results.{Result, ok, refused}
+use Rattle.refusals.specs.Results.{Result, ok, refused, need}
 use Rattle.float.specs.Zero.{+0}
 use Rattle.lent.specs.Padded.{padded}
+use Rattle.layout.specs.Bytes.{signed}
 use Rattle.sparse_grid.specs.declared.Entry.{Entry}
-use Rattle.nanovdb.specs.Nodes.{byLevel, Places, State, Slots, leafValues, slotRead, node}
+use Rattle.nanovdb.specs.Nodes.{byLevel, Places, State, Slots, childTarget, slotRead, node}
 use Rattle.nanovdb.specs.Decode.{linkOf, valueOf}
 use Rattle.nanovdb.specs.HeldNodes.{Inv0, Inv1, Inv2}
 use Rattle.decode.specs.Inner.WorkTable.{Rep, nodes, spans}
@@ -25,6 +28,10 @@ abbrev pub ofTarget : Target.Target → Result ℕ
 ofTarget (Target.the-variants.At n) = ok n
 ofTarget (Target.the-variants.Refused n) = refused n
 
+-- the place of a child whose slot has these bits, where 0 is no place
+abbrev pub slotTarget : ℕ → ℕ → Result ℕ
+slotTarget source bits = need (not (eqb bits 0)) 8 (childTarget source (signed 64 bits))
+
 abbrev pub countIn : Progress.State → ℕ → ℕ
 countIn s level = byLevel level (s .leaves) (s .lowers) (s .uppers)
 
@@ -39,18 +46,6 @@ grownBy level s p = byLevel level
 
 abbrev pub roomIn : ℕ → ℕ → ℕ → ℕ
 roomIn level upper lower = byLevel level 0 lower upper
-
--- a store to the lower table at level 1, and to the upper one at level 2
-abbrev pub atLower : {A : Type 0} → ℕ → List A → ℕ → A → List A
-atLower level l at x = byLevel level l (set l at x) l
-
-abbrev pub atUpper : {A : Type 0} → ℕ → List A → ℕ → A → List A
-atUpper level l at x = byLevel level l l (set l at x)
-
--- the values of the leaf at source are put behind `base` values
-pub record LeafFilled (b : List ℕ) (source base : ℕ) (before after : List Float) : Type 0 where
-  pub kept : length after ≡ length before
-  pub filled : (l : List Float) → before ≡ padded (length before) +0 l → length l ≡ base → after ≡ padded (length before) +0 (l ++ leafValues b source 512)
 
 -- ---- the tables beside the definition's state
 
@@ -89,6 +84,10 @@ pub record Kept (t u : Tabs) : Type 0 where
   pub lowerValues : length (u .lowerValues) ≡ length (t .lowerValues)
   pub leafValues : length (u .leafValues) ≡ length (t .leafValues)
 
+-- a table begins with l, whatever stands behind it
+abbrev pub Starts : {A : Type 0} → List A → List A → Type 0
+Starts {A} t l = (rest : List A) × (t ≡ l ++ rest)
+
 -- the tables hold a state of the definition, with the entries of a lower and an upper node that are still being read behind the others
 pub record Holds (t : Tabs) (s : Progress.State) (d : State) (lower upper : List Entry) : Type 0 where
   pub spans-are : d .spans ≡ spans (t .work) (s .spans .count) (s .spans .root) (s .spans .limit)
@@ -99,7 +98,7 @@ pub record Holds (t : Tabs) (s : Progress.State) (d : State) (lower upper : List
   pub upperValues : t .upperValues ≡ padded (length (t .upperValues)) +0 (map valueOf (d .upper ++ upper))
   pub lowerLinks : t .lowerLinks ≡ padded (length (t .lowerLinks)) 0 (map linkOf (d .lower ++ lower))
   pub lowerValues : t .lowerValues ≡ padded (length (t .lowerValues)) +0 (map valueOf (d .lower ++ lower))
-  pub leafValues : t .leafValues ≡ padded (length (t .leafValues)) +0 (d .leaf)
+  pub leafValues : Starts (t .leafValues) (d .leaf)
 
 -- the places that the tables give
 pub record Lends (t : Tabs) (p : Places) : Type 0 where

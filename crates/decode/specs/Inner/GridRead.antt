@@ -2,7 +2,7 @@
 use Prim.Native.Nat.{ℕ, _+_, _*_, _≤_, _<_}
 use mathlib.Core.Path.{_≡_}
 use mathlib.Core.Bool.{Bool, true, false}
-use mathlib.Core.List.{List}
+use mathlib.Core.List.{List, []}
 use lib.IntN.{ℤ}
 use lib.ListN.{length, take, replicate}
 use lib.Ieee.{Float}
@@ -15,6 +15,7 @@ use Rattle.nanovdb.specs.Nodes.{Places}
 use Rattle.nanovdb.specs.Decode.{Accepted, mediumAt, treeFault, decodeScalar, decodeDensity}
 use Rattle.nanovdb.specs.Lent.{Answer, Lent, Tables, tables, lengths, decodeInto, answerOf, leftOf, zeros}
 use Rattle.decode.specs.Inner.Filled.{Tabs}
+use Rattle.decode.specs.Inner.Stored.{zeroBehind}
 use Rattle.decode.specs.Inner.Rooted.{RootTabs}
 use Rattle.decode.specs.declared.tree.Tree as Tree
 use Rattle.decode.specs.declared.tree.TreeRead as Code
@@ -74,11 +75,15 @@ pub record Used (len : ℕ) (x : Tree.Tree) (blocks rootLinks rootValues upperLi
 abbrev pub allTables : Tabs → RootTabs → Tables
 allTables t q = tables (q .blocks) (q .links) (q .values) (t .upperLinks) (t .upperValues) (t .lowerLinks) (t .lowerValues) (t .leafValues) (t .work)
 
--- the same with an empty work table
-abbrev pub workless : Tables → Tables
-workless t =
-    tables (t .blocks) (t .rootLinks) (t .rootValues) (t .upperLinks) (t .upperValues) (t .lowerLinks) (t .lowerValues) (t .leafValues)
+-- the same with zeros behind so many leaves, and an empty work table
+abbrev pub tidied : Tables → ℕ → Tables
+tidied t leaves =
+    tables (t .blocks) (t .rootLinks) (t .rootValues) (t .upperLinks) (t .upperValues) (t .lowerLinks) (t .lowerValues) (zeroBehind leaves (t .leafValues))
     (replicate (length (t .work)) 0)
+
+-- without the values of leaves
+abbrev pub leafless : Tables → Tables
+leafless t = tables (t .blocks) (t .rootLinks) (t .rootValues) (t .upperLinks) (t .upperValues) (t .lowerLinks) (t .lowerValues) [] (t .work)
 
 abbrev pub answerIn : List ℕ → Code.TreeRead → Answer
 answerIn b (Code.the-variants.Read x) = record {
@@ -92,9 +97,9 @@ answerIn b (Code.the-variants.Read x) = record {
 }
 answerIn b (Code.the-variants.Refused n) = answerOf (refused n)
 
--- what is left once the work table is emptied and, after a refusal, every other table
+-- what is left of a tree that was read, and of a refusal
 abbrev pub leftIn : Tables → Code.TreeRead → Tables
-leftIn t (Code.the-variants.Read x) = workless t
+leftIn t (Code.the-variants.Read x) = tidied t (x .nodes .leaves)
 leftIn t (Code.the-variants.Refused n) = zeros (lengths t)
 
 abbrev pub RootIn : Code.TreeRead → Type 0

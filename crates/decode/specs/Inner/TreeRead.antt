@@ -13,7 +13,7 @@ use Rattle.decode.specs.Inner.Filled.{Tabs, Holds, Lends}
 use Rattle.decode.specs.Inner.Rooted.{RootTabs, RootsHeld}
 use Rattle.decode.specs.declared.tree.TreeRead as Code
 
--- every table but the work table is of zeros
+-- every table but those of the leaves and the words is of zeros
 pub record Zeroed (t : Tabs) (q : RootTabs) : Type 0 where
   pub blocks : q .blocks ≡ replicate (length (q .blocks)) (pos 0)
   pub links : q .links ≡ replicate (length (q .links)) 0
@@ -22,7 +22,6 @@ pub record Zeroed (t : Tabs) (q : RootTabs) : Type 0 where
   pub upperValues : t .upperValues ≡ replicate (length (t .upperValues)) +0
   pub lowerLinks : t .lowerLinks ≡ replicate (length (t .lowerLinks)) 0
   pub lowerValues : t .lowerValues ≡ replicate (length (t .lowerValues)) +0
-  pub leafValues : t .leafValues ≡ replicate (length (t .leafValues)) +0
 
 -- the places that the tables give, of roots too
 pub record LendsAll (t : Tabs) (q : RootTabs) (p : Places) : Type 0 where
