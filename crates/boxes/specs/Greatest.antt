@@ -4,10 +4,10 @@ use mathlib.Core.Path.{_≡_, refl, sym, ap, _∙_}
 use mathlib.Core.Logic.{_⊎_, inl, inr, ⊎-elim}
 use mathlib.Core.Bool.{Bool, true, false, cond}
 use lib.Dec.{T}
-use lib.Ieee.{Float, Format, lt, fits}
+use lib.Ieee.{Float, Format, lt, fits, toBits}
 use Rattle.float.specs.Zero.{+0}
 use Rattle.float.specs.Ordered.{not-lt-through}
-use Rattle.float.specs.Plain.{Plain, up-plain, plain-number, not-below-zero, alike}
+use Rattle.float.specs.Plain.{Plain, up-plain, plain-number, not-below-zero, alike, same-bits}
 use Rattle.layout.specs.Coordinates.{Coord}
 use Rattle.boxes.specs.Boxes.{Box, In, Greatest, GreatestOver, greater}
 use Rattle.boxes.specs.Maximum.{greater-l, greater-r}
@@ -24,6 +24,10 @@ module _ (read : Coord → Float) where
   -- there is one, where both fit a format
   pub over-one : (f : Format) (S : Coord → Type 0) {r s : Float} → T (fits f r) → T (fits f s) → GreatestOver read S r → GreatestOver read S s → r ≡ s
   over-one f S p q m n = alike f (plain S m) (plain S n) p q (over-within S S (λ c i. i) m n) (over-within S S (λ c i. i) n m)
+
+  -- and its bits are one in any case
+  pub over-bits : (f : Format) (S : Coord → Type 0) {r s : Float} → GreatestOver read S r → GreatestOver read S s → toBits f r ≡ toBits f s
+  over-bits f S m n = same-bits f (plain S m) (plain S n) (over-within S S (λ c i. i) m n) (over-within S S (λ c i. i) n m)
 
   -- two sets S and U that make up a third, W
   module _ (S U W : Coord → Type 0) (left : (c : Coord) → S c → W c) (right : (c : Coord) → U c → W c) (split : (c : Coord) → W c → S c ⊎ U c) where

@@ -1,5 +1,7 @@
 -- Definitions that public contracts and the one claim cite.
 pub mod Boxes
+-- Definitions of laws: boxes cut in two, boxes inside boxes.
+pub mod Cuts
 -- Definitions that only private contracts cite.
 pub mod Most
 pub mod RangeMax
@@ -10,3 +12,6 @@ pub mod Greatest
 pub mod MostLaws
 pub mod NodeCells
 pub mod RootReads
+pub mod CutLaws
+-- Worked examples.
+pub mod CutExamples

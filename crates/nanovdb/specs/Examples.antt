@@ -6,7 +6,7 @@ use Prim.Native.Nat.{ℕ, zero, suc, _+_, _-_, _/_, _%_, _^_}
 use lib.Dec.{eqb}
 use lib.ListN.{drop}
 use lib.IntN.{pos, negsuc}
-use lib.Ieee.{ofBits, lt, eq, add, sub}
+use lib.Ieee.{binary32, ofBits, lt, eq, add, sub}
 use Rattle.refusals.specs.Results.{Result, ok, refused, numberOf}
 use Rattle.float.specs.Fused.{narrow}
 use Rattle.layout.specs.Bytes.{le, signed}
@@ -15,11 +15,12 @@ use Rattle.layout.specs.Walk.{ofRoot, ofBackground, walk}
 use Rattle.layout.specs.Sample.{field, written, bytesOf, header, rootAt, sample, sampleWith}
 use Rattle.layout.specs.Examples.{sample-walk}
 use Rattle.sparse_grid.specs.declared.Entry.{Entry}
+use Rattle.sparse_grid.specs.Tables.{gridOf}
 use Rattle.sparse_grid.specs.Validate.{validate, densityFault}
 use Rattle.medium.specs.Medium.{boundsFault, indexFault, mapFault}
 use Rattle.nanovdb.specs.Nodes.{Places, childTarget}
 use Rattle.nanovdb.specs.Tree.{rootOf, keyPasses}
-use Rattle.nanovdb.specs.Decode.{Accepted, markPasses, decodeDensity}
+use Rattle.nanovdb.specs.Decode.{Accepted, markPasses, mediumOf, decodeDensity}
 use Rattle.nanovdb.specs.Keys.{key-same}
 use Rattle.nanovdb.specs.Marks.{older, newer, newer-density}
 
@@ -49,6 +50,15 @@ target-off = refl
 pub accepted : numberOf (decodeDensity sample places) ≡ 0
 unfolding decodeDensity sample le signed narrow validate densityFault boundsFault indexFault mapFault ofBits lt eq sub add
 accepted = refl
+
+-- its tables: background 0, and one root tile of 0.5 in block (-1, 0, 0)
+pub sample-tables : decodeDensity sample places
+    ≡ ok (record {
+      grid = gridOf (ofBits binary32 0) (negsuc 0 ∷ pos 0 ∷ pos 0 ∷ []) (0 ∷ []) (ofBits binary32 0x3f000000 ∷ []) [] [] [] [] [];
+      medium = mediumOf sample;
+    })
+unfolding decodeDensity sample le signed narrow validate densityFault boundsFault indexFault mapFault ofBits lt eq sub add
+sample-tables = refl
 
 -- the walk reads 0.5 in the block (-1, 0, 0) and the background in every other
 reads : (c : Coord) → Signed32 c

@@ -8,5 +8,9 @@ pub mod BiasedLaws
 pub mod TableLaws
 pub mod Signs
 pub mod Sound
+pub mod Roots
+pub mod Reorder
+pub mod Permuted
 pub mod Inner
 pub mod Examples
+pub mod ReorderExamples

@@ -13,6 +13,7 @@ pub mod samples;
 pub mod source;
 pub mod spoil;
 pub mod walk;
+pub mod zones;
 
 pub mod util {
     pub mod error {

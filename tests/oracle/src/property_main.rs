@@ -1,7 +1,7 @@
 //! `property`: the way of a host through C alone, against what the bytes say: a decode into tables with room to spare, its used
 //! parts, lookups, box maxima, and the build. Every lookup is the voxel of the bytes and a box maximum the greatest of zero and its
 //! voxels, also where the build is refused, which leaves zeros. Where it is not, every point of the world box lies in some cell, and
-//! no cell around it has a figure below its eight voxels.
+//! no cell around it has a figure below its eight voxels. Of every accepted grid also the laws of zones (`zones`).
 
 use oracle::cells::{cell, corners, enclosing, voxels_around};
 use oracle::generate::{self, Case};
@@ -9,6 +9,7 @@ use oracle::loader::{decode_into, Grid, Lengths, Loader, Rust, CELLS};
 use oracle::random::Random;
 use oracle::samples;
 use oracle::walk::{self, Places};
+use oracle::zones;
 use std::process::exit;
 
 const USAGE: &str = "usage: property SEED GRIDS POINTS-A-GRID [rust]
@@ -29,6 +30,7 @@ struct Counts {
     on_faces: u64,
     smoky: u64,
     swapped: u64,
+    zones: zones::Counts,
     counterexamples: u64,
     case: String,
 }
@@ -52,6 +54,7 @@ impl Counts {
         println!("points on a face of some cell {}", self.on_faces);
         println!("points with smoke in a voxel {}", self.smoky);
         println!("axes with a cell whose corners are swapped {}", self.swapped);
+        self.zones.print();
         println!("counterexamples {}", self.counterexamples);
     }
 }
@@ -82,15 +85,27 @@ fn main() {
         let case = generate::sound(seed, number);
         counts.case = format!("sound case {seed} {number} ({})", case.name);
         if case.builds {
-            run(&mut counts, loader, &case, &mut Random::new(!seed, number), points);
+            run(&mut counts, loader, &case, [seed, number], points);
         }
     }
     counts.print();
-    let every_end = counts.built == grids && counts.refused_16 > 0 && counts.refused_17 > 0;
+    let every_end = counts.built == grids
+        && counts.refused_16 > 0
+        && counts.refused_17 > 0
+        && counts.zones.complete();
     exit(if counts.counterexamples == 0 && every_end { 0 } else { 1 });
 }
 
-fn run(counts: &mut Counts, loader: &dyn Loader, case: &Case, random: &mut Random, points: u64) {
+fn run(
+    counts: &mut Counts,
+    loader: &dyn Loader,
+    case: &Case,
+    [seed, number]: [u64; 2],
+    points: u64,
+) {
+    let random = &mut Random::new(!seed, number);
+    // Numbers of their own, so that the points below stay those of the seed.
+    let zone = &mut Random::new(seed ^ 0x2015, number);
     let (_, places) = walk::reach(&case.bytes, walk::ROOMY);
     let [leaf, lower, upper] = places.nodes.map(|nodes| nodes + 1);
     let spare =
@@ -102,6 +117,9 @@ fn run(counts: &mut Counts, loader: &dyn Loader, case: &Case, random: &mut Rando
     let grid = held.grid();
     check_lookups(counts, loader, case, &grid, random);
     check_boxes(counts, loader, case, &grid, random);
+    for what in zones::check(&mut counts.zones, loader, &grid, &case.near, zone) {
+        counts.wrong(what);
+    }
     let mut figures = vec![f32::NAN; CELLS];
     let number = loader.build_majorant(grid.tables(), &grid.medium, &grid.corners, &mut figures);
     if number != 0 && figures.iter().any(|figure| figure.to_bits() != 0) {
