@@ -67,6 +67,7 @@ Coord aroundLeaf(Random &random, const nanovdb::FloatGrid &grid)
 struct Counts {
     int asked = LOOKUPS;
     long lookups = 0, differ = 0, smoky = 0, boxes = 0, built = 0, rounded = 0, marked = 0;
+    long levels[5] = {}; // lookups by NanoVDB.h's level
 };
 
 bool sameBits(float a, float b)
@@ -74,17 +75,32 @@ bool sameBits(float a, float b)
     return std::memcmp(&a, &b, 4) == 0;
 }
 
-// Whether a lookup gives NanoVDB.h's bits; where it does not, says so.
+// Where NanoVDB.h's walk stops, numbered as in smokegrid.h. Its accessor names the level of the node, and the root is asked
+// whether it has a tile there: the accessor alone does not tell a root tile from the background.
+uint32_t levelOf(const nanovdb::FloatGrid &grid, const Coord &at)
+{
+    const uint32_t level = grid.getAccessor().getNodeInfo(at).mLevel; // 0 leaf, 3 root
+    if (level < 3) return 4 - level;
+    return grid.tree().root().probeTile(at) != nullptr;
+}
+
+// Whether a lookup gives NanoVDB.h's bits, and a reading these and its level; where it does not, says so.
 bool sameValue(Counts &counts, const std::string &name, const Loaded &ours, const nanovdb::FloatGrid &grid, const Coord &at)
 {
     const float due = grid.getAccessor().getValue(at);
     float value = -1;
     const uint32_t number = ours.call(smokegrid_get_value, at[0], at[1], at[2], &value);
+    const uint32_t dueLevel = levelOf(grid, at);
+    float read = -1;
+    uint32_t level = 9;
+    const uint32_t readNumber = ours.call(smokegrid_get_reading, at[0], at[1], at[2], &read, &level);
     ++counts.lookups;
+    ++counts.levels[dueLevel];
     counts.smoky += due != grid.tree().background();
-    if (number == 0 && sameBits(value, due)) return true;
+    if (number == 0 && sameBits(value, due) && readNumber == 0 && sameBits(read, due) && level == dueLevel) return true;
     if (++counts.differ <= 20) {
-        std::printf("%s at %s: NanoVDB.h %g, ours %u %g\n", name.c_str(), text(at).c_str(), due, number, value);
+        std::printf("%s at %s: NanoVDB.h %g level %u, ours %u %g, reading %u %g level %u\n", name.c_str(), text(at).c_str(), due,
+            dueLevel, number, value, readNumber, read, level);
     }
     return false;
 }
@@ -207,6 +223,9 @@ int main(int count, char **words)
     for (const Made &made : refused()) compareGrid(tally, counts, made, random);
     std::printf("%ld lookups beside getValue, %ld differ, %ld in smoke; %ld box maxima\n", counts.lookups, counts.differ,
         counts.smoky, counts.boxes);
+    std::printf("levels of these: %ld background, %ld root tile, %ld upper tile, %ld lower tile, %ld leaf\n", counts.levels[0],
+        counts.levels[1], counts.levels[2], counts.levels[3], counts.levels[4]);
+    for (int level = 0; level < 5; ++level) tally.count(counts.levels[level] > 0, "no lookup at level " + std::to_string(level));
     std::printf("%ld grids built, %ld refused by rounding (17)\n", counts.built, counts.rounded);
     std::printf("%ld grids loaded with the newer mark too\n", counts.marked);
     std::printf("%ld passed, %ld failed\n", tally.passed, tally.failed);

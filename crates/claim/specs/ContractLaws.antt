@@ -13,7 +13,7 @@ use Rattle.layout.specs.Coordinates.{Coord, Signed32}
 use Rattle.layout.specs.Walk.{walk, voxel}
 use Rattle.sparse_grid.specs.Tables.{Grid}
 use Rattle.sparse_grid.specs.Lookup.{lookup}
-use Rattle.sparse_grid.specs.Answers.{valueOnly}
+use Rattle.sparse_grid.specs.Answers.{valueOnly, Spoken, unspoken, spoken}
 use Rattle.medium.specs.Medium.{Point, Medium, mapFault}
 use Rattle.medium.specs.Alike.{Alike}
 use Rattle.nanovdb.specs.Decode.{Accepted, decodeDensity, mediumOf}
@@ -51,6 +51,10 @@ module _ (b : List ℕ) (bytes : Bytes b) (l : Lent) (t : Accepted) (e : decodeI
       let r = reads b bytes (placesOf l) t decoded c s .0 in
       (ap valueOnly r, subst (ReadsAs b c) r (holds .lookups c s) .0)
 
+  -- and with it
+  pub heard-at : (c : Coord) → Signed32 c → spoken (lookup (t .grid) c) ≡ ok (record { value = voxel b c; level = walk b c .level })
+  heard-at c s = ap spoken (reads b bytes (placesOf l) t decoded c s .0)
+
   pub same-medium : t .medium ≡ mediumOf b
   same-medium = density-passed b (placesOf l) t decoded .0 .medium
 
@@ -76,7 +80,13 @@ module _ (b : List ℕ) (bytes : Bytes b) (l : Lent) (t : Accepted) (e : decodeI
         let (v, bits) = looked c s in
         let q = says +0 (voxel b c) (valueOnly (lookup (t .grid) c)) v a is in
         (ap (λ (x : Said Float). x .accepted) q, ap (λ (x : Said Float). x .number) q, ap (λ (x : Said Float). toBits binary32 (x .value)) q ∙ bits);
-    levels = holds .lookups;
+    readings = λ c s a is.
+        let q = says unspoken (record { value = voxel b c; level = walk b c .level }) (spoken (lookup (t .grid) c)) (heard-at c s) a is in (
+          ap (λ (x : Said Spoken). x .accepted) q,
+          ap (λ (x : Said Spoken). x .number) q,
+          ap (λ (x : Said Spoken). toBits binary32 (x .value .value)) q ∙ looked c s .1,
+          ap (λ (x : Said Spoken). x .value .level) q,
+        );
     maxima = λ x lo hi a is.
         let (v, greatest) = holds .maxima x lo hi in
         let q = says +0 (boxMaximum (voxel b) x) (publicMaximum (t .grid) x) v a is in

@@ -13,12 +13,11 @@ use Rattle.layout.specs.Coordinates.{Coord, Signed32}
 use Rattle.layout.specs.Walk.{walk, voxel}
 use Rattle.sparse_grid.specs.Tables.{Grid}
 use Rattle.sparse_grid.specs.Lookup.{lookup}
-use Rattle.sparse_grid.specs.Answers.{valueOnly}
+use Rattle.sparse_grid.specs.Answers.{valueOnly, Spoken, unspoken, spoken}
 use Rattle.medium.specs.Medium.{Point, Medium, xAxis, yAxis, zAxis}
 use Rattle.medium.specs.Alike.{Alike}
 use Rattle.nanovdb.specs.Decode.{decodeDensity, mediumOf}
 use Rattle.nanovdb.specs.Lent.{Lent, Answer, Tables, decodeInto, answerOf, leftOf, filled, Used, usedOf}
-use Rattle.nanovdb.specs.Agreement.{ReadsAs}
 use Rattle.index.specs.Index.{worldToIndex}
 use Rattle.index.specs.Answers.{indexBits}
 use Rattle.boxes.specs.Boxes.{Box, InSome, GreatestOver, Greatest, boxMaximum}
@@ -43,8 +42,9 @@ pub record Keeps (b : List ℕ) (g : Grid) (m : Medium) : Type 0 where
   -- get_value is not refused, and answers the 32 bits that the walk reads
   pub lookups : (c : Coord) → Signed32 c → (a : Said Float) → a ≡ said +0 (valueOnly (lookup g c))
       → (a .accepted ≡ true) × (a .number ≡ 0) × (toBits binary32 (a .value) ≡ walk b c .bits)
-  -- the lookup that it is without its level has the walk's level too
-  pub levels : (c : Coord) → Signed32 c → ReadsAs b c (lookup g c)
+  -- get_reading is not refused, and answers the same bits with the level that the walk reads them at
+  pub readings : (c : Coord) → Signed32 c → (a : Said Spoken) → a ≡ said unspoken (spoken (lookup g c))
+      → (a .accepted ≡ true) × (a .number ≡ 0) × (toBits binary32 (a .value .value) ≡ walk b c .bits) × (a .value .level ≡ walk b c .level)
   -- box_maximum is not refused, and answers the greatest of zero and the voxels of the box
   pub maxima : (x : Box) → Signed32 (x .lo) → Signed32 (x .hi) → (a : Said Float) → a ≡ said +0 (publicMaximum g x)
       → (a .accepted ≡ true) × (a .number ≡ 0) × (a .value ≡ boxMaximum (voxel b) x) × Greatest (voxel b) x (a .value)

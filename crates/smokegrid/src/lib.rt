@@ -5,10 +5,10 @@ ghost use Rattle.refusals.specs.Results.{numberOf, valueOr};
 ghost use Rattle.float.specs.Zero.{+0};
 ghost use Rattle.sparse_grid.specs.Tables.{gridOf};
 ghost use Rattle.sparse_grid.specs.Validate.{validate as validateS, validateDensity};
-ghost use Rattle.sparse_grid.specs.Answers.{outcome, at};
+ghost use Rattle.sparse_grid.specs.Answers.{outcome, heard, unspoken, levelOf, levelNumber, at};
 ghost use Rattle.nanovdb.specs.Lent.{tables, lengths};
 ghost use Rattle.boxes.specs.Boxes.{between};
-ghost use Rattle.smokegrid.specs.Promises.{Decodes, GetsValue, BoxMaximum, BoxMaxima, WorldToIndex, Builds};
+ghost use Rattle.smokegrid.specs.Promises.{Decodes, GetsValue, GetsReading, BoxMaximum, BoxMaxima, WorldToIndex, Builds};
 
 mod flat;
 
@@ -23,6 +23,9 @@ use majorant::box_maxima;
 use majorant::box_maximum;
 use majorant::build_majorant;
 use sparse_grid::Answer;
+use sparse_grid::Level;
+use sparse_grid::Reading;
+use sparse_grid::get_reading;
 use sparse_grid::get_value;
 use sparse_grid::validate;
 use sparse_grid::validate_density;
@@ -40,6 +43,39 @@ fn give(found: Answer, value: &mut f32) -> u32
         Answer::Refused(number) => {
             *value = 0.0;
             number
+        }
+    }
+}
+
+// A level as C takes it.
+fn level_number(level: Level) -> u32
+    ensures { λ r. ⌜ r ≡ levelNumber (levelOf level) ⌝ }
+{
+    match level {
+        Level::Background => 0,
+        Level::RootTile => 1,
+        Level::UpperTile => 2,
+        Level::LowerTile => 3,
+        Level::Leaf => 4,
+    }
+}
+
+// A reading as C takes it: the value and the level through their pointers, +0.0 and background after a refusal, and the number.
+fn give_reading(found: Reading, value: &mut f32, level: &mut u32) -> u32
+    ensures { λ r. ⌜ r ≡ numberOf (heard found) ⌝ }
+    ensures { λ _. ⌜ now (value .exit) ≡ valueOr unspoken (heard found) .value ⌝ }
+    ensures { λ _. ⌜ now (level .exit) ≡ levelNumber (valueOr unspoken (heard found) .level) ⌝ }
+{
+    match found {
+        Reading::Value(v, l) => {
+            *value = v;
+            *level = level_number(l);
+            0
+        }
+        Reading::Refused(n) => {
+            *value = 0.0f32;
+            *level = 0;
+            n
         }
     }
 }
@@ -220,6 +256,47 @@ pub extern "C" fn smokegrid_get_value(
         z,
     );
     give(found, value)
+}
+
+// The same with the level that spoke, through `level`: 0 background, 1 root tile, 2 upper tile, 3 lower tile, 4 leaf.
+#[no_mangle]
+pub extern "C" fn smokegrid_get_reading(
+    background: f32,
+    blocks: &[i32],
+    root_links: &[u32],
+    root_values: &[f32],
+    upper_links: &[u32],
+    upper_values: &[f32],
+    lower_links: &[u32],
+    lower_values: &[f32],
+    leaf_values: &[f32],
+    x: i32,
+    y: i32,
+    z: i32,
+    value: &mut f32,
+    level: &mut u32,
+) -> u32
+    ensures { λ r.
+        let g = gridOf background
+        (now (blocks .entry)) (now («root_links» .entry)) (now («root_values» .entry)) (now («upper_links» .entry))
+        (now («upper_values» .entry)) (now («lower_links» .entry)) (now («lower_values» .entry)) (now («leaf_values» .entry)) in
+        ⌜ GetsReading g (at x y z) r (now (value .exit)) (now (level .exit)) ⌝ }
+{
+    let found = get_reading(
+        background,
+        blocks,
+        root_links,
+        root_values,
+        upper_links,
+        upper_values,
+        lower_links,
+        lower_values,
+        leaf_values,
+        x,
+        y,
+        z,
+    );
+    give_reading(found, value, level)
 }
 
 // The greatest of +0.0 and the values of a box, ends included, through `value`, and 0; or the number of the refusal, and +0.0. The grid is validated first.

@@ -14,6 +14,7 @@ use Rattle.float.specs.Zero.{+0}
 use Rattle.layout.specs.Bytes.{Bytes}
 use Rattle.layout.specs.Walk.{voxel}
 use Rattle.sparse_grid.specs.Tables.{Grid}
+use Rattle.sparse_grid.specs.Answers.{Spoken, unspoken, levelNumber}
 use Rattle.medium.specs.Medium.{Medium, Point, mapFault}
 use Rattle.nanovdb.specs.Decode.{Accepted, decodeDensity, mediumOf, mediumAt}
 use Rattle.nanovdb.specs.Lent.{Lent, placesOf, decodeInto}
@@ -29,7 +30,7 @@ use Rattle.claim.specs.Claim.{Holds, cells}
 use Rattle.claim.specs.Contracts.{indexOf}
 use Rattle.claim.specs.Theorem.{demand3}
 use Rattle.claim.specs.Lists.{listed, listed-greatest}
-use Rattle.claim.specs.ContractLaws.{looked, same-medium, figured}
+use Rattle.claim.specs.ContractLaws.{looked, heard-at, same-medium, figured}
 use Rattle.smokegrid.specs.Flat.{floatsOf, mediumFrom, indexFlat, buildFlat}
 use Rattle.smokegrid.specs.Promises.{Left}
 use Rattle.smokegrid_claim.specs.ThroughC.{used, Fits, KeepsC, ThroughC}
@@ -68,7 +69,12 @@ module _ (b : List ℕ) (bytes : Bytes b) (l : Lent) (t : Accepted) (e : decodeI
     lookups = λ c s number value G.
         let (v, bits) = looked b bytes l t e c s in
         (G .number-is ∙ ap numberOf v, ap (toBits binary32) (G .value-is ∙ ap (valueOr +0) v) ∙ bits);
-    levels = holds .lookups;
+    readings = λ c s number value level G.
+        let v = heard-at b bytes l t e c s in (
+          G .number-is ∙ ap numberOf v,
+          ap (toBits binary32) (G .value-is ∙ ap (λ (r : Result Spoken). valueOr unspoken r .value) v) ∙ looked b bytes l t e c s .1,
+          G .level-is ∙ ap (λ (r : Result Spoken). levelNumber (valueOr unspoken r .level)) v,
+        );
     maxima = λ x lo hi number value M.
         let (v, greatest) = holds .maxima x lo hi in
         let is = M .value-is ∙ ap (valueOr +0) v in

@@ -10,15 +10,14 @@ use Rattle.layout.specs.Bytes.{Bytes}
 use Rattle.layout.specs.Coordinates.{Coord, Signed32}
 use Rattle.layout.specs.Walk.{walk, voxel}
 use Rattle.sparse_grid.specs.Tables.{Grid, gridOf}
-use Rattle.sparse_grid.specs.Lookup.{lookup}
+use Rattle.sparse_grid.specs.Answers.{levelNumber}
 use Rattle.medium.specs.Medium.{Point}
 use Rattle.nanovdb.specs.Lent.{Lent}
-use Rattle.nanovdb.specs.Agreement.{ReadsAs}
 use Rattle.boxes.specs.Boxes.{Box, InSome, GreatestOver, Greatest, boxMaximum}
 use Rattle.majorant.specs.Maxima.{boxAt, maximaOf}
 use Rattle.claim.specs.Claim.{Inside, Bounds}
 use Rattle.claim.specs.Contracts.{SignedBoxes, indexOf}
-use Rattle.smokegrid.specs.Promises.{Left, Decodes, GetsValue, BoxMaximum, BoxMaxima, WorldToIndex, Builds}
+use Rattle.smokegrid.specs.Promises.{Left, Decodes, GetsValue, GetsReading, BoxMaximum, BoxMaxima, WorldToIndex, Builds}
 
 -- the used parts: three numbers of `blocks` a root, and 32,768, 4,096 and 512 places an upper, lower and leaf node, as counted
 abbrev pub used : Left → Grid
@@ -53,8 +52,9 @@ pub record KeepsC (b : List ℕ) (g : Grid) (medium : List Float) : Type 0 where
   -- a lookup is not refused, and answers the 32 bits that the walk reads
   pub lookups : (c : Coord) → Signed32 c → (number : ℕ) (value : Float) → GetsValue g c number value
       → (number ≡ 0) × (toBits binary32 value ≡ walk b c .bits)
-  -- the lookup that it is without its level has the walk's level too; C is not handed the level
-  pub levels : (c : Coord) → Signed32 c → ReadsAs b c (lookup g c)
+  -- a reading is not refused, and answers the same bits with the level that the walk reads them at
+  pub readings : (c : Coord) → Signed32 c → (number : ℕ) (value : Float) (level : ℕ) → GetsReading g c number value level
+      → (number ≡ 0) × (toBits binary32 value ≡ walk b c .bits) × (level ≡ levelNumber (walk b c .level))
   -- a box maximum is not refused, and is the greatest of zero and the voxels of the box
   pub maxima : (x : Box) → Signed32 (x .lo) → Signed32 (x .hi) → (number : ℕ) (value : Float) → BoxMaximum g x number value
       → (number ≡ 0) × (value ≡ boxMaximum (voxel b) x) × Greatest (voxel b) x value

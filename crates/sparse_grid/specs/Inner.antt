@@ -6,16 +6,17 @@ use lib.IntN.{ℤ, pos}
 use lib.Dec.{ltb}
 use lib.ListN.{getD, length}
 use lib.Ieee.{Float}
-use Rattle.refusals.specs.Results.{Result, ok, refused}
 use Rattle.refusals.specs.Faults.{_then_, unless, firstFault}
 use Rattle.float.specs.Zero.{+0}
 use Rattle.layout.specs.Coordinates.{Coord, sameBlock}
+use Rattle.layout.specs.Walk.{Level, ofLeaf, ofLower, ofUpper, ofRoot, ofBackground}
 use Rattle.sparse_grid.specs.declared.Entry.{Entry}
 use Rattle.sparse_grid.specs.declared.Entry.the-variants.{Child, Tile}
 use Rattle.sparse_grid.specs.declared.Root.{Root}
 use Rattle.sparse_grid.specs.declared.lookup.Place.{Place}
 use Rattle.sparse_grid.specs.Biased.{place, raised}
 use Rattle.sparse_grid.specs.Tables.{Grid, gridOf, entryAt, blockAt}
+use Rattle.sparse_grid.specs.Lookup.{Found, value, refused, rootEntry}
 use Rattle.sparse_grid.specs.Validate.{valueFault, entryFault, entriesFault, valuesFault, blockIn, earlier, pairFault, shapeFault}
 
 -- root i of the tables
@@ -88,18 +89,35 @@ contentsFault g =
     then valueFault (g .background)
     then valuesFault (g .leafValues)
 
--- the entry of the first root of n from i on whose block is b, and the background's where there is none
-unfoldable pub entryFrom : Float → List ℤ → List ℕ → List Float → ℕ → ℕ → Coord → Entry
-entryFrom background blocks links values zero i b = Tile background
-entryFrom background blocks links values (suc n) i b =
-    let rest = entryFrom background blocks links values n (i + 1) b in
-    cond (sameBlock (rootBlock blocks i) b) (entryAt links values i) rest
+-- the first root of n from i on whose block is b, and i + n where there is none
+unfoldable pub rootFrom : List ℤ → ℕ → ℕ → Coord → ℕ
+rootFrom blocks zero i b = i
+rootFrom blocks (suc n) i b = let rest = rootFrom blocks n (i + 1) b in cond (sameBlock (rootBlock blocks i) b) i rest
+
+-- the grid of these roots and nodes: their blocks do not count
+abbrev pub belowOf : Float → List ℕ → List Float → List ℕ → List Float → List ℕ → List Float → List Float → Grid
+belowOf background = gridOf background []
+
+-- what stands at root i, and the background past the last one
+abbrev pub fromRoot : Grid → Coord → ℕ → Found
+fromRoot g c i =
+    cond (ltb i (length (g .rootLinks)))
+    (rootEntry g c (entryAt (g .rootLinks) (g .rootValues) i))
+    (value (g .background) ofBackground)
 
 -- the coordinate that a biased place stands for
 abbrev pub placed : Place → Coord
 placed p = place (p .x) (p .y) (p .z)
 
+-- a level by its number, as the code stores it
+abbrev pub levelAt : ℕ → Level
+levelAt zero = ofBackground
+levelAt (suc zero) = ofRoot
+levelAt (suc (suc zero)) = ofUpper
+levelAt (suc (suc (suc zero))) = ofLower
+levelAt (suc (suc (suc (suc n)))) = ofLeaf
+
 -- the number that a function answers, and what it stored where that is 0
-abbrev pub told : ℕ → Float → Result Float
-told zero v = ok v
-told (suc n) v = refused (suc n)
+abbrev pub told : ℕ → Float → ℕ → Found
+told zero v l = value v (levelAt l)
+told (suc n) v l = refused (suc n)

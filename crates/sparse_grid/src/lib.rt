@@ -1,4 +1,4 @@
-// A sparse grid of lent tables: entries, validate, validate_density, get_value (sparse_grid.rs).
+// A sparse grid of lent tables: entries, validate, validate_density, get_reading, get_value (sparse_grid.rs).
 // A grid is its background and eight tables side by side, always in this order. A root's block is three numbers of `blocks`.
 ghost use mathlib.Core.Path.{_≡_};
 ghost use mathlib.Core.List.{[]};
@@ -8,8 +8,8 @@ ghost use Rattle.sparse_grid.specs.Tables.{gridOf, entryOf};
 ghost use Rattle.sparse_grid.specs.Biased.{back, raised};
 ghost use Rattle.sparse_grid.specs.Validate.{validate as validateS, densityFault, validateDensity};
 ghost use Rattle.sparse_grid.specs.Lookup.{lookup as lookupS};
-ghost use Rattle.sparse_grid.specs.Answers.{answer, valueOnly, at};
-ghost use Rattle.sparse_grid.specs.Inner.{rootOf, Has};
+ghost use Rattle.sparse_grid.specs.Answers.{answer, valueOnly, saying, unspoken, spoken, levelOf, at};
+ghost use Rattle.sparse_grid.specs.Inner.{rootOf, Has, levelAt};
 
 mod faults;
 mod lookup;
@@ -17,12 +17,11 @@ mod lookup;
 use faults::contents_fault;
 use faults::negative_fault;
 use faults::negatives_fault;
-use faults::pair_fault;
 use faults::roots_fault;
 use faults::tables_fault;
 use lookup::below;
 use lookup::place_of;
-use lookup::root_entry;
+use lookup::root_for;
 
 // What stands at a slot of a node or beside a root's block: the number of a child, or a value for every coordinate below it.
 pub enum Entry {
@@ -41,6 +40,21 @@ pub struct Root {
 // What a lookup reads, or the number of its refusal.
 pub enum Answer {
     Value(f32),
+    Refused(u32),
+}
+
+// Where a lookup stopped: the node or the table whose value it is, and the background where no root has the block.
+pub enum Level {
+    Background,
+    RootTile,
+    UpperTile,
+    LowerTile,
+    Leaf,
+}
+
+// What a lookup reads and at which level, or the number of its refusal.
+pub enum Reading {
+    Value(f32, Level),
     Refused(u32),
 }
 
@@ -203,7 +217,82 @@ pub fn validate_density(
     )
 }
 
-// What stands at a coordinate, whatever the tables: 18 where they are not paired, 11 for a link that is met and has no whole node.
+// The level that a number of the walk stands for.
+fn level_of(number: u32) -> Level
+    ensures { λ r. ⌜ levelOf r ≡ levelAt number ⌝ }
+{
+    match number {
+        0 => Level::Background,
+        1 => Level::RootTile,
+        2 => Level::UpperTile,
+        3 => Level::LowerTile,
+        _ => Level::Leaf,
+    }
+}
+
+// What stands at a coordinate and the level that spoke, whatever the tables: 18 where they are not paired, 11 for a link that is met
+// and has no whole node.
+pub fn get_reading(
+    background: f32,
+    blocks: &[i32],
+    root_links: &[u32],
+    root_values: &[f32],
+    upper_links: &[u32],
+    upper_values: &[f32],
+    lower_links: &[u32],
+    lower_values: &[f32],
+    leaf_values: &[f32],
+    x: i32,
+    y: i32,
+    z: i32,
+) -> Reading
+    ensures { λ r.
+        let g = gridOf background (now (blocks .entry)) (now («root_links» .entry)) (now («root_values» .entry))
+        (now («upper_links» .entry)) (now («upper_values» .entry)) (now («lower_links» .entry)) (now («lower_values» .entry))
+        (now («leaf_values» .entry)) in
+        ⌜ saying r ≡ said unspoken (spoken (lookupS g (at x y z))) ⌝ }
+{
+    let mut root: usize = 0;
+    let fault = root_for(
+        blocks,
+        root_links,
+        root_values,
+        upper_links,
+        upper_values,
+        lower_links,
+        lower_values,
+        x,
+        y,
+        z,
+        &mut root,
+    );
+    if fault != 0 {
+        return Reading::Refused(fault);
+    }
+    let mut value: f32 = 0.0;
+    let mut level: u32 = 0;
+    let number = below(
+        background,
+        root_links,
+        root_values,
+        upper_links,
+        upper_values,
+        lower_links,
+        lower_values,
+        leaf_values,
+        root,
+        place_of(x, y, z),
+        &mut value,
+        &mut level,
+    );
+    if number != 0 {
+        return Reading::Refused(number);
+    }
+    let spoke = level_of(level);
+    Reading::Value(value, spoke)
+}
+
+// `get_reading` without the level.
 pub fn get_value(
     background: f32,
     blocks: &[i32],
@@ -224,7 +313,8 @@ pub fn get_value(
         (now («leaf_values» .entry)) in
         ⌜ answer r ≡ said +0 (valueOnly (lookupS g (at x y z))) ⌝ }
 {
-    let pairs = pair_fault(
+    let mut root: usize = 0;
+    let fault = root_for(
         blocks,
         root_links,
         root_values,
@@ -232,21 +322,29 @@ pub fn get_value(
         upper_values,
         lower_links,
         lower_values,
+        x,
+        y,
+        z,
+        &mut root,
     );
-    if pairs != 0 {
-        return Answer::Refused(pairs);
+    if fault != 0 {
+        return Answer::Refused(fault);
     }
-    let entry = root_entry(background, blocks, root_links, root_values, x, y, z);
     let mut value: f32 = 0.0;
+    let mut level: u32 = 0;
     let number = below(
-        entry,
+        background,
+        root_links,
+        root_values,
         upper_links,
         upper_values,
         lower_links,
         lower_values,
         leaf_values,
+        root,
         place_of(x, y, z),
         &mut value,
+        &mut level,
     );
     if number == 0 {
         Answer::Value(value)

@@ -4,15 +4,29 @@ ghost use Prim.Native.Nat.{_+_, _*_, _≤_};
 ghost use mathlib.Core.List.{[]};
 ghost use lib.ListN.{length};
 ghost use lib.Signed.{shrZ};
+ghost use Rattle.float.specs.Zero.{+0};
 ghost use Rattle.layout.specs.Coordinates.{blockOf, sameBlock};
-ghost use Rattle.sparse_grid.specs.Lookup.{leafAt, lowerAt, upperAt, rootEntry};
-ghost use Rattle.sparse_grid.specs.Answers.{valueOnly, at};
-ghost use Rattle.sparse_grid.specs.Inner.{entryFrom, nodesOf, placed, rootBlock, told};
+ghost use Rattle.sparse_grid.specs.Tables.{gridOf};
+ghost use Rattle.sparse_grid.specs.Validate.{pairFault};
+ghost use Rattle.sparse_grid.specs.Lookup.{leafAt, lowerAt, upperAt};
+ghost use Rattle.sparse_grid.specs.Answers.{at};
+ghost use Rattle.sparse_grid.specs.Inner.{rootFrom, belowOf, fromRoot, nodesOf, placed, rootBlock, told};
 use crate::Entry;
 use crate::biased;
 use crate::entry_of;
-use crate::root_at;
+use crate::faults::pair_fault;
 use refusals::RECORD;
+
+// The levels by number, from the background down.
+const BACKGROUND: u32 = 0;
+
+const ROOT_TILE: u32 = 1;
+
+const UPPER_TILE: u32 = 2;
+
+const LOWER_TILE: u32 = 3;
+
+const LEAF: u32 = 4;
 
 // A coordinate plus 2^31 on each axis, so that its slots are plain remainders.
 pub struct Place {
@@ -37,7 +51,7 @@ pub(crate) fn place_of(x: i32, y: i32, z: i32) -> Place
     Place { x: a, y: b, z: c }
 }
 
-// Whether root i's block is this one. The block is compared before the root's entry is read.
+// Whether root i's block is this one. No entry is read before a block is found.
 fn stands_at(blocks: &[i32], i: usize, x: i32, y: i32, z: i32) -> bool
     requires { ⌜ 3 * i + 3 ≤ length (now blocks) ⌝ }
     ensures { λ r. ⌜ r ≡ sameBlock (rootBlock (now (blocks .entry)) i) (at x y z) ⌝ }
@@ -51,41 +65,64 @@ fn stands_at(blocks: &[i32], i: usize, x: i32, y: i32, z: i32) -> bool
     blocks[3 * i + 2] == z
 }
 
-// The entry of the first root whose block the coordinate lies in. The background stands for one where there is none.
-pub(crate) fn root_entry(
-    background: f32,
-    blocks: &[i32],
-    links: &[u32],
-    values: &[f32],
-    x: i32,
-    y: i32,
-    z: i32,
-) -> Entry
-    requires { ⌜ (length (now blocks) ≡ 3 * length (now links)) × (length (now links) ≡ length (now values)) ⌝ }
-    ensures { λ r.
-        let n = length (now (links .entry)) in
-        ⌜ r ≡ entryFrom background (now (blocks .entry)) (now (links .entry)) (now (values .entry)) n 0 (blockOf (at x y z)) ⌝ }
+// The first root whose block the coordinate lies in, of `count`, and `count` where there is none.
+fn root_of(blocks: &[i32], count: usize, x: i32, y: i32, z: i32) -> usize
+    requires { ⌜ length (now blocks) ≡ 3 * count ⌝ }
+    ensures { λ r. ⌜ r ≡ rootFrom (now (blocks .entry)) count 0 (blockOf (at x y z)) ⌝ }
 {
     let a = block_of(x);
     let b = block_of(y);
     let c = block_of(z);
     let mut i = 0;
-    while i < links.len() {
+    while i < count {
         if stands_at(blocks, i, a, b, c) {
-            let root = root_at(blocks, links, values, i);
-            return root.entry;
+            return i;
         }
         i += 1;
     }
-    Entry::Tile(background)
+    i
 }
 
-// Each of these stores what it reads in `value` and answers 0, or answers the number of its refusal. An enum would be packed
-// into one word and taken apart again at every step.
-fn leaf_at(leaf_values: &[f32], k: u32, place: Place, value: &mut f32) -> u32
+// The fault of tables that are not paired; or 0, and through `root` the first root whose block the coordinate lies in.
+pub(crate) fn root_for(
+    blocks: &[i32],
+    root_links: &[u32],
+    root_values: &[f32],
+    upper_links: &[u32],
+    upper_values: &[f32],
+    lower_links: &[u32],
+    lower_values: &[f32],
+    x: i32,
+    y: i32,
+    z: i32,
+    root: &mut usize,
+) -> u32
+    ensures { λ r.
+        let g = gridOf +0 (now (blocks .entry)) (now («root_links» .entry)) (now («root_values» .entry))
+        (now («upper_links» .entry)) (now («upper_values» .entry)) (now («lower_links» .entry)) (now («lower_values» .entry)) [] in
+        ⌜ (r ≡ pairFault g) × (r ≡ 0 → now (root .exit) ≡ rootFrom (g .blocks) (length (g .rootLinks)) 0 (blockOf (at x y z))) ⌝ }
+{
+    let pairs = pair_fault(
+        blocks,
+        root_links,
+        root_values,
+        upper_links,
+        upper_values,
+        lower_links,
+        lower_values,
+    );
+    if pairs == 0 {
+        *root = root_of(blocks, root_links.len(), x, y, z);
+    }
+    pairs
+}
+
+// Each of these stores the value that it reads and the number of its level and answers 0, or answers the number of its refusal.
+// An enum would be packed into one word and taken apart again at every step.
+fn leaf_at(leaf_values: &[f32], k: u32, place: Place, value: &mut f32, level: &mut u32) -> u32
     ensures { λ r.
         let g = nodesOf [] [] [] [] (now («leaf_values» .entry)) in
-        ⌜ told r (now (value .exit)) ≡ valueOnly (leafAt g k (placed place)) ⌝ }
+        ⌜ told r (now (value .exit)) (now (level .exit)) ≡ leafAt g k (placed place) ⌝ }
 {
     let start = 512 * k as usize;
     if leaf_values.len() < start + 512 {
@@ -93,6 +130,7 @@ fn leaf_at(leaf_values: &[f32], k: u32, place: Place, value: &mut f32) -> u32
     }
     let slot = (place.x % 8 * 64 + place.y % 8 * 8 + place.z % 8) as usize;
     *value = leaf_values[start + slot];
+    *level = LEAF;
     0
 }
 
@@ -103,11 +141,12 @@ fn lower_at(
     k: u32,
     place: Place,
     value: &mut f32,
+    level: &mut u32,
 ) -> u32
     requires { ⌜ length (now links) ≡ length (now values) ⌝ }
     ensures { λ r.
         let g = nodesOf [] [] (now (links .entry)) (now (values .entry)) (now («leaf_values» .entry)) in
-        ⌜ told r (now (value .exit)) ≡ valueOnly (lowerAt g k (placed place)) ⌝ }
+        ⌜ told r (now (value .exit)) (now (level .exit)) ≡ lowerAt g k (placed place) ⌝ }
 {
     let start = 4096 * k as usize;
     if links.len() < start + 4096 {
@@ -116,9 +155,10 @@ fn lower_at(
     let slot = (place.x % 128 / 8 * 256 + place.y % 128 / 8 * 16 + place.z % 128 / 8) as usize;
     let i = start + slot;
     match entry_of(links[i], values[i]) {
-        Entry::Child(j) => leaf_at(leaf_values, j, place, value),
+        Entry::Child(j) => leaf_at(leaf_values, j, place, value, level),
         Entry::Tile(v) => {
             *value = v;
+            *level = LOWER_TILE;
             0
         }
     }
@@ -133,12 +173,13 @@ fn upper_at(
     k: u32,
     place: Place,
     value: &mut f32,
+    level: &mut u32,
 ) -> u32
     requires { ⌜ (length (now links) ≡ length (now values)) × (length (now «lower_links») ≡ length (now «lower_values»)) ⌝ }
     ensures { λ r.
         let g = nodesOf (now (links .entry)) (now (values .entry)) (now («lower_links» .entry)) (now («lower_values» .entry))
         (now («leaf_values» .entry)) in
-        ⌜ told r (now (value .exit)) ≡ valueOnly (upperAt g k (placed place)) ⌝ }
+        ⌜ told r (now (value .exit)) (now (level .exit)) ≡ upperAt g k (placed place) ⌝ }
 {
     let start = 32768 * k as usize;
     if links.len() < start + 32768 {
@@ -149,32 +190,52 @@ fn upper_at(
         + place.z % 4096 / 128) as usize;
     let i = start + slot;
     match entry_of(links[i], values[i]) {
-        Entry::Child(j) => lower_at(lower_links, lower_values, leaf_values, j, place, value),
+        Entry::Child(j) => lower_at(
+            lower_links,
+            lower_values,
+            leaf_values,
+            j,
+            place,
+            value,
+            level,
+        ),
         Entry::Tile(v) => {
             *value = v;
+            *level = UPPER_TILE;
             0
         }
     }
 }
 
-// What stands at a place below a root's entry.
+// The walk down the tables: what stands at a place of root i, and the background where there is no such root. It is small enough to be
+// compiled into each of its callers: a call of it hands eight tables over in memory, which took 7 ns of a lookup's 8.
 pub(crate) fn below(
-    entry: Entry,
+    background: f32,
+    root_links: &[u32],
+    root_values: &[f32],
     upper_links: &[u32],
     upper_values: &[f32],
     lower_links: &[u32],
     lower_values: &[f32],
     leaf_values: &[f32],
+    i: usize,
     place: Place,
     value: &mut f32,
+    level: &mut u32,
 ) -> u32
-    requires { ⌜ (length (now «upper_links») ≡ length (now «upper_values»)) × (length (now «lower_links») ≡ length (now «lower_values»)) ⌝ }
+    requires { ⌜ (length (now «root_links») ≡ length (now «root_values»)) × (length (now «upper_links») ≡ length (now «upper_values»))
+        × (length (now «lower_links») ≡ length (now «lower_values»)) ⌝ }
     ensures { λ r.
-        let g = nodesOf (now («upper_links» .entry)) (now («upper_values» .entry)) (now («lower_links» .entry))
-        (now («lower_values» .entry)) (now («leaf_values» .entry)) in
-        ⌜ told r (now (value .exit)) ≡ valueOnly (rootEntry g (placed place) entry) ⌝ }
+        let g = belowOf background (now («root_links» .entry)) (now («root_values» .entry)) (now («upper_links» .entry))
+        (now («upper_values» .entry)) (now («lower_links» .entry)) (now («lower_values» .entry)) (now («leaf_values» .entry)) in
+        ⌜ told r (now (value .exit)) (now (level .exit)) ≡ fromRoot g (placed place) i ⌝ }
 {
-    match entry {
+    if root_links.len() <= i {
+        *value = background;
+        *level = BACKGROUND;
+        return 0;
+    }
+    match entry_of(root_links[i], root_values[i]) {
         Entry::Child(k) => upper_at(
             upper_links,
             upper_values,
@@ -184,9 +245,11 @@ pub(crate) fn below(
             k,
             place,
             value,
+            level,
         ),
         Entry::Tile(v) => {
             *value = v;
+            *level = ROOT_TILE;
             0
         }
     }

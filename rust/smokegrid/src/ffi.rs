@@ -67,6 +67,10 @@ pub fn get_value(tables: &Tables, [x, y, z]: [i32; 3], value: &mut f32) -> u32 {
     interface::get_value(grid(tables), x, y, z, value)
 }
 
+pub fn get_reading(tables: &Tables, [x, y, z]: [i32; 3], value: &mut f32, level: &mut u32) -> u32 {
+    interface::get_reading(grid(tables), x, y, z, value, level)
+}
+
 pub fn box_maximum(tables: &Tables, low: [i32; 3], high: [i32; 3], value: &mut f32) -> u32 {
     let ([lx, ly, lz], [hx, hy, hz]) = (low, high);
     interface::box_maximum(grid(tables), lx, ly, lz, hx, hy, hz, value)

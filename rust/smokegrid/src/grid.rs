@@ -1,6 +1,7 @@
 //! An accepted grid, its medium record, and what can be asked of it.
 
 use crate::ffi::{self, Record};
+use crate::level::{Level, Reading};
 use crate::majorant::{Majorant, CELLS};
 use crate::refusal::Refusal;
 use crate::tables::{Places, Tables};
@@ -109,6 +110,13 @@ impl Grid {
     #[inline]
     pub fn get_value(&self, coordinate: [i32; 3]) -> Result<f32, Refusal> {
         value(|place| ffi::get_value(&self.tables, coordinate, place))
+    }
+
+    /// The density at a voxel, and the level that it is read at.
+    pub fn reading(&self, coordinate: [i32; 3]) -> Result<Reading, Refusal> {
+        let mut level = 0;
+        let value = value(|place| ffi::get_reading(&self.tables, coordinate, place, &mut level))?;
+        Ok(Reading { value, level: Level::of(level) })
     }
 
     /// The greatest of zero and the densities from `low` to `high`, ends included.

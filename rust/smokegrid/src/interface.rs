@@ -107,6 +107,30 @@ mod c {
             z: i32,
             value: *mut f32,
         ) -> u32;
+        pub fn smokegrid_get_reading(
+            background: f32,
+            blocks: *const i32,
+            blocks_len: usize,
+            root_links: *const u32,
+            root_links_len: usize,
+            root_values: *const f32,
+            root_values_len: usize,
+            upper_links: *const u32,
+            upper_links_len: usize,
+            upper_values: *const f32,
+            upper_values_len: usize,
+            lower_links: *const u32,
+            lower_links_len: usize,
+            lower_values: *const f32,
+            lower_values_len: usize,
+            leaf_values: *const f32,
+            leaf_values_len: usize,
+            x: i32,
+            y: i32,
+            z: i32,
+            value: *mut f32,
+            level: *mut u32,
+        ) -> u32;
         pub fn smokegrid_box_maximum(
             background: f32,
             blocks: *const i32,
@@ -327,6 +351,45 @@ pub fn get_value(grid: GridTables, x: i32, y: i32, z: i32, value: &mut f32) -> u
             y,
             z,
             value,
+        )
+    }
+}
+
+#[inline]
+#[allow(clippy::too_many_arguments)]
+pub fn get_reading(
+    grid: GridTables,
+    x: i32,
+    y: i32,
+    z: i32,
+    value: &mut f32,
+    level: &mut u32,
+) -> u32 {
+    // SAFETY: each pointer is valid for its length, and what is written is borrowed mutably, so it overlaps nothing.
+    unsafe {
+        c::smokegrid_get_reading(
+            grid.background,
+            grid.blocks.as_ptr(),
+            grid.blocks.len(),
+            grid.root_links.as_ptr(),
+            grid.root_links.len(),
+            grid.root_values.as_ptr(),
+            grid.root_values.len(),
+            grid.upper_links.as_ptr(),
+            grid.upper_links.len(),
+            grid.upper_values.as_ptr(),
+            grid.upper_values.len(),
+            grid.lower_links.as_ptr(),
+            grid.lower_links.len(),
+            grid.lower_values.as_ptr(),
+            grid.lower_values.len(),
+            grid.leaf_values.as_ptr(),
+            grid.leaf_values.len(),
+            x,
+            y,
+            z,
+            value,
+            level,
         )
     }
 }

@@ -13,10 +13,12 @@
 mod ffi;
 mod grid;
 mod interface;
+mod level;
 mod majorant;
 mod refusal;
 mod tables;
 
 pub use grid::{Counts, Grid, Maxima, Medium};
+pub use level::{Level, Reading};
 pub use majorant::{Majorant, CELLS, CELLS_PER_AXIS};
 pub use refusal::Refusal;

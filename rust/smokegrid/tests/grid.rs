@@ -3,7 +3,7 @@
 mod common;
 
 use common::{chain, put32, put64, put_float, resize, tile, LEAF, LOWER, UPPER};
-use smokegrid::{Counts, Grid, Maxima, CELLS};
+use smokegrid::{Counts, Grid, Level, Maxima, Reading, CELLS};
 
 fn number(bytes: &[u8]) -> u32 {
     Grid::decode(bytes).map_or_else(|refusal| refusal.number(), |_| 0)
@@ -100,6 +100,31 @@ fn a_value_of_each_level_is_read() {
     assert_eq!(grid.get_value([-4096, 0, 1]), Ok(0.0));
     assert_eq!(grid.get_value([-3969, 127, 127]), Ok(0.75));
     assert_eq!(grid.get_value([-1, 4095, 4095]), Ok(0.125));
+}
+
+#[test]
+fn the_level_that_spoke_is_told() {
+    let grid = Grid::decode(&chain()).unwrap();
+    for (at, value, level) in [
+        ([-4096, 0, 0], 0.25, Level::Leaf),
+        ([-4096, 0, 1], 0.0, Level::Leaf),
+        ([-3969, 127, 127], 0.75, Level::LowerTile),
+        ([-1, 4095, 4095], 0.125, Level::UpperTile),
+        ([0, 0, 0], 0.0, Level::Background),
+    ] {
+        assert_eq!(grid.reading(at), Ok(Reading { value, level }), "{at:?}");
+    }
+    let grid = Grid::decode(&tile()).unwrap();
+    assert_eq!(grid.reading([-1, 0, 0]), Ok(Reading { value: 0.5, level: Level::RootTile }));
+    assert_eq!(grid.reading([0, 0, 0]), Ok(Reading { value: 0.0, level: Level::Background }));
+}
+
+/// The level is where the lookup stopped, not what the value is.
+#[test]
+fn a_root_tile_with_the_value_of_the_background_is_a_root_tile() {
+    let grid = Grid::decode(&edited(tile(), |b| put_float(b, 820, 0.0))).unwrap();
+    assert_eq!(grid.background(), 0.0);
+    assert_eq!(grid.reading([-1, 0, 0]), Ok(Reading { value: 0.0, level: Level::RootTile }));
 }
 
 #[test]

@@ -10,7 +10,7 @@ use std::str::FromStr;
 pub const USAGE: &str = "usage: station FILE [QUESTION...]
 Decodes one raw NanoVDB density grid (ABI 32), builds its 64 x 64 x 64 cells, prints what it holds.
 Questions, as many as there are:
-  --at X Y Z                 the density at a voxel
+  --at X Y Z                 the density at a voxel, and the level that it is read at
   --box LX LY LZ HX HY HZ    the greatest density from the low voxel to the high one, ends included
   --boxes FILE               the same for each box of a file, and the greatest of them: a box a line,
                              six numbers as above; # begins a comment

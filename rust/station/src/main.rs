@@ -101,7 +101,7 @@ fn answers(arguments: &Arguments, grid: &Grid, cells: Option<&Majorant>) -> Resu
     for question in &arguments.questions {
         lines += &match question {
             Question::At(at) => {
-                report::line(&format!("at {}", triple(at)), &number(grid.get_value(*at)?))
+                report::line(&format!("at {}", triple(at)), &report::reading(grid.reading(*at)?))
             }
             Question::Box(low, high) => report::zone(low, high, grid.box_maximum(*low, *high)?),
             Question::Boxes(boxes) => report::zones(boxes, &grid.box_maxima(boxes)?),

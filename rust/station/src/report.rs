@@ -1,7 +1,7 @@
 //! The lines that are printed.
 
 use crate::boxes::Zone;
-use smokegrid::{Grid, Majorant, Maxima, CELLS};
+use smokegrid::{Grid, Majorant, Maxima, Reading, CELLS};
 use std::fmt::Display;
 use std::path::Path;
 
@@ -47,6 +47,11 @@ pub fn zones(boxes: &[Zone], maxima: &Maxima) -> String {
     let each = boxes.iter().zip(&maxima.each);
     let lines: String = each.map(|((low, high), maximum)| zone(low, high, *maximum)).collect();
     lines + &line(&format!("greatest of {} boxes", counted(boxes.len())), &number(maxima.greatest))
+}
+
+/// A density with the level that it was read at, in words.
+pub fn reading(reading: Reading) -> String {
+    format!("{} ({})", number(reading.value), reading.level)
 }
 
 pub fn triple<T: Display>([x, y, z]: &[T; 3]) -> String {

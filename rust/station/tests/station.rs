@@ -104,9 +104,9 @@ fn questions_are_answered_in_their_order() {
     assert_eq!(
         answers,
         [
-            "at (11, 9, 0)    1",
+            "at (11, 9, 0)    1 (leaf)",
             "box (0, 0, 0) to (23, 23, 23) 1",
-            "at (-1, 0, 0)    0",
+            "at (-1, 0, 0)    0 (background)",
             "cell (26, 21, 0) 1",
             "box (9, 0, 0) to (8, 0, 0) 0",
         ]
@@ -168,7 +168,7 @@ fn a_refused_build_hides_nothing_else() {
     let output =
         station(&[path.to_str().unwrap(), "--at", "11", "9", "0", "--cell", "0", "0", "0"]);
     assert_eq!(output.status.code(), Some(1));
-    assert!(out(&output).contains("at (11, 9, 0)    1\n"), "{}", out(&output));
+    assert!(out(&output).contains("at (11, 9, 0)    1 (leaf)\n"), "{}", out(&output));
     assert!(out(&output).contains("cell (0, 0, 0)   none\n"), "{}", out(&output));
 }
 

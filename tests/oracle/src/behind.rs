@@ -55,6 +55,12 @@ pub fn get_value(grid: Tables, x: i32, y: i32, z: i32, value: &mut f32) -> u32 {
     given(value, Rust.get_values(grid, &[[x, y, z]])[0])
 }
 
+pub fn get_reading(grid: Tables, x: i32, y: i32, z: i32, value: &mut f32, level: &mut u32) -> u32 {
+    let (number, bits, spoke) = Rust.get_readings(grid, &[[x, y, z]])[0];
+    *level = spoke;
+    given(value, (number, bits))
+}
+
 #[allow(clippy::too_many_arguments)]
 pub fn box_maximum(
     grid: Tables,

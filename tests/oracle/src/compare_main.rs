@@ -2,7 +2,9 @@
 
 use oracle::generate::bench::Due;
 use oracle::generate::{self, Case};
-use oracle::loader::{decode_into, Answer, Grid, Held, Lengths, Loader, Rust, Tables, CELLS};
+use oracle::loader::{
+    decode_into, Answer, Grid, Held, Lengths, Loader, Reading, Rust, Tables, CELLS,
+};
 use oracle::random::Random;
 use oracle::source::has_newer_mark;
 use oracle::walk::{self, Places};
@@ -52,11 +54,11 @@ impl Tally {
     }
 
     fn print(&self) -> bool {
-        println!("{:28} {:>9} {:>8}  numbers", "answers", "compared", "differ");
+        println!("{:32} {:>9} {:>8}  numbers", "answers", "compared", "differ");
         for (name, kind) in &self.kinds {
             let numbers: Vec<String> =
                 kind.numbers.iter().map(|(number, count)| format!("{number}:{count}")).collect();
-            println!("{name:28} {:9} {:8}  {}", kind.compared, kind.differ, numbers.join(" "));
+            println!("{name:32} {:9} {:8}  {}", kind.compared, kind.differ, numbers.join(" "));
         }
         let compared: u64 = self.kinds.values().map(|kind| kind.compared).sum();
         let differ: u64 = self.kinds.values().map(|kind| kind.differ).sum();
@@ -253,6 +255,24 @@ fn compare_answers<T: std::fmt::Debug>(
     }
 }
 
+/// Number, bits and level.
+fn compare_readings(
+    tally: &mut Tally,
+    kind: &'static str,
+    asked: &[[i32; 3]],
+    theirs: &[Reading],
+    ours: &[Reading],
+) {
+    for ((asked, theirs), ours) in asked.iter().zip(theirs).zip(ours) {
+        let difference = (theirs != ours).then(|| {
+            let [theirs, ours] = [theirs, ours]
+                .map(|(number, bits, level)| format!("{number} {bits:08x} level {level}"));
+            format!("{asked:?}: theirs {theirs}, ours {ours}")
+        });
+        tally.count(kind, theirs.0, difference);
+    }
+}
+
 fn compare_grid(tally: &mut Tally, grid: &Grid, case: &Case, random: &mut Random, build: bool) {
     let tables = grid.tables();
     compare_number(tally, "validate", Rust.validate(tables), OURS.validate(tables));
@@ -263,6 +283,14 @@ fn compare_grid(tally: &mut Tally, grid: &Grid, case: &Case, random: &mut Random
     compare_answers(tally, "get_value", &at, &rust, &ours);
     let walked: Vec<Answer> = at.iter().map(|at| (0, walk::voxel(&case.bytes, *at))).collect();
     compare_answers(tally, "get_value, walk of the bytes", &at, &walked, &ours);
+    let (rust, ours) = (Rust.get_readings(tables, &at), OURS.get_readings(tables, &at));
+    compare_readings(tally, "get_reading", &at, &rust, &ours);
+    let walked = |at: &[i32; 3]| {
+        let (bits, level) = walk::reading(&case.bytes, *at);
+        (0, bits, level)
+    };
+    let walked: Vec<Reading> = at.iter().map(walked).collect();
+    compare_readings(tally, "get_reading, walk of the bytes", &at, &walked, &ours);
     let mut boxes = samples::areas(random, &case.near, 6);
     boxes.push(std::array::from_fn(|i| grid.corners[i]));
     let (rust, ours) = (Rust.box_maxima(tables, &boxes), OURS.box_maxima(tables, &boxes));
@@ -374,6 +402,8 @@ fn compare_spoiled(tally: &mut Tally, grid: &Grid, case: &Case, random: &mut Ran
     at.extend(grid.blocks.chunks_exact(3).take(4).map(|b| [b[0] << 12, b[1] << 12, b[2] << 12]));
     let (lookups, our_lookups) = (Rust.get_values(tables, &at), OURS.get_values(tables, &at));
     compare_answers(tally, "spoiled: get_value", &at, &lookups, &our_lookups);
+    let (readings, our_readings) = (Rust.get_readings(tables, &at), OURS.get_readings(tables, &at));
+    compare_readings(tally, "spoiled: get_reading", &at, &readings, &our_readings);
     let boxes = samples::areas(random, &case.near, 2);
     let (maxima, our_maxima) = (Rust.box_maxima(tables, &boxes), OURS.box_maxima(tables, &boxes));
     compare_answers(tally, "spoiled: box_maximum", &boxes, &maxima, &our_maxima);

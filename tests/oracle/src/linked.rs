@@ -3,7 +3,7 @@
 #[path = "../../../rust/smokegrid/src/interface.rs"]
 mod interface;
 
-use crate::loader::{Answer, Lent, Loader, Tables};
+use crate::loader::{Answer, Lent, Loader, Reading, Tables};
 use interface::GridTables;
 
 pub struct Linked;
@@ -60,6 +60,16 @@ impl Loader for Linked {
     fn get_values(&self, grid: Tables, coordinates: &[[i32; 3]]) -> Vec<Answer> {
         let get = |[x, y, z]: [i32; 3]| {
             answer(|value| interface::get_value(tables(grid), x, y, z, value))
+        };
+        coordinates.iter().map(|at| get(*at)).collect()
+    }
+
+    fn get_readings(&self, grid: Tables, coordinates: &[[i32; 3]]) -> Vec<Reading> {
+        let get = |[x, y, z]: [i32; 3]| {
+            let mut level = 0x5a5a5a5a;
+            let (number, bits) =
+                answer(|value| interface::get_reading(tables(grid), x, y, z, value, &mut level));
+            (number, bits, level)
         };
         coordinates.iter().map(|at| get(*at)).collect()
     }

@@ -1,5 +1,6 @@
 //! What is compared: the functions of smokegrid.h over slices, and the Rust modules behind them.
 
+use crate::level;
 use crate::source::{self, NanoVDBMedium, SparseGridEntry, SparseGridRoot, SparseScalarGrid};
 use crate::walk::{self, Places};
 
@@ -39,12 +40,16 @@ pub struct Lent<'a> {
 /// A number and the bits of a value.
 pub type Answer = (u32, u32);
 
+/// A number, the bits of a value, and a level: 0 background, 1 root tile, 2 upper tile, 3 lower tile, 4 leaf.
+pub type Reading = (u32, u32, u32);
+
 /// Each function answers a number, 0 where it gave a value.
 pub trait Loader {
     fn decode_density_grid(&self, bytes: &[u8], lent: Lent) -> u32;
     fn validate(&self, grid: Tables) -> u32;
     fn validate_density(&self, grid: Tables) -> u32;
     fn get_values(&self, grid: Tables, coordinates: &[[i32; 3]]) -> Vec<Answer>;
+    fn get_readings(&self, grid: Tables, coordinates: &[[i32; 3]]) -> Vec<Reading>;
     /// Boxes are low x, y, z and then high x, y, z.
     fn box_maxima(&self, grid: Tables, boxes: &[[i32; 6]]) -> Vec<Answer>;
     /// A list of boxes, six numbers each: their maxima, and the greatest.
@@ -89,6 +94,17 @@ impl Loader for Rust {
         let value =
             |at: &[i32; 3]| sparse.as_ref().map_err(|n| *n).and_then(|g| source::get_value(g, *at));
         coordinates.iter().map(|at| answer(value(at))).collect()
+    }
+
+    /// The Rust gives no level: it is that of a walk of our own down its tables, `level::of`.
+    fn get_readings(&self, grid: Tables, coordinates: &[[i32; 3]]) -> Vec<Reading> {
+        let sparse = grid.paired().map(|()| grid.sparse());
+        let level = |at| sparse.as_ref().map_or(0, |sparse| level::of(sparse, at));
+        let values = self.get_values(grid, coordinates);
+        let readings = values.into_iter().zip(coordinates);
+        readings
+            .map(|((number, bits), at)| (number, bits, if number == 0 { level(*at) } else { 0 }))
+            .collect()
     }
 
     fn box_maxima(&self, grid: Tables, boxes: &[[i32; 6]]) -> Vec<Answer> {

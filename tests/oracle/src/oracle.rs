@@ -4,6 +4,7 @@
 
 pub mod cells;
 pub mod generate;
+pub mod level;
 #[cfg(linked)]
 pub mod linked;
 pub mod loader;

@@ -148,11 +148,16 @@ fn check_lookups(
     random: &mut Random,
 ) {
     let at = samples::coordinates(random, &case.near, 100);
-    for (at, answer) in at.iter().zip(loader.get_values(grid.tables(), &at)) {
+    let values = loader.get_values(grid.tables(), &at);
+    let readings = loader.get_readings(grid.tables(), &at);
+    for ((at, answer), reading) in at.iter().zip(values).zip(readings) {
         counts.lookups += 1;
-        let bits = walk::voxel(&case.bytes, *at);
+        let (bits, level) = walk::reading(&case.bytes, *at);
         if answer != (0, bits) {
             counts.wrong(format!("{at:?}: lookup {answer:x?}, bytes {bits:08x}"));
+        }
+        if reading != (0, bits, level) {
+            counts.wrong(format!("{at:?}: reading {reading:x?}, bytes {bits:08x} level {level}"));
         }
     }
 }

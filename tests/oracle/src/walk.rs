@@ -44,28 +44,33 @@ pub fn slot(coordinate: [i32; 3], level: usize) -> usize {
 
 /// The 32 bits that NanoVDB.h reads at a coordinate of an accepted grid.
 pub fn voxel(bytes: &[u8], coordinate: [i32; 3]) -> u32 {
+    reading(bytes, coordinate).0
+}
+
+/// These bits, and where its walk stops: 0 background, 1 root tile, 2 upper tile, 3 lower tile, 4 leaf.
+pub fn reading(bytes: &[u8], coordinate: [i32; 3]) -> (u32, u32) {
     let root = 672 + u64_at(bytes, 696) as usize;
     let key = coordinate.map(|c| u64::from((c >> 12) as u32 & 0xfffff));
     let key = key[0] << 42 | key[1] << 21 | key[2];
     let mut tiles = (0..u32_at(bytes, root + 24) as usize).map(|i| root + 64 + 32 * i);
     let Some(tile) = tiles.find(|tile| u64_at(bytes, *tile) == key) else {
-        return u32_at(bytes, root + 28);
+        return (u32_at(bytes, root + 28), 0);
     };
     let mut child = u64_at(bytes, tile + 8);
     if child == 0 {
-        return u32_at(bytes, tile + 20);
+        return (u32_at(bytes, tile + 20), 1);
     }
     let mut node = root;
-    for level in [2, 1] {
+    for (level, spoke) in [(2, 2), (1, 3)] {
         node = node.wrapping_add(child as usize);
         let i = slot(coordinate, level);
         let entry = node + TABLE[level] + 8 * i;
         if !mask_bit(bytes, node + MASK[level], i) {
-            return u32_at(bytes, entry);
+            return (u32_at(bytes, entry), spoke);
         }
         child = u64_at(bytes, entry);
     }
-    u32_at(bytes, node.wrapping_add(child as usize) + 96 + 4 * slot(coordinate, 0))
+    (u32_at(bytes, node.wrapping_add(child as usize) + 96 + 4 * slot(coordinate, 0)), 4)
 }
 
 /// How many roots, nodes (by level) and spans there is room for, or were reached.

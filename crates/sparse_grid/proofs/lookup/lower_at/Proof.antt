@@ -3,15 +3,12 @@ use Prim.Native.Nat.{_+_, _*_}
 use mathlib.Core.Path.{_≡_, sym, ap, _∙_}
 use mathlib.Core.List.{[]}
 use native.Mathlib.Omega.{arith}
-use lib.Ieee.{Float}
 use lib.ListN.{length}
 use borrow.Author.Needs.{needs}
-use Rattle.refusals.specs.Results.{Result}
 use Rattle.sparse_grid.specs.declared.Entry.{Entry}
 use Rattle.sparse_grid.specs.Tables.{Grid, entryAt}
 use Rattle.sparse_grid.specs.TableLaws.{entry-read}
-use Rattle.sparse_grid.specs.Lookup.{lowerEntry, lowerAt}
-use Rattle.sparse_grid.specs.Answers.{valueOnly}
+use Rattle.sparse_grid.specs.Lookup.{Found, lowerEntry, lowerAt}
 use Rattle.sparse_grid.specs.Inner.{nodesOf, placed}
 use Rattle.sparse_grid.proofs.Nodes.{missing, present, lower-slot}
 use Rattle.sparse_grid.proofs.lookup.lower_at.Statement.{statement}
@@ -34,18 +31,18 @@ abbrev start : tie.After-entry-of → tie.Start
 start c = at-start (at-whole (at-read c))
 
 abbrev at-child : tie.After-leaf-at → tie.After-j
-at-child c = c .before .before .before
+at-child c = c .before .before .before .before
 
 -- ---- the nodes, and what an entry of one gives
 abbrev nodes : tie.Start → Grid
 nodes c = let a = c .args in nodesOf [] [] (a .links .now) (a .values .now) (a .leaf-values .now)
 
-abbrev gives : tie.Start → Entry → Result Float
-gives c e = valueOnly (lowerEntry (nodes c) (placed (c .args .place)) e)
+abbrev gives : tie.Start → Entry → Found
+gives c e = lowerEntry (nodes c) (placed (c .args .place)) e
 
 -- what the entry of the slot gives is the answer
 read : (c : tie.After-entry-of)
-    → gives (start c) (c .entry-of .result) ≡ valueOnly (lowerAt (nodes (start c)) (start c .args .k) (placed (start c .args .place)))
+    → gives (start c) (c .entry-of .result) ≡ lowerAt (nodes (start c)) (start c .args .k) (placed (start c .args .place))
 read c =
     let a = start c .args in
     let p = a .place in

@@ -2,15 +2,12 @@
 use Prim.Native.Nat.{_+_, _*_}
 use mathlib.Core.Path.{_≡_, sym, ap, _∙_}
 use native.Mathlib.Omega.{arith}
-use lib.Ieee.{Float}
 use lib.ListN.{length}
 use borrow.Author.Needs.{needs}
-use Rattle.refusals.specs.Results.{Result}
 use Rattle.sparse_grid.specs.declared.Entry.{Entry}
 use Rattle.sparse_grid.specs.Tables.{Grid, entryAt}
 use Rattle.sparse_grid.specs.TableLaws.{entry-read}
-use Rattle.sparse_grid.specs.Lookup.{upperEntry, upperAt}
-use Rattle.sparse_grid.specs.Answers.{valueOnly}
+use Rattle.sparse_grid.specs.Lookup.{Found, upperEntry, upperAt}
 use Rattle.sparse_grid.specs.Inner.{nodesOf, placed}
 use Rattle.sparse_grid.proofs.Nodes.{missing, present, upper-slot, lower-only}
 use Rattle.sparse_grid.proofs.lookup.upper_at.Statement.{statement}
@@ -33,7 +30,7 @@ abbrev start : tie.After-entry-of → tie.Start
 start c = at-start (at-whole (at-read c))
 
 abbrev at-child : tie.After-lower-at → tie.After-j
-at-child c = c .before .before .before
+at-child c = c .before .before .before .before
 
 -- ---- the nodes, and what an entry of one gives
 abbrev nodes : tie.Start → Grid
@@ -41,12 +38,12 @@ nodes c =
     let a = c .args in
     nodesOf (a .links .now) (a .values .now) (a .lower-links .now) (a .lower-values .now) (a .leaf-values .now)
 
-abbrev gives : tie.Start → Entry → Result Float
-gives c e = valueOnly (upperEntry (nodes c) (placed (c .args .place)) e)
+abbrev gives : tie.Start → Entry → Found
+gives c e = upperEntry (nodes c) (placed (c .args .place)) e
 
 -- what the entry of the slot gives is the answer
 read : (c : tie.After-entry-of)
-    → gives (start c) (c .entry-of .result) ≡ valueOnly (upperAt (nodes (start c)) (start c .args .k) (placed (start c .args .place)))
+    → gives (start c) (c .entry-of .result) ≡ upperAt (nodes (start c)) (start c .args .k) (placed (start c .args .place))
 read c =
     let a = start c .args in
     let p = a .place in
@@ -65,7 +62,7 @@ returns-2 : tie.Need-returns-2
 returns-2 c =
     let p = at-child c in
     c .lower-at .ensures
-    ∙ ap valueOnly (lower-only (nodes (start (p .before .before))) (p .j .given .0 .0) (placed (start (p .before .before) .args .place)))
+    ∙ lower-only (nodes (start (p .before .before))) (p .j .given .0 .0) (placed (start (p .before .before) .args .place))
     ∙ ap (gives (start (p .before .before))) (sym (p .j .given .1))
     ∙ read (p .before .before)
 
