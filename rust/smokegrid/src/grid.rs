@@ -127,8 +127,11 @@ impl Grid {
     /// The same for each box of a list, from its low voxel to its high one. The grid is validated once, where each single call
     /// validates it anew.
     pub fn box_maxima(&self, boxes: &[([i32; 3], [i32; 3])]) -> Result<Maxima, Refusal> {
-        let numbers: Vec<i32> =
-            boxes.iter().flat_map(|(low, high)| [*low, *high].concat()).collect();
+        let mut numbers = Vec::with_capacity(6 * boxes.len());
+        for (low, high) in boxes {
+            numbers.extend_from_slice(low);
+            numbers.extend_from_slice(high);
+        }
         let mut each = vec![0.0; boxes.len()];
         let greatest = value(|place| ffi::box_maxima(&self.tables, &numbers, &mut each, place))?;
         Ok(Maxima { each, greatest })
