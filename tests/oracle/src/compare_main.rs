@@ -336,7 +336,11 @@ fn compare_list(
         let our = OURS.list_maxima(tables, boxes, &mut ours);
         let [maxima, ours] = [maxima, ours].map(|all| all.into_iter().map(f32::to_bits));
         let same = rust == our && maxima.eq(ours);
-        tally.count(kind, rust.0, (!same).then(|| format!("{boxes:?}: Rust {rust:?}, ours {our:?}")));
+        tally.count(
+            kind,
+            rust.0,
+            (!same).then(|| format!("{boxes:?}: Rust {rust:?}, ours {our:?}")),
+        );
     }
 }
 
