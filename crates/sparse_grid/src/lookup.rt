@@ -207,8 +207,8 @@ fn upper_at(
     }
 }
 
-// The walk down the tables: what stands at a place of root i, and the background where there is no such root. It is small enough to be
-// compiled into each of its callers: a call of it hands eight tables over in memory, which took 7 ns of a lookup's 8.
+// The walk down the tables: what stands at a place of root i, and the background where there is no such root. It is kept small enough
+// to be compiled into each of its callers: a call hands the tables over in memory, and a lookup takes twice as long.
 pub(crate) fn below(
     background: f32,
     root_links: &[u32],
