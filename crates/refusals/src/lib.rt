@@ -39,6 +39,20 @@ pub const SECOND_BOX: u32 = 17;
 
 pub const TABLES: u32 = 18;
 
+pub const FILE: u32 = 19;
+
+pub const CODEC: u32 = 20;
+
+pub const NO_GRID: u32 = 21;
+
+pub const RAY: u32 = 22;
+
+pub const CELLS: u32 = 23;
+
+pub const WINDOW: u32 = 26;
+
+pub const LAYER: u32 = 28;
+
 // The first of two faults, of which 0 is none.
 pub fn first_fault(a: u32, b: u32) -> u32
     ensures { λ r. ⌜ r ≡ (a then b) ⌝ }

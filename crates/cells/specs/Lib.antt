@@ -1,0 +1,4 @@
+-- Definitions that the public contracts cite.
+pub mod Cells
+-- Laws.
+pub mod Counted
