@@ -89,7 +89,15 @@ pub(crate) fn medium_at(bytes: &[u8], root: usize) -> Medium
         layout::f32_at(bytes, 372),
         layout::f32_at(bytes, 376),
     ];
-    medium::make_medium(low, high, index_low, index_high, map, translation)
+    medium::make_medium(
+        low,
+        high,
+        index_low,
+        index_high,
+        map,
+        translation,
+        [64u32; 3],
+    )
 }
 
 // 1, 2, 3, 4. The world box does not depend on where the root stands.

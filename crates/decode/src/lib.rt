@@ -36,7 +36,7 @@ fn refused(number: u32) -> Decoded
 {
     let point = [0.0f32; 3];
     let corner = [0i32; 3];
-    let none = medium::make_medium(point, point, corner, corner, [0.0f32; 9], point);
+    let none = medium::make_medium(point, point, corner, corner, [0.0f32; 9], point, [0u32; 3]);
     Decoded {
         number: number,
         roots: 0,

@@ -11,6 +11,7 @@ use Rattle.float.specs.Fused.{trunc, floor}
 use Rattle.float.specs.Coordinate.{coordinate}
 use Rattle.float.specs.Integer.{floorZ}
 use Rattle.layout.specs.Coordinates.{Coord}
+pub use Rattle.cells.specs.Cells.{Cells}
 use Rattle.medium.specs.Medium.{Point, Medium, Axis, xAxis, yAxis, zAxis, onPoint, onCoord}
 use Rattle.index.specs.Index.{worldToIndex, majorantIndex}
 
@@ -19,12 +20,6 @@ unfoldable pub corner : Medium → Axis → ℕ → ℕ → Float
 corner m a n k =
     let t = div binary32 (ofInt binary32 (pos k)) (ofInt binary32 (pos n)) in
     add binary32 (mul binary32 (sub binary32 (ofInt binary32 (pos 1)) t) (onPoint a (m .low))) (mul binary32 t (onPoint a (m .high)))
-
--- cells on each axis
-pub record Cells : Type 0 where
-  pub x : ℕ
-  pub y : ℕ
-  pub z : ℕ
 
 -- where cell k stands on an axis: k = x + X * (y + Y * z)
 abbrev pub cellAxis : Cells → ℕ → Axis → ℕ

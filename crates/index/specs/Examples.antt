@@ -9,6 +9,7 @@ use Rattle.float.specs.Zero.{+0}
 use Rattle.float.specs.Fused as F
 use Rattle.float.specs.Coordinate.{coordinate}
 use Rattle.layout.specs.Coordinates.{Coord}
+use Rattle.cells.specs.Cells.{cells}
 use Rattle.medium.specs.Medium.{Point, Medium, makeMedium, mapFault}
 use Rattle.index.specs.Index.{worldToIndex}
 use Rattle.index.specs.Axes.{Line, cornerOn, indexOn, majorantOn, firstLow, firstHigh, secondLow, secondHigh, firstOn, secondOn, endsOn, axisEnds}
@@ -82,7 +83,7 @@ far-refused = refl
 abbrev unit : Medium
 unit =
     makeMedium (at +0) (at +0) here here
-    (fin false 1 (pos 0) ∷ +0 ∷ +0 ∷ +0 ∷ fin false 1 (pos 0) ∷ +0 ∷ +0 ∷ +0 ∷ fin false 1 (pos 0) ∷ []) (at +0)
+    (fin false 1 (pos 0) ∷ +0 ∷ +0 ∷ +0 ∷ fin false 1 (pos 0) ∷ +0 ∷ +0 ∷ +0 ∷ fin false 1 (pos 0) ∷ []) (at +0) (cells 1 1 1)
   where
     at : Float → Point
     at v = record { x = v; y = v; z = v }
@@ -95,6 +96,6 @@ unfolding indexBits mapFault worldToIndex F.fma F.plus add sub mul le lt eq toBi
 far = refl
 
 skewed : indexBits (makeMedium (unit .low) (unit .high) (unit .indexLow) (unit .indexHigh)
-    (fin false 1 (pos 0) ∷ fin false 1 (pos 0) ∷ []) (unit .translation)) (record { x = inf false; y = +0; z = +0 }) ≡ refused 13
+    (fin false 1 (pos 0) ∷ fin false 1 (pos 0) ∷ []) (unit .translation) (unit .cells)) (record { x = inf false; y = +0; z = +0 }) ≡ refused 13
 unfolding indexBits mapFault worldToIndex F.fma F.plus add sub mul le lt eq toBits
 skewed = refl

@@ -1,4 +1,4 @@
--- The medium record: world box, index box, inverse map and translation, and its checks (4, 14, 13).
+-- The medium record: world box, index box, inverse map, translation and numbers of cells, and its checks (4, 14, 13; 23 is `cells`' own).
 use Prim.Native.Nat.{ℕ, _+_}
 use mathlib.Core.List.{List}
 use mathlib.Core.Bool.{Bool, _&&_}
@@ -10,13 +10,14 @@ use lib.Ieee.Scale.{finite}
 use Rattle.refusals.specs.Faults.{_then_, unless}
 use Rattle.float.specs.Zero.{+0}
 use Rattle.layout.specs.Coordinates.{Coord}
+use Rattle.cells.specs.Cells.{Cells}
 
 pub record Point : Type 0 where
   pub x : Float
   pub y : Float
   pub z : Float
 
--- `low` and `high` are the corners of the world box; `map` has nine places, row after row
+-- `low` and `high` are the corners of the world box; `map` has nine places, row after row; `cells` says how the world box is cut
 pub record Medium : Type 0 where
   pub low : Point
   pub high : Point
@@ -24,16 +25,18 @@ pub record Medium : Type 0 where
   pub indexHigh : Coord
   pub map : List Float
   pub translation : Point
+  pub cells : Cells
 
 -- a medium from its parts: media are made by this, so that a further field is added in one place
-abbrev pub makeMedium : Point → Point → Coord → Coord → List Float → Point → Medium
-makeMedium low high indexLow indexHigh map translation = record {
+abbrev pub makeMedium : Point → Point → Coord → Coord → List Float → Point → Cells → Medium
+makeMedium low high indexLow indexHigh map translation cells = record {
   low = low;
   high = high;
   indexLow = indexLow;
   indexHigh = indexHigh;
   map = map;
   translation = translation;
+  cells = cells;
 }
 
 -- the three axes

@@ -1,9 +1,11 @@
 -- The medium that the code's record stands for. Its arrays have every place that is read, so the defaults are never met.
+use Prim.Native.Nat.{ℕ}
 use mathlib.Core.List.{List, [], _∷_}
 use lib.IntN.{ℤ, pos}
 use lib.ListN.{getD}
 use lib.Ieee.{Float, nan}
 use Rattle.layout.specs.Coordinates.{Coord}
+use Rattle.cells.specs.Cells.{Cells, cells}
 use Rattle.medium.specs.Medium.{Point, Medium, makeMedium}
 use Rattle.medium.specs.declared.Medium as Code
 
@@ -13,10 +15,13 @@ pointOf l = record { x = getD l 0 nan; y = getD l 1 nan; z = getD l 2 nan }
 abbrev pub coordOf : List ℤ → Coord
 coordOf l = record { x = getD l 0 (pos 0); y = getD l 1 (pos 0); z = getD l 2 (pos 0) }
 
+abbrev pub cellsOf : List ℕ → Cells
+cellsOf l = cells (getD l 0 0) (getD l 1 0) (getD l 2 0)
+
 abbrev pub nineOf : List Float → List Float
 nineOf l = getD l 0 nan ∷ getD l 1 nan ∷ getD l 2 nan ∷ getD l 3 nan ∷ getD l 4 nan ∷ getD l 5 nan ∷ getD l 6 nan ∷ getD l 7 nan ∷ getD l 8 nan ∷ []
 
 abbrev pub asMedium : Code.Medium → Medium
 asMedium m =
     makeMedium (pointOf (m .low)) (pointOf (m .high)) (coordOf (m .«index_low»)) (coordOf (m .«index_high»)) (nineOf (m .map))
-    (pointOf (m .translation))
+    (pointOf (m .translation)) (cellsOf (m .cells))

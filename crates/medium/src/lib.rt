@@ -1,5 +1,6 @@
-// The medium record: the corners of the world box, the corners of the index box, the inverse map row after row, and the
-// translation. Its checks are the decode's and the build's: each answers its number, or 0 where the record passes.
+// The medium record: the corners of the world box, the corners of the index box, the inverse map row after row, the
+// translation, and how many cells a build cuts the world box into on each axis. Its checks are the decode's and the build's:
+// each answers its number, or 0 where the record passes.
 ghost use mathlib.Core.Path.{_≡_};
 ghost use mathlib.Core.Bool.{_&&_};
 ghost use lib.Signed.{leZ};
@@ -7,7 +8,7 @@ ghost use lib.Ieee.{binary32, sub, lt};
 ghost use lib.Ieee.Scale.{finite};
 ghost use Rattle.refusals.specs.Faults.{unless};
 ghost use Rattle.medium.specs.Medium.{makeMedium, boundsFault, indexFault, mapFault, mediumFault, each, diagonal, zeroes};
-ghost use Rattle.medium.specs.Record.{pointOf, coordOf, nineOf, asMedium};
+ghost use Rattle.medium.specs.Record.{pointOf, coordOf, nineOf, cellsOf, asMedium};
 use refusals::both;
 use refusals::first_fault;
 
@@ -18,6 +19,7 @@ pub struct Medium {
     pub index_high: [i32; 3],
     pub map: [f32; 9],
     pub translation: [f32; 3],
+    pub cells: [u32; 3],
 }
 
 // Every medium is made here, so that a further field is written in one place.
@@ -28,10 +30,11 @@ pub fn make_medium(
     index_high: [i32; 3],
     map: [f32; 9],
     translation: [f32; 3],
+    cells: [u32; 3],
 ) -> Medium
     ensures { λ r.
         ⌜ asMedium r ≡ makeMedium (pointOf low) (pointOf high) (coordOf «index_low») (coordOf «index_high») (nineOf map)
-        (pointOf translation) ⌝ }
+        (pointOf translation) (cellsOf cells) ⌝ }
 {
     Medium {
         low: low,
@@ -40,6 +43,7 @@ pub fn make_medium(
         index_high: index_high,
         map: map,
         translation: translation,
+        cells: cells,
     }
 }
 

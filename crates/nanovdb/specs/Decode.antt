@@ -15,6 +15,7 @@ use Rattle.sparse_grid.specs.declared.Entry.{Entry}
 use Rattle.sparse_grid.specs.declared.Entry.the-variants.{Child, Tile}
 use Rattle.sparse_grid.specs.Tables.{Grid}
 use Rattle.sparse_grid.specs.Validate.{validate, densityFault}
+use Rattle.cells.specs.Cells.{Cells, cells}
 use Rattle.medium.specs.Medium.{Medium, makeMedium, each, boundsFault, indexFault, mapFault}
 use Rattle.nanovdb.specs.Nodes.{Places}
 use Rattle.nanovdb.specs.Tree.{Root, Roots, tree}
@@ -22,6 +23,10 @@ use Rattle.nanovdb.specs.Tree.{Root, Roots, tree}
 -- an f64 of the world box, rounded to f32
 abbrev pub boundAt : List ℕ → ℕ → Float
 boundAt b at = narrow (f64At b at)
+
+-- a decode writes 64 cells on each axis
+abbrev pub cells64 : Cells
+cells64 = cells 64 64 64
 
 -- what the header, the map and the index box of a root at `root` say of the medium
 unfoldable pub mediumAt : List ℕ → ℕ → Medium
@@ -33,6 +38,7 @@ mediumAt b root =
     (record { x = i32At b (root + 12); y = i32At b (root + 16); z = i32At b (root + 20) })
     (f32At b 332 ∷ f32At b 336 ∷ f32At b 340 ∷ f32At b 344 ∷ f32At b 348 ∷ f32At b 352 ∷ f32At b 356 ∷ f32At b 360 ∷ f32At b 364 ∷ [])
     (record { x = f32At b 368; y = f32At b 372; z = f32At b 376 })
+    cells64
 
 -- the root stands at 672 plus the u64 at 696
 abbrev pub rootPlace : List ℕ → ℕ

@@ -12,6 +12,7 @@ use Rattle.float.specs.Zero.{+0}
 use Rattle.lent.specs.Padded.{padded}
 use Rattle.layout.specs.Coordinates.{Coord}
 use Rattle.sparse_grid.specs.Tables.{Grid, gridOf}
+use Rattle.cells.specs.Cells.{cells}
 use Rattle.medium.specs.Medium.{Point, Medium, makeMedium}
 use Rattle.nanovdb.specs.Nodes.{Places}
 use Rattle.nanovdb.specs.Decode.{Accepted}
@@ -62,7 +63,7 @@ abbrev noCoord : Coord
 noCoord = record { x = pos 0; y = pos 0; z = pos 0 }
 
 abbrev pub noMedium : Medium
-noMedium = makeMedium noPoint noPoint noCoord noCoord (+0 ∷ +0 ∷ +0 ∷ +0 ∷ +0 ∷ +0 ∷ +0 ∷ +0 ∷ +0 ∷ []) noPoint
+noMedium = makeMedium noPoint noPoint noCoord noCoord (+0 ∷ +0 ∷ +0 ∷ +0 ∷ +0 ∷ +0 ∷ +0 ∷ +0 ∷ +0 ∷ []) noPoint (cells 0 0 0)
 
 abbrev pub answerOf : Result Accepted → Answer
 answerOf (ok t) = record {

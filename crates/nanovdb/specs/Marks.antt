@@ -20,7 +20,7 @@ use Rattle.nanovdb.specs.Spans.{Span, overlaps, seen}
 use Rattle.nanovdb.specs.Nodes.{Places, State, empty, Slots, Read, Reader, withSpan, claim, childTarget, sizeOf, maskOf, tableOf, nodesAt}
 use Rattle.nanovdb.specs.Nodes.{placesAt, counted, entriesOf, placed, leafPlaced, opened, again, slotRead, slotsRead, leafValues, node}
 use Rattle.nanovdb.specs.Tree.{Root, Roots, keyPasses, rootOf, tileRead, tilesRead, tree}
-use Rattle.nanovdb.specs.Decode.{boundAt, mediumAt, rootPlace, mediumOf, markPasses, headerPasses, linkOf, valueOf}
+use Rattle.nanovdb.specs.Decode.{cells64, boundAt, mediumAt, rootPlace, mediumOf, markPasses, headerPasses, linkOf, valueOf}
 use Rattle.nanovdb.specs.Decode.{blocksOf, Accepted, tablesOf, treeFault, bytesFault, decodeScalar, decodeDensity}
 
 -- the span of a root with so many tiles
@@ -199,6 +199,7 @@ module _ (b c : List ℕ) (long : length b ≡ length c) (same : (i : ℕ) → 8
       ∷ float 344 (omega arith) t ∷ float 348 (omega arith) t ∷ float 352 (omega arith) t
       ∷ float 356 (omega arith) t ∷ float 360 (omega arith) t ∷ float 364 (omega arith) t ∷ [])
       (record { x = float 368 (omega arith) t; y = float 372 (omega arith) t; z = float 376 (omega arith) t })
+      cells64
 
   -- ---- the decode, where both marks pass or both do not
   module _ (marks : markPasses (u64At b 0) ≡ markPasses (u64At c 0)) where

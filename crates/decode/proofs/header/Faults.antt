@@ -10,7 +10,7 @@ use lib.Ieee.{Float}
 use borrow.Author.Tests.{lt-ltb, le-ltb, le-leb, lt-leb}
 use Rattle.layout.specs.Bytes.{i32At, f32At}
 use Rattle.medium.specs.Medium.{Medium, makeMedium, each, boundsFault}
-use Rattle.nanovdb.specs.Decode.{boundAt, mediumAt, mediumOf, headerPasses, bytesFault}
+use Rattle.nanovdb.specs.Decode.{boundAt, cells64, mediumAt, mediumOf, headerPasses, bytesFault}
 
 pub medium-is : (b : List ℕ) (root : ℕ) {l₀ l₁ l₂ h₀ h₁ h₂ m₀ m₁ m₂ m₃ m₄ m₅ m₆ m₇ m₈ t₀ t₁ t₂ : Float} {i₀ i₁ i₂ j₀ j₁ j₂ : ℤ}
     → l₀ ≡ boundAt b 560 → l₁ ≡ boundAt b 568 → l₂ ≡ boundAt b 576 → h₀ ≡ boundAt b 584 → h₁ ≡ boundAt b 592 → h₂ ≡ boundAt b 600
@@ -21,13 +21,13 @@ pub medium-is : (b : List ℕ) (root : ℕ) {l₀ l₁ l₂ h₀ h₁ h₂ m₀ 
     → t₀ ≡ f32At b 368 → t₁ ≡ f32At b 372 → t₂ ≡ f32At b 376
     → makeMedium (record { x = l₀; y = l₁; z = l₂ }) (record { x = h₀; y = h₁; z = h₂ })
     (record { x = i₀; y = i₁; z = i₂ }) (record { x = j₀; y = j₁; z = j₂ })
-    (m₀ ∷ m₁ ∷ m₂ ∷ m₃ ∷ m₄ ∷ m₅ ∷ m₆ ∷ m₇ ∷ m₈ ∷ []) (record { x = t₀; y = t₁; z = t₂ })
+    (m₀ ∷ m₁ ∷ m₂ ∷ m₃ ∷ m₄ ∷ m₅ ∷ m₆ ∷ m₇ ∷ m₈ ∷ []) (record { x = t₀; y = t₁; z = t₂ }) cells64
     ≡ mediumAt b root
 unfolding mediumAt
 medium-is b root l₀ l₁ l₂ h₀ h₁ h₂ i₀ i₁ i₂ j₀ j₁ j₂ m₀ m₁ m₂ m₃ m₄ m₅ m₆ m₇ m₈ t₀ t₁ t₂ = λ k.
     makeMedium (record { x = l₀ k; y = l₁ k; z = l₂ k }) (record { x = h₀ k; y = h₁ k; z = h₂ k })
     (record { x = i₀ k; y = i₁ k; z = i₂ k }) (record { x = j₀ k; y = j₁ k; z = j₂ k })
-    (m₀ k ∷ m₁ k ∷ m₂ k ∷ m₃ k ∷ m₄ k ∷ m₅ k ∷ m₆ k ∷ m₇ k ∷ m₈ k ∷ []) (record { x = t₀ k; y = t₁ k; z = t₂ k })
+    (m₀ k ∷ m₁ k ∷ m₂ k ∷ m₃ k ∷ m₄ k ∷ m₅ k ∷ m₆ k ∷ m₇ k ∷ m₈ k ∷ []) (record { x = t₀ k; y = t₁ k; z = t₂ k }) cells64
 
 module _ (b : List ℕ) where
   pub fault-long : 4294967295 < length b → 1 ≡ bytesFault b

@@ -6,6 +6,7 @@ use lib.Ieee.{Float, binary32, ofBits}
 use borrow.Author.Needs.{needs}
 use Rattle.float.specs.Literal.{zero-literal}
 use Rattle.layout.specs.Coordinates.{Coord}
+use Rattle.cells.specs.Cells.{cells}
 use Rattle.medium.specs.Medium.{Point, Medium, makeMedium}
 use Rattle.nanovdb.specs.Lent.{noMedium}
 use Rattle.decode.proofs.refused.Statement.{statement}
@@ -16,7 +17,7 @@ abbrev throughout : Float → Medium
 throughout z =
     let p : Point = record { x = z; y = z; z = z } in
     let k : Coord = record { x = pos 0; y = pos 0; z = pos 0 } in
-    makeMedium p p k k (z ∷ z ∷ z ∷ z ∷ z ∷ z ∷ z ∷ z ∷ z ∷ []) p
+    makeMedium p p k k (z ∷ z ∷ z ∷ z ∷ z ∷ z ∷ z ∷ z ∷ z ∷ []) p (cells 0 0 0)
 
 no-medium : throughout (ofBits binary32 0) ≡ noMedium
 no-medium = ap throughout (zero-literal binary32)
