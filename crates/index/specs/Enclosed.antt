@@ -5,12 +5,13 @@ use native.Mathlib.Nat.{mul-comm, mul-assoc, mul-left-comm, le-trans, le-of-eq, 
 use native.Mathlib.Nat as NatL
 use native.Mathlib.Numerals.{add-one}
 use mathlib.Core.Bool.{Bool, true, false, cond, _&&_}
-use lib.Dec.{T, ltb}
+use lib.Dec.{T, ltb, lit≤}
 use lib.Arith.{digits-div, digits-mod, digits-lt}
 use lib.Ieee.{Float, binary32, lt, le, sub, fits}
 use lib.Ieee.Scale.{finite}
 use Rattle.medium.specs.Medium.{xAxis, yAxis, zAxis}
 use Rattle.medium.specs.Medium.{Point, Medium, Axis, onPoint, boundsFault}
+use Rattle.cells.specs.Counted.{Counted}
 use Rattle.index.specs.Cells.{corner, Cells, cellAxis, cellOf, cellsOn, Between, EnclosesIn}
 use Rattle.index.specs.Axes.{cornerOn}
 use Rattle.index.specs.Found.{holdsOn, cellOn, cellAt}
@@ -30,6 +31,13 @@ pub record Fitting (m : Medium) : Type 0 where
 pub record Numbered (n : Cells) : Type 0 where
   pub some : (a : Axis) → 0 < cellsOn n a
   pub few : (a : Axis) → cellsOn n a ≤ 2 ^ 24
+
+-- so are numbers of cells that pass
+pub numbered : {n : Cells} → Counted n → Numbered n
+numbered N = record {
+  some = λ a. elim a [ xAxis ↦ N .x .some | yAxis ↦ N .y .some | zAxis ↦ N .z .some ];
+  few = λ a. elim a [ xAxis ↦ le-trans (N .x .most) (lit≤ tt) | yAxis ↦ le-trans (N .y .most) (lit≤ tt) | zAxis ↦ le-trans (N .z .most) (lit≤ tt) ];
+}
 
 bounds-finite : (m : Medium) (a : Axis) → boundsFault m a ≡ 0 → T (finite (onPoint a (m .low))) × T (finite (onPoint a (m .high)))
 unfolding boundsFault

@@ -3,17 +3,18 @@ use mathlib.Core.Path.{_≡_, refl, sym, ap, _∙_}
 use mathlib.Core.Logic.{inl, inr}
 use mathlib.Core.List.{List, [], _∷_, _++_}
 use mathlib.Core.Bool.{Bool, true, false, not}
-use Prim.Native.Nat.{ℕ, zero, suc, _*_}
+use Prim.Native.Nat.{ℕ, zero, suc}
 use native.Mathlib.Omega.{arith}
-use lib.Dec.{eqb, eqb→eq}
 use lib.Ieee.{Float, lt}
 use Rattle.refusals.specs.Results.{Result, ok, refused, numberOf, bind, need}
 use Rattle.refusals.specs.ResultLaws.{stopped}
-use Rattle.refusals.specs.Faults.{_then_, unless, passing}
-use Rattle.refusals.specs.FaultLaws.{unless-zero, passing-ok}
+use Rattle.refusals.specs.Faults.{_then_, passing}
+use Rattle.refusals.specs.FaultLaws.{passing-ok}
 use Rattle.sparse_grid.specs.Tables.{Grid}
 use Rattle.sparse_grid.specs.Validate.{validate, densityFault}
 use Rattle.sparse_grid.specs.Lookup.{readIn}
+use Rattle.cells.specs.Cells.{cellCount, tableFault}
+use Rattle.cells.specs.Counted.{Tabled, tabled}
 use Rattle.medium.specs.Medium.{Medium, Axis, xAxis, yAxis, zAxis, mediumFault}
 use Rattle.index.specs.Cells.{Cells, Ends, firstEnds, secondEnds}
 use Rattle.index.specs.Sixteen.{Only}
@@ -71,19 +72,25 @@ given-figures maximum m n (suc c) =
     given-bind (figures maximum m n c) (λ (l : List Float). bind (figure maximum m n c) (λ (v : Float). ok (l ++ (v ∷ [])))) (given-figures maximum m n c) (λ l.
     given-bind (figure maximum m n c) (λ (v : Float). ok (l ++ (v ∷ []))) (given-figure maximum m n c) (λ v. given-ok (l ++ (v ∷ []))))
 
--- the table has a place for each cell, and the build gave its figures
-pub record Accepted (g : Grid) (m : Medium) (n : Cells) (places : ℕ) : Type 0 where
+-- the numbers of cells pass, the table has a place for each cell, and the build gave its figures
+pub record Accepted (g : Grid) (m : Medium) (places : ℕ) : Type 0 where
   pub table : List Float
-  pub size : places ≡ n .x * n .y * n .z
-  pub is : build g m n ≡ ok table
-  pub into : buildInto g m n places ≡ ok table
+  pub size : Tabled (m .cells) places
+  pub is : build g m ≡ ok table
+  pub into : buildInto g m places ≡ ok table
 
-pub accepted : (g : Grid) (m : Medium) (n : Cells) (places : ℕ) → numberOf (buildInto g m n places) ≡ 0 → Accepted g m n places
+pub into-parts : (g : Grid) (m : Medium) (places : ℕ) {l : List Float} → buildInto g m places ≡ ok l → Tabled (m .cells) places × (build g m ≡ ok l)
+unfolding buildInto
+into-parts g m places e =
+    let p = passing-ok (tableFault (m .cells) places) (build g m) e in
+    (tabled (m .cells) places (p .0), p .1)
+
+pub accepted : (g : Grid) (m : Medium) (places : ℕ) → numberOf (buildInto g m places) ≡ 0 → Accepted g m places
 unfolding buildInto build
-accepted g m n places e =
+accepted g m places e =
     let faults = validate g then densityFault g then mediumFault m in
-    let r = figures (boxMaximum (readIn g)) m n (n .x * n .y * n .z) in
-    let t = unless (eqb places (n .x * n .y * n .z)) 18 in
-    let p = given-passing t (passing faults r) (given-passing faults r (given-figures (boxMaximum (readIn g)) m n (n .x * n .y * n .z))) e in
-    let q = passing-ok t (passing faults r) (p .1) in
-    record { table = p .0; size = eqb→eq places (n .x * n .y * n .z) (unless-zero (eqb places (n .x * n .y * n .z)) 17 (q .0)); is = q .1; into = p .1 }
+    let r = figures (boxMaximum (readIn g)) m (m .cells) (cellCount (m .cells)) in
+    let each = given-figures (boxMaximum (readIn g)) m (m .cells) (cellCount (m .cells)) in
+    let p = given-passing (tableFault (m .cells) places) (passing faults r) (given-passing faults r each) e in
+    let q = into-parts g m places (p .1) in
+    record { table = p .0; size = q .0; is = q .1; into = p .1 }

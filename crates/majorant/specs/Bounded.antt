@@ -2,7 +2,7 @@
 use mathlib.Core.Path.{_≡_, sym, ap, _∙_, subst}
 use mathlib.Core.Logic.{_⊎_, inl, inr}
 use mathlib.Core.List.{List, [], _∷_, _++_}
-use Prim.Native.Nat.{ℕ, zero, suc, _+_, _*_, _^_, _<_}
+use Prim.Native.Nat.{ℕ, zero, suc, _+_, _^_, _<_}
 use native.Mathlib.Nat.{eq-or-lt-of-le, le-of-suc-le-suc}
 use mathlib.Core.Bool.{false, not}
 use lib.IntN.{ℤ, sucℤ}
@@ -29,6 +29,7 @@ use Rattle.sparse_grid.specs.Lookup.{readIn}
 use Rattle.medium.specs.Medium.{Point, Medium, Axis, onCoord, boundsFault, indexFault, mapFault, mediumFault, each}
 use Rattle.boxes.specs.Boxes.{Box, boxMaximum}
 use Rattle.majorant.specs.Figures.{boxOf, figure, figures}
+use Rattle.cells.specs.Cells.{cellCount}
 use Rattle.index.specs.Cells.{Cells, cellCorner, Ends, one, secondEnds, firstEnds, AroundIn, EnclosesIn}
 use Rattle.index.specs.Index.{worldToIndex}
 use Rattle.majorant.specs.Build.{build}
@@ -166,11 +167,12 @@ figure-bounds read m n k v S e p i c r =
     )
 
 -- ---- a table that was built
-pub record Built (g : Grid) (m : Medium) (n : Cells) (l : List Float) : Type 0 where
+pub record Built (g : Grid) (m : Medium) (l : List Float) : Type 0 where
   pub bounds : (a : Axis) → boundsFault m a ≡ 0
   pub scale : Scaled m
-  pub size : length l ≡ n .x * n .y * n .z
-  pub figure : (k : ℕ) → k < n .x * n .y * n .z → Rattle.majorant.specs.Figures.figure (boxMaximum (readIn g)) m n k ≡ ok (getD l k +0)
+  pub size : length l ≡ cellCount (m .cells)
+  pub figure : (k : ℕ) → k < cellCount (m .cells)
+      → Rattle.majorant.specs.Figures.figure (boxMaximum (readIn g)) m (m .cells) k ≡ ok (getD l k +0)
 
 each-none : (f : Axis → ℕ) → each f ≡ 0 → (a : Axis) → f a ≡ 0
 each-none f e =
@@ -178,16 +180,17 @@ each-none f e =
     let q = then-zero (f yAxis) (f zAxis) (p .1) in
     λ a. elim a [ xAxis ↦ p .0 | yAxis ↦ q .0 | zAxis ↦ q .1 ]
 
-pub built : (g : Grid) (m : Medium) (n : Cells) (l : List Float) → build g m n ≡ ok l → Built g m n l
+pub built : (g : Grid) (m : Medium) (l : List Float) → build g m ≡ ok l → Built g m l
 unfolding build
-built g m n l e =
-    let p = passing-ok (validate g then densityFault g then mediumFault m) (figures (boxMaximum (readIn g)) m n (n .x * n .y * n .z)) e in
+built g m l e =
+    let n = m .cells in
+    let p = passing-ok (validate g then densityFault g then mediumFault m) (figures (boxMaximum (readIn g)) m n (cellCount n)) e in
     let q = then-zero (densityFault g) (mediumFault m) (then-zero (validate g) (densityFault g then mediumFault m) (p .0) .1) .1 in
     let b = then-zero (each (boundsFault m)) (each (indexFault m) then mapFault m) q in
-    let f = figures-at (boxMaximum (readIn g)) m n (n .x * n .y * n .z) l (p .1) in
+    let f = figures-at (boxMaximum (readIn g)) m n (cellCount n) l (p .1) in
     record { bounds = each-none (boundsFault m) (b .0); scale = scaled m (then-zero (each (indexFault m)) (mapFault m) (b .1) .1); size = f .0; figure = f .1 }
 
 -- of a table that was built
-pub bounded : (g : Grid) (m : Medium) (n : Cells) (l : List Float) → build g m n ≡ ok l → (p : Point) (k : ℕ) → k < n .x * n .y * n .z
-    → EnclosesIn m n k p → (c : Coord) → AroundIn m p c → Signed32 c × (lt (getD l k +0) (readIn g c) ≡ false)
-bounded g m n l e p k h i c r = let b = built g m n l e in figure-bounds (readIn g) m n k (getD l k +0) (b .scale) (b .figure k h) p i c r
+pub bounded : (g : Grid) (m : Medium) (l : List Float) → build g m ≡ ok l → (p : Point) (k : ℕ) → k < cellCount (m .cells)
+    → EnclosesIn m (m .cells) k p → (c : Coord) → AroundIn m p c → Signed32 c × (lt (getD l k +0) (readIn g c) ≡ false)
+bounded g m l e p k h i c r = let b = built g m l e in figure-bounds (readIn g) m (m .cells) k (getD l k +0) (b .scale) (b .figure k h) p i c r

@@ -12,7 +12,8 @@ use Rattle.sparse_grid.specs.Tables.{Grid}
 use Rattle.sparse_grid.specs.Validate.{validate, densityFault}
 use Rattle.sparse_grid.specs.Lookup.{lookup}
 use Rattle.medium.specs.Medium.{Point, Medium, makeMedium, boundsFault, indexFault, mapFault}
-use Rattle.index.specs.Cells.{Cells, corner, firstEnds, secondEnds}
+use Rattle.cells.specs.Cells.{Cells, cells, cellsFault, tableFault}
+use Rattle.index.specs.Cells.{corner, firstEnds, secondEnds}
 use Rattle.majorant.specs.Figures.{figure, figures}
 use Rattle.index.specs.Index.{worldToIndex, majorantIndex}
 use Rattle.boxes.specs.Boxes.{boxMaximum}
@@ -48,51 +49,69 @@ smoke =
       leafValues = [];
     }
 
-abbrev box : Medium
-box =
-    makeMedium (at +0) (at (whole 1)) (here (pos 0)) (here (pos 3))
-    (whole 1 ∷ +0 ∷ +0 ∷ +0 ∷ whole 1 ∷ +0 ∷ +0 ∷ +0 ∷ whole 1 ∷ []) (at +0)
+-- a medium with the corners of a world box and of an index box, the map that changes nothing, and n cells
+abbrev mediumOf : Point → Point → Coord → Coord → Cells → Medium
+mediumOf low high first last n = makeMedium low high first last (whole 1 ∷ +0 ∷ +0 ∷ +0 ∷ whole 1 ∷ +0 ∷ +0 ∷ +0 ∷ whole 1 ∷ []) (at +0) n
 
-two : Cells
-two = record { x = 2; y = 1; z = 1 }
+abbrev box : Cells → Medium
+box n = mediumOf (at +0) (at (whole 1)) (here (pos 0)) (here (pos 3)) n
 
-accepted : build smoke box two ≡ ok (half ∷ half ∷ [])
-unfolding build two validate densityFault boundsFault indexFault mapFault figures figure firstEnds secondEnds coordinate majorantIndex worldToIndex
+-- two cells on one axis
+abbrev two : Cells
+two = cells 2 1 1
+
+accepted : build smoke (box two) ≡ ok (half ∷ half ∷ [])
+unfolding build validate densityFault boundsFault indexFault mapFault figures figure firstEnds secondEnds coordinate majorantIndex worldToIndex
     corner boxMaximum lookup F.trunc F.floor F.fma F.plus F.narrow add sub mul div lt le eq ofInt toSigned
 accepted = refl
 
 -- a table of another length than the cells
-too-long : buildInto smoke box two 3 ≡ refused 18
-unfolding buildInto two
+too-long : buildInto smoke (box two) 3 ≡ refused 18
+unfolding buildInto tableFault cellsFault
 too-long = refl
+
+-- 23 comes before 18, for each number: none, and 129 on each axis; 128 passes it
+no-cells : buildInto smoke (box (cells 0 1 1)) 3 ≡ refused 23
+unfolding buildInto tableFault cellsFault
+no-cells = refl
+
+many-x : buildInto smoke (box (cells 129 1 1)) 129 ≡ refused 23
+unfolding buildInto tableFault cellsFault
+many-x = refl
+
+many-y : buildInto smoke (box (cells 1 129 1)) 129 ≡ refused 23
+unfolding buildInto tableFault cellsFault
+many-y = refl
+
+many-z : buildInto smoke (box (cells 1 1 129)) 129 ≡ refused 23
+unfolding buildInto tableFault cellsFault
+many-z = refl
+
+most : buildInto smoke (box (cells 128 128 128)) 2097151 ≡ refused 18
+unfolding buildInto tableFault cellsFault
+most = refl
 
 -- an index box that the cells miss: the first box is empty, the second is not
 abbrev aside : Medium
-aside =
-    makeMedium (at +0) (at (whole 1)) (here (pos 5)) (here (pos 7))
-    (box .map) (at +0)
+aside = mediumOf (at +0) (at (whole 1)) (here (pos 5)) (here (pos 7)) two
 
-missed : build smoke aside two ≡ refused 17
-unfolding build two validate densityFault boundsFault indexFault mapFault figures figure firstEnds secondEnds coordinate majorantIndex worldToIndex
+missed : build smoke aside ≡ refused 17
+unfolding build validate densityFault boundsFault indexFault mapFault figures figure firstEnds secondEnds coordinate majorantIndex worldToIndex
     corner boxMaximum lookup F.trunc F.floor F.fma F.plus F.narrow add sub mul div lt le eq ofInt toSigned
 missed = refl
 
 -- a zero width
 abbrev flat : Medium
-flat =
-    makeMedium (at +0) (at +0) (here (pos 0)) (here (pos 3))
-    (box .map) (at +0)
+flat = mediumOf (at +0) (at +0) (here (pos 0)) (here (pos 3)) two
 
-no-width : build smoke flat two ≡ refused 4
-unfolding build two validate densityFault boundsFault indexFault mapFault figures figure firstEnds secondEnds coordinate majorantIndex worldToIndex
+no-width : build smoke flat ≡ refused 4
+unfolding build validate densityFault boundsFault indexFault mapFault figures figure firstEnds secondEnds coordinate majorantIndex worldToIndex
     corner boxMaximum lookup F.trunc F.floor F.fma F.plus F.narrow add sub mul div lt le eq ofInt toSigned
 no-width = refl
 
 -- a thin world box: corner 63 lies below corner 62, so corners do not rise with k, and cell 62 encloses nothing
 abbrev thin : Medium
-thin =
-    makeMedium (at (ofBits binary32 1068668056)) (at (ofBits binary32 1068668065)) (here (pos 0)) (here (pos 3))
-    (box .map) (at +0)
+thin = mediumOf (at (ofBits binary32 1068668056)) (at (ofBits binary32 1068668065)) (here (pos 0)) (here (pos 3)) (cells 64 64 64)
 
 swapped : lt (corner thin xAxis 64 63) (corner thin xAxis 64 62) ≡ true
 unfolding corner add sub mul div lt ofInt ofBits

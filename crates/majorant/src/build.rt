@@ -1,14 +1,14 @@
 // The table of majorants, over the lent tables of a grid that passed validate. The ends of a cell's boxes are worked out once for each axis.
 ghost use mathlib.Core.Path.{_≡_};
 ghost use Prim.Native.Nat.{ℕ, _+_, _*_, _<_, _≤_};
-ghost use lib.Dec.{eqb};
 ghost use lib.ListN.{length, take};
 ghost use lib.Ieee.{lt};
 ghost use Rattle.refusals.specs.Results.{ok};
-ghost use Rattle.refusals.specs.Faults.{_then_, unless, passing};
+ghost use Rattle.refusals.specs.Faults.{_then_, passing};
 ghost use Rattle.sparse_grid.specs.Tables.{gridOf};
 ghost use Rattle.sparse_grid.specs.Validate.{validate, densityFault};
 ghost use Rattle.sparse_grid.specs.Lookup.{readIn};
+ghost use Rattle.cells.specs.Cells.{tableFault};
 ghost use Rattle.medium.specs.Medium.{mediumFault, mapFault};
 ghost use Rattle.medium.specs.Record.{asMedium};
 ghost use Rattle.index.specs.Axes.{axisEnds};
@@ -17,6 +17,7 @@ ghost use Rattle.boxes.specs.Boxes.{boxMaximum};
 ghost use Rattle.majorant.specs.Figures.{figures};
 ghost use Rattle.majorant.specs.Rows.{figureOf, firstBox, secondBox, firstHolds, endsIn, cellFigure, rowOf, planeOf, volumeOf};
 use crate::range_max::range_max;
+use cells::table_fault;
 use index::AxisEnds;
 use index::Line;
 use index::axis_ends;
@@ -248,8 +249,8 @@ fn cell_figure(
 }
 
 // The ends of the n cells of an axis.
-fn axis_table(l: Line, n: u32) -> [AxisEnds; 64]
-    requires { ⌜ n ≤ 64 ⌝ }
+fn axis_table(l: Line, n: u32) -> [AxisEnds; 128]
+    requires { ⌜ n ≤ 128 ⌝ }
     ensures { λ r. ⌜ ((k : ℕ) → k < n → endsIn r k ≡ axisEnds (asLine l) n k) ⌝ }
 {
     let none = AxisEnds {
@@ -259,7 +260,7 @@ fn axis_table(l: Line, n: u32) -> [AxisEnds; 64]
         second_lo: 0,
         second_hi: 0,
     };
-    let mut table = [none; 64];
+    let mut table = [none; 128];
     let mut k: u32 = 0;
     while k < n {
         let i = k as usize;
@@ -280,7 +281,7 @@ fn row(
     lower_links: &[u32],
     lower_values: &[f32],
     leaf_values: &[f32],
-    xs: [AxisEnds; 64],
+    xs: [AxisEnds; 128],
     y: AxisEnds,
     z: AxisEnds,
     n: usize,
@@ -289,7 +290,7 @@ fn row(
 ) -> u32
     requires { let g = gridOf background (now blocks) (now «root_links») (now «root_values») (now «upper_links») (now «upper_values»)
         (now «lower_links») (now «lower_values») (now «leaf_values») in
-        ⌜ (validate g ≡ 0) × (n ≤ 64) × (start + n ≤ length (now majorants)) ⌝ }
+        ⌜ (validate g ≡ 0) × (n ≤ 128) × (start + n ≤ length (now majorants)) ⌝ }
     ensures { λ r.
         let g = gridOf background (now (blocks .entry)) (now («root_links» .entry)) (now («root_values» .entry))
         (now («upper_links» .entry)) (now («upper_values» .entry)) (now («lower_links» .entry)) (now («lower_values» .entry))
@@ -333,8 +334,8 @@ fn plane(
     lower_links: &[u32],
     lower_values: &[f32],
     leaf_values: &[f32],
-    xs: [AxisEnds; 64],
-    ys: [AxisEnds; 64],
+    xs: [AxisEnds; 128],
+    ys: [AxisEnds; 128],
     z: AxisEnds,
     nx: usize,
     ny: usize,
@@ -343,7 +344,7 @@ fn plane(
 ) -> u32
     requires { let g = gridOf background (now blocks) (now «root_links») (now «root_values») (now «upper_links») (now «upper_values»)
         (now «lower_links») (now «lower_values») (now «leaf_values») in
-        ⌜ (validate g ≡ 0) × (nx ≤ 64) × (ny ≤ 64) × (start + ny * nx ≤ length (now majorants)) ⌝ }
+        ⌜ (validate g ≡ 0) × (nx ≤ 128) × (ny ≤ 128) × (start + ny * nx ≤ length (now majorants)) ⌝ }
     ensures { λ r.
         let g = gridOf background (now (blocks .entry)) (now («root_links» .entry)) (now («root_values» .entry))
         (now («upper_links» .entry)) (now («upper_values» .entry)) (now («lower_links» .entry)) (now («lower_values» .entry))
@@ -391,9 +392,9 @@ pub(crate) fn volume(
     lower_links: &[u32],
     lower_values: &[f32],
     leaf_values: &[f32],
-    xs: [AxisEnds; 64],
-    ys: [AxisEnds; 64],
-    zs: [AxisEnds; 64],
+    xs: [AxisEnds; 128],
+    ys: [AxisEnds; 128],
+    zs: [AxisEnds; 128],
     nx: usize,
     ny: usize,
     nz: usize,
@@ -401,7 +402,7 @@ pub(crate) fn volume(
 ) -> u32
     requires { let g = gridOf background (now blocks) (now «root_links») (now «root_values») (now «upper_links») (now «upper_values»)
         (now «lower_links») (now «lower_values») (now «leaf_values») in
-        ⌜ (validate g ≡ 0) × (nx ≤ 64) × (ny ≤ 64) × (nz ≤ 64) × (nz * (ny * nx) ≤ length (now majorants)) ⌝ }
+        ⌜ (validate g ≡ 0) × (nx ≤ 128) × (ny ≤ 128) × (nz ≤ 128) × (nz * (ny * nx) ≤ length (now majorants)) ⌝ }
     ensures { λ r.
         let g = gridOf background (now (blocks .entry)) (now («root_links» .entry)) (now («root_values» .entry))
         (now («upper_links» .entry)) (now («upper_values» .entry)) (now («lower_links» .entry)) (now («lower_values» .entry))
@@ -458,7 +459,7 @@ pub(crate) fn cells(
 ) -> u32
     requires { let g = gridOf background (now blocks) (now «root_links») (now «root_values») (now «upper_links») (now «upper_values»)
         (now «lower_links») (now «lower_values») (now «leaf_values») in
-        ⌜ (validate g ≡ 0) × (mapFault (asMedium m) ≡ 0) × (nx ≤ 64) × (ny ≤ 64) × (nz ≤ 64) × (nz * (ny * nx) ≤ length (now majorants)) ⌝ }
+        ⌜ (validate g ≡ 0) × (mapFault (asMedium m) ≡ 0) × (nx ≤ 128) × (ny ≤ 128) × (nz ≤ 128) × (nz * (ny * nx) ≤ length (now majorants)) ⌝ }
     ensures { λ r.
         let g = gridOf background (now (blocks .entry)) (now («root_links» .entry)) (now («root_values» .entry))
         (now («upper_links» .entry)) (now («upper_values» .entry)) (now («lower_links» .entry)) (now («lower_values» .entry))
@@ -489,7 +490,7 @@ pub(crate) fn cells(
     )
 }
 
-// 18 for the length of the table, then validate, 15, 4, 14, 13.
+// 23 and 18 for the table, then validate, 15, 4, 14, 13.
 pub(crate) fn build_fault(
     background: f32,
     blocks: &[i32],
@@ -502,16 +503,17 @@ pub(crate) fn build_fault(
     leaf_values: &[f32],
     m: Medium,
     places: usize,
-    count: usize,
 ) -> u32
     ensures { λ r.
         let g = gridOf background (now (blocks .entry)) (now («root_links» .entry)) (now («root_values» .entry))
         (now («upper_links» .entry)) (now («upper_values» .entry)) (now («lower_links» .entry)) (now («lower_values» .entry))
         (now («leaf_values» .entry)) in
-        ⌜ r ≡ (unless (eqb places count) 18 then (validate g then densityFault g then mediumFault (asMedium m))) ⌝ }
+        ⌜ r ≡ (tableFault (asMedium m .cells) places then (validate g then densityFault g then mediumFault (asMedium m))) ⌝ }
 {
-    if places != count {
-        return refusals::TABLES;
+    let n = m.cells;
+    let table = table_fault(n[0], n[1], n[2], places);
+    if table != 0 {
+        return table;
     }
     let fault = validate_density(
         background,

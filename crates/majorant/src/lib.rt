@@ -6,7 +6,7 @@ ghost use lib.ListN.{length, replicate};
 ghost use Rattle.refusals.specs.Results.{numberOf, valueOr, said};
 ghost use Rattle.float.specs.Zero.{+0};
 ghost use Rattle.medium.specs.Record.{asMedium};
-ghost use Rattle.majorant.specs.Build.{publicMaximum, cube, buildInto};
+ghost use Rattle.majorant.specs.Build.{publicMaximum, buildInto};
 ghost use Rattle.majorant.specs.Maxima.{maximaInto, greatestInto};
 ghost use Rattle.boxes.specs.Boxes.{between};
 
@@ -143,7 +143,7 @@ pub fn box_maxima(
     Answer::Value(greatest)
 }
 
-// The table of majorants, one figure for each of the 64 x 64 x 64 cells: cell x + 64y + 4096z. After a refusal its number, and the table is zero.
+// The table of majorants, one figure for each cell of the record's X, Y and Z: cell x + X (y + Y z). After a refusal its number, and the table is zero.
 pub fn build_majorant(
     background: f32,
     blocks: &[i32],
@@ -161,13 +161,13 @@ pub fn build_majorant(
         let g = gridOf background (now (blocks .entry)) (now («root_links» .entry)) (now («root_values» .entry))
         (now («upper_links» .entry)) (now («upper_values» .entry)) (now («lower_links» .entry)) (now («lower_values» .entry))
         (now («leaf_values» .entry)) in
-        ⌜ r ≡ numberOf (buildInto g (asMedium m) (cube 64) (length (now (majorants .entry)))) ⌝ }
+        ⌜ r ≡ numberOf (buildInto g (asMedium m) (length (now (majorants .entry)))) ⌝ }
     ensures table { λ r.
         let g = gridOf background (now (blocks .entry)) (now («root_links» .entry)) (now («root_values» .entry))
         (now («upper_links» .entry)) (now («upper_values» .entry)) (now («lower_links» .entry)) (now («lower_values» .entry))
         (now («leaf_values» .entry)) in
         let n = length (now (majorants .entry)) in
-        ⌜ now (majorants .exit) ≡ valueOr (replicate n +0) (buildInto g (asMedium m) (cube 64) n) ⌝ }
+        ⌜ now (majorants .exit) ≡ valueOr (replicate n +0) (buildInto g (asMedium m) n) ⌝ }
 {
     let before = build_fault(
         background,
@@ -181,12 +181,12 @@ pub fn build_majorant(
         leaf_values,
         m,
         majorants.len(),
-        262144,
     );
     if before != 0 {
         zero_f32(majorants);
         return before;
     }
+    let n = m.cells;
     let number = cells(
         background,
         blocks,
@@ -198,9 +198,9 @@ pub fn build_majorant(
         lower_values,
         leaf_values,
         m,
-        64,
-        64,
-        64,
+        n[0],
+        n[1],
+        n[2],
         majorants,
     );
     if number != 0 {

@@ -13,7 +13,7 @@ use Rattle.majorant.proofs.build.axis_table.Statement.{statement}
 use Rattle.majorant.proofs.build.axis_table.Tie as tie
 
 abbrev Inv-loop : tie.InvT-loop
-Inv-loop l n table₀ k₀ table k = (k ≤ n) × (length table ≡ 64) × ((j : ℕ) → j < k → endsIn table j ≡ axisEnds (asLine l) n j)
+Inv-loop l n table₀ k₀ table k = (k ≤ n) × (length table ≡ 128) × ((j : ℕ) → j < k → endsIn table j ≡ axisEnds (asLine l) n j)
 
 abbrev μ-loop : tie.MeasureT-loop
 μ-loop l n table₀ k₀ table k = n - k
