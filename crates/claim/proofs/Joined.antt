@@ -11,6 +11,8 @@ use Rattle.float.specs.Zero.{+0}
 use Rattle.layout.specs.Bytes.{Bytes}
 use Rattle.layout.specs.Walk.{voxel}
 use Rattle.sparse_grid.specs.Tables.{Grid}
+use Rattle.cells.specs.Cells.{cellCount}
+use Rattle.cells.specs.Counted.{Counted}
 use Rattle.medium.specs.Medium.{Medium, Point, Axis, boundsFault}
 use Rattle.medium.specs.Alike.{alike-same}
 use Rattle.nanovdb.specs.Decode.{Accepted, decodeDensity, mediumOf}
@@ -20,13 +22,14 @@ use Rattle.nanovdb.specs.Numbers as Numbers
 use Rattle.nanovdb.specs.Numbers.{Numbered, numbered, not-zero}
 use Rattle.nanovdb.specs.UsedLaws.{accepts, used-parts, used-room}
 use Rattle.index.specs.Found.{cellAt}
+use Rattle.index.specs.Enclosed as Cells
 use Rattle.index.specs.Enclosed.{cell-found, cell-encloses}
 use Rattle.boxes.specs.Boxes.{boxMaximum}
 use Rattle.majorant.specs.Bounded.{built}
 use Rattle.majorant.specs.Build.{buildInto}
 use Rattle.majorant.specs.Accepted as Built
-use Rattle.claim.specs.Claim.{Inside, Bounds, cells}
-use Rattle.claim.specs.Points.{fitting, few}
+use Rattle.claim.specs.Claim.{Inside, Bounds}
+use Rattle.claim.specs.Points.{fitting}
 use Rattle.claim.specs.Theorem.{demand3}
 use Rattle.claim.specs.Load as Load
 use Rattle.claim.specs.Load.{withBuild, load, loadAnswer, Claimed, Loads}
@@ -50,15 +53,15 @@ pub found-stop : (n : ℕ) (m : Medium) (table : List Float) (p : Point) → (n 
 found-stop zero m table p h = absurd (h refl)
 found-stop (suc n) m table p h = refl
 
-pub found-on : (n : ℕ) (m : Medium) (table : List Float) (p : Point) → n ≡ 0 → {c : ℕ} {f : Float} → c ≡ cellAt m cells p → f ≡ getD table c +0
+pub found-on : (n : ℕ) (m : Medium) (table : List Float) (p : Point) → n ≡ 0 → {c : ℕ} {f : Float} → c ≡ cellAt m (m .cells) p → f ≡ getD table c +0
     → _≡_ {A = Found} (record { cell = c; figure = f }) (foundIn n m table p)
 found-on n m table p e c-is f-is =
     (λ i. record { cell = c-is i; figure = (f-is ∙ ap (λ (k : ℕ). getD table k +0) c-is) i })
     ∙ ap (λ (k : ℕ). foundIn k m table p) (sym e)
 
 -- a build into a table is refused by a number above 0
-build-number : (g : Grid) (m : Medium) (places n : ℕ) → buildInto g m cells places ≡ refused n → n ≡ 0 → ⊥
-build-number g m places n e z = stopped (sym e ∙ Built.accepted g m cells places (ap numberOf e ∙ z) .into)
+build-number : (g : Grid) (m : Medium) (places n : ℕ) → buildInto g m places ≡ refused n → n ≡ 0 → ⊥
+build-number g m places n e z = stopped (sym e ∙ Built.accepted g m places (ap numberOf e ∙ z) .into)
 
 -- an answer from its three parts
 abbrev pub joined : Load.Answer → Seen → Found → Answer
@@ -104,7 +107,7 @@ module _ (b : List ℕ) (l : Lent) (places : ℕ) where
   -- the build of the used parts is that of the load
   build-of : (r : Result Accepted) → decodeInto decodeDensity b l ≡ r → Numbered r
       → buildIn (answerOf r) (usedOf (answerOf r) (leftOf l r)) places ≡ withBuild places r .built
-  build-of (ok t) e n = ap (λ (g : Grid). buildInto g (t .medium) cells places) (used-parts b l t e)
+  build-of (ok t) e n = ap (λ (g : Grid). buildInto g (t .medium) places) (used-parts b l t e)
   build-of (refused k) e (Numbers.number j) = refl
 
   build-is : {a : Lent.Answer} {left : Tables} → Decode b l a left → buildIn a (usedOf a left) places ≡ load b l places .built
@@ -120,7 +123,7 @@ module _ (b : List ℕ) (l : Lent) (places : ℕ) where
     claimed z =
         let H = through-contracts b bytes l a left (d .answer-is) (d .tables-are) z in
         let g = usedOf a left in
-        let p : buildIn a g places ≡ buildInto g (a .medium) cells places = ap (λ (n : ℕ). passing n (buildInto g (a .medium) cells places)) z in
+        let p : buildIn a g places ≡ buildInto g (a .medium) places = ap (λ (n : ℕ). passing n (buildInto g (a .medium) places)) z in
         record {
           grid = H;
           figures = λ zero. H .keeps .figures (a .medium) alike-same places k table
@@ -136,11 +139,23 @@ module _ (b : List ℕ) (l : Lent) (places : ℕ) where
       claim = claimed;
     }
 
+  -- a build that answered 0 took numbers of cells that pass
+  counted-of : (r : Result Accepted) → Numbered r → numberOf (withBuild places r .built) ≡ 0 → Counted (answerOf r .medium .cells)
+  counted-of (ok t) n z = Built.accepted (t .grid) (t .medium) places z .size .count
+  counted-of (refused k) n z = absurd (not-zero n z)
+
+  pub counted-in : {a : Load.Answer} {left : Tables} {table : List Float} → Loads b l places a left table → a .build ≡ 0
+      → Counted (a .decode .medium .cells)
+  unfolding load
+  counted-in L z =
+      subst (λ (y : Load.Answer). Counted (y .decode .medium .cells)) (sym (L .answer-is))
+      (counted-of (decodeInto decodeDensity b l) (numbered b l) (sym (ap (λ (y : Load.Answer). y .build) (L .answer-is)) ∙ z))
+
   -- ---- ask
 
   module _ (q : Question) (bytes : Bytes b) (small : Small q) where
     abbrev k : ℕ
-    k = cellAt (mediumOf b) cells (q .point)
+    k = cellAt (mediumOf b) (mediumOf b .cells) (q .point)
 
     -- what the definition answers of a decode that gave r, and of a build that gave s
     abbrev seenOf : Result Accepted → Seen
@@ -164,7 +179,7 @@ module _ (b : List ℕ) (l : Lent) (places : ℕ) where
         ∙ (λ i. record { value = valueOr +0 (v i); maximum = valueOr +0 (m i) })
     seen-of (refused n) e (Numbers.number j) = refl
 
-    found-of : (t : Accepted) → decodeInto decodeDensity b l ≡ ok t → (s : Result (List Float)) → buildInto (t .grid) (t .medium) cells places ≡ s
+    found-of : (t : Accepted) → decodeInto decodeDensity b l ≡ ok t → (s : Result (List Float)) → buildInto (t .grid) (t .medium) places ≡ s
         → foundIn (numberOf s) (t .medium) (valueOr (replicate places +0) s) (q .point) ≡ foundOf s
     found-of t e (ok f) h = ap (λ (m : Medium). foundIn 0 m f (q .point)) (same-medium b bytes l t e)
     found-of t e (refused (suc n)) h = refl
@@ -175,16 +190,17 @@ module _ (b : List ℕ) (l : Lent) (places : ℕ) where
         (foundIn (numberOf (withBuild places r .built)) (answerOf r .medium) (valueOr (replicate places +0) (withBuild places r .built)) (q .point))
         ≡ answer b q (withBuild places r)
     answer-of (ok t) e n =
-        let s = buildInto (t .grid) (t .medium) cells places in
+        let s = buildInto (t .grid) (t .medium) places in
         λ i. joined (loadAnswer (withBuild places (ok t))) (seen-of (ok t) e n i) (found-of t e s refl i)
     answer-of (refused n) e (Numbers.number j) = refl
 
     -- the cell and the figure of the definition, of a table f for which the claim holds
-    figured : (a : Load.Answer) (v : Seen) (f : List Float) → ((x : Axis) → boundsFault (mediumOf b) x ≡ 0) → ((p : Point) → Inside b p → Bounds b f p)
-        → Figured b q (joined a v (foundOf (ok f))) f
-    figured a v f bounds figures =
-        let found : Inside b (q .point) → k < 262144 = cell-found (mediumOf b) cells few (fitting b) bounds (q .point) in
-        let encloses = cell-encloses (mediumOf b) cells (q .point) in
+    figured : (a : Load.Answer) (v : Seen) (f : List Float) → Counted (mediumOf b .cells) → ((x : Axis) → boundsFault (mediumOf b) x ≡ 0)
+        → ((p : Point) → Inside b p → Bounds b (mediumOf b .cells) f p) → Figured b q (joined a v (foundOf (ok f))) f
+    figured a v f some bounds figures =
+        let n = mediumOf b .cells in
+        let found : Inside b (q .point) → k < cellCount n = cell-found (mediumOf b) n (Cells.numbered some) (fitting b) bounds (q .point) in
+        let encloses = cell-encloses (mediumOf b) n (q .point) in
         record {
           found = found;
           encloses = encloses;
@@ -194,20 +210,21 @@ module _ (b : List ℕ) (l : Lent) (places : ℕ) where
 
     -- the claim of the definition's answer, where the decode accepted
     answered : (t : Accepted) → decodeInto decodeDensity b l ≡ ok t → (left : Tables) (table : List Float)
-        → table ≡ valueOr (replicate places +0) (buildInto (t .grid) (t .medium) cells places)
+        → table ≡ valueOr (replicate places +0) (buildInto (t .grid) (t .medium) places)
         → Claimed b l (loadAnswer (withBuild places (ok t))) left table → Answered b l q (answer b q (withBuild places (ok t))) left table
     answered t e left table table-is claim = record {
       load = claim;
       value = looked b bytes l t e (q .coordinate) (small .coordinate) .1;
       maximum = demand3 b bytes (placesOf l) t (accepts b l t e) .maxima (q .box) (small .low) (small .high) .1;
       cell = λ z.
-          let B = Built.accepted (t .grid) (t .medium) cells places z in
+          let B = Built.accepted (t .grid) (t .medium) places z in
+          let same = same-medium b bytes l t e in
+          let some = subst (λ (m : Medium). Counted (m .cells)) same (B .size .count) in
           let is : table ≡ B .table = table-is ∙ ap (valueOr (replicate places +0)) (B .into) in
-          let bounds = subst (λ (m : Medium). (x : Axis) → boundsFault m x ≡ 0) (same-medium b bytes l t e)
-          (built (t .grid) (t .medium) cells (B .table) (B .is) .bounds) in
-          let figures = subst (λ (f : List Float). (p : Point) → Inside b p → Bounds b f p) is (claim .figures z) in
+          let bounds = subst (λ (m : Medium). (x : Axis) → boundsFault m x ≡ 0) same (built (t .grid) (t .medium) (B .table) (B .is) .bounds) in
+          let figures = subst (λ (X : Type 0). X) (λ i. (p : Point) → Inside b p → Bounds b (same i .cells) (is i) p) (claim .figures z) in
           subst (λ (X : Type 0). X) (sym (λ i. Figured b q (joined (loadAnswer (withBuild places (ok t))) (seenOf (ok t)) (foundOf (B .into i))) (is i)))
-          (figured (loadAnswer (withBuild places (ok t))) (seenOf (ok t)) (B .table) bounds figures);
+          (figured (loadAnswer (withBuild places (ok t))) (seenOf (ok t)) (B .table) some bounds figures);
     }
 
     module _ {a : Load.Answer} {left : Tables} {table : List Float} (L : Loads b l places a left table) {x : Answer}

@@ -8,16 +8,18 @@ use lib.Ieee.{Float, binary32, toBits, lt}
 use Rattle.float.specs.Zero.{+0}
 use Rattle.layout.specs.Coordinates.{Coord, Signed32}
 use Rattle.layout.specs.Walk.{walk, voxel}
+use Rattle.cells.specs.Cells.{cellCount}
+use Rattle.nanovdb.specs.Decode.{mediumOf}
 use Rattle.nanovdb.specs.Lent.{Lent, Tables}
 use Rattle.boxes.specs.Boxes.{Greatest}
-use Rattle.claim.specs.Claim.{Inside, Around, Encloses, cells}
+use Rattle.claim.specs.Claim.{Inside, Around, Encloses}
 use Rattle.claim.specs.Load.{load, tablesLeft, figuresLeft, Claimed}
 use Rattle.claim.specs.Ask.{Question, Answer, answer}
 
 -- the cell and the figure, where the build answered 0
 pub record Figured (b : List ℕ) (q : Question) (a : Answer) (table : List Float) : Type 0 where
-  pub found : Inside b (q .point) → a .cell < 262144
-  pub encloses : a .cell < 262144 → Encloses b cells (a .cell) (q .point)
+  pub found : Inside b (q .point) → a .cell < cellCount (mediumOf b .cells)
+  pub encloses : a .cell < cellCount (mediumOf b .cells) → Encloses b (mediumOf b .cells) (a .cell) (q .point)
   pub figure : a .figure ≡ getD table (a .cell) +0
   pub bounded : Inside b (q .point) → (c : Coord) → Around b (q .point) c → Signed32 c × (lt (a .figure) (voxel b c) ≡ false)
 

@@ -11,7 +11,6 @@ use Rattle.medium.specs.Medium.{Point}
 use Rattle.nanovdb.specs.Decode.{Accepted, mediumOf}
 use Rattle.index.specs.Found.{cellAt}
 use Rattle.boxes.specs.Boxes.{Box, boxMaximum}
-use Rattle.claim.specs.Claim.{cells}
 use Rattle.claim.specs.Load as Load
 use Rattle.claim.specs.Load.{Loaded, loadAnswer}
 
@@ -21,7 +20,7 @@ pub record Question : Type 0 where
   pub point : Point
 
 -- what the load answers; the voxel and the greatest of zero and the voxels of the box, +0 after a refused decode; the number and
--- the figure of a cell that encloses the point (262,144 and +0 where none does), 0 and +0 after a refused build
+-- the figure of a cell that encloses the point (the number of cells and +0 where none does), 0 and +0 after a refused build
 pub record Answer : Type 0 where
   pub load : Load.Answer
   pub value : Float
@@ -32,7 +31,7 @@ pub record Answer : Type 0 where
 -- voxels, corners and the map are read from the bytes
 abbrev pub answer : List ℕ → Question → Loaded → Answer
 answer b q r =
-    let k = cellAt (mediumOf b) cells (q .point) in
+    let k = cellAt (mediumOf b) (mediumOf b .cells) (q .point) in
     record {
       load = loadAnswer r;
       value = valueOr +0 (bind (r .decoded) (λ (t : Accepted). ok (voxel b (q .coordinate))));

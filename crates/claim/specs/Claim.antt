@@ -17,8 +17,9 @@ use Rattle.nanovdb.specs.Nodes.{Places}
 use Rattle.nanovdb.specs.Decode.{Accepted, decodeDensity, mediumOf}
 use Rattle.nanovdb.specs.Agreement.{ReadsAs}
 use Rattle.boxes.specs.Boxes.{Box, Greatest, boxMaximum}
-use Rattle.index.specs.Cells.{Cells, Between, EnclosesIn, AroundIn}
-use Rattle.majorant.specs.Build.{build, publicMaximum}
+use Rattle.cells.specs.Cells.{Cells, cellCount}
+use Rattle.index.specs.Cells.{Between, EnclosesIn, AroundIn}
+use Rattle.majorant.specs.Build.{buildInto, publicMaximum}
 
 -- one of the eight voxels around a point, with the map and translation in the bytes
 abbrev pub Around : List ℕ → Point → Coord → Type 0
@@ -32,22 +33,19 @@ Encloses b n k p = EnclosesIn (mediumOf b) n k p
 abbrev pub Inside : List ℕ → Point → Type 0
 Inside b p = Between (mediumOf b .low) (mediumOf b .high) p
 
-abbrev pub cells : Cells
-cells = record { x = 64; y = 64; z = 64 }
-
--- what holds of a table that was built of the accepted grid
-pub record Bounds (b : List ℕ) (figures : List Float) (p : Point) : Type 0 where
-  pub enclosed : (k : ℕ) × (k < 262144) × Encloses b cells k p
-  pub bounded : (k : ℕ) → k < 262144 → Encloses b cells k p → (c : Coord) → Around b p c
+-- what holds of a table of n cells that was built of the accepted grid
+pub record Bounds (b : List ℕ) (n : Cells) (figures : List Float) (p : Point) : Type 0 where
+  pub enclosed : (k : ℕ) × (k < cellCount n) × Encloses b n k p
+  pub bounded : (k : ℕ) → k < cellCount n → Encloses b n k p → (c : Coord) → Around b p c
       → Signed32 c × (lt (getD figures k +0) (voxel b c) ≡ false)
 
--- what holds of an accepted grid: its lookups, its box maxima, and the figures of a table built of it
+-- what holds of an accepted grid: its lookups, its box maxima, and the figures of a table built of it, whatever numbers of cells stand in the record then
 pub record Holds (b : List ℕ) (t : Accepted) : Type 0 where
   pub lookups : (c : Coord) → Signed32 c → ReadsAs b c (lookup (t .grid) c)
   pub maxima : (x : Box) → Signed32 (x .lo) → Signed32 (x .hi)
       → (publicMaximum (t .grid) x ≡ ok (boxMaximum (voxel b) x)) × Greatest (voxel b) x (boxMaximum (voxel b) x)
-  pub figures : (m : Medium) → Alike (t .medium) m → (l : List Float) → build (t .grid) m cells ≡ ok l
-      → (p : Point) → Inside b p → Bounds b l p
+  pub figures : (m : Medium) → Alike (t .medium) m → (places : ℕ) (l : List Float) → buildInto (t .grid) m places ≡ ok l
+      → (p : Point) → Inside b p → Bounds b (m .cells) l p
 
 abbrev pub Demand3 : Type 0
 Demand3 = (b : List ℕ) → Bytes b → (p : Places) (t : Accepted) → decodeDensity b p ≡ ok t → Holds b t

@@ -14,6 +14,7 @@ use Rattle.layout.specs.Walk.{walk, voxel}
 use Rattle.sparse_grid.specs.Tables.{Grid}
 use Rattle.sparse_grid.specs.Lookup.{lookup}
 use Rattle.sparse_grid.specs.Answers.{valueOnly, Spoken, unspoken, spoken}
+use Rattle.cells.specs.Cells.{cellCount}
 use Rattle.medium.specs.Medium.{Point, Medium, mapFault}
 use Rattle.medium.specs.Alike.{Alike}
 use Rattle.nanovdb.specs.Decode.{Accepted, decodeDensity, mediumOf}
@@ -29,7 +30,7 @@ use Rattle.majorant.specs.Build.{publicMaximum, buildInto}
 use Rattle.majorant.specs.Maxima.{boxAt, maximaOf, greatestOf, greatestInto}
 use Rattle.majorant.specs.MaximaLaws.{maxima-greatest}
 use Rattle.majorant.specs.Accepted as Built
-use Rattle.claim.specs.Claim.{Inside, Bounds, Holds, cells}
+use Rattle.claim.specs.Claim.{Inside, Bounds, Holds}
 use Rattle.claim.specs.Theorem.{demand3}
 use Rattle.claim.specs.Lists.{listed, listed-greatest}
 use Rattle.claim.specs.Contracts.{indexOf, Keeps, Handed, ThroughContracts}
@@ -67,12 +68,13 @@ module _ (b : List ℕ) (bytes : Bytes b) (l : Lent) (t : Accepted) (e : decodeI
 
   -- a build of the accepted grid that answered 0
   pub figured : (n : Medium) → Alike (t .medium) n → (places number : ℕ) (table : List Float)
-      → number ≡ numberOf (buildInto (t .grid) n cells places) → table ≡ valueOr (replicate places +0) (buildInto (t .grid) n cells places)
-      → number ≡ 0 → (places ≡ 262144) × ((p : Point) → Inside b p → Bounds b table p)
+      → number ≡ numberOf (buildInto (t .grid) n places) → table ≡ valueOr (replicate places +0) (buildInto (t .grid) n places)
+      → number ≡ 0 → (places ≡ cellCount (n .cells)) × ((p : Point) → Inside b p → Bounds b (n .cells) table p)
   figured n alike places number table number-is table-is z =
-      let B = Built.accepted (t .grid) n cells places (sym number-is ∙ z) in
+      let B = Built.accepted (t .grid) n places (sym number-is ∙ z) in
       let is : table ≡ B .table = table-is ∙ ap (valueOr (replicate places +0)) (B .into) in
-      (B .size, subst (λ (f : List Float). (p : Point) → Inside b p → Bounds b f p) (sym is) (holds .figures n alike (B .table) (B .is)))
+      let bounds = holds .figures n alike places (B .table) (B .into) in
+      (B .size .places-is, subst (λ (f : List Float). (p : Point) → Inside b p → Bounds b (n .cells) f p) (sym is) bounds)
 
   keeps : Keeps b (t .grid) (t .medium)
   keeps = record {

@@ -14,6 +14,7 @@ use Rattle.layout.specs.Walk.{walk, voxel}
 use Rattle.sparse_grid.specs.Tables.{Grid}
 use Rattle.sparse_grid.specs.Lookup.{lookup}
 use Rattle.sparse_grid.specs.Answers.{valueOnly, Spoken, unspoken, spoken}
+use Rattle.cells.specs.Cells.{cellCount}
 use Rattle.medium.specs.Medium.{Point, Medium, xAxis, yAxis, zAxis}
 use Rattle.medium.specs.Alike.{Alike}
 use Rattle.nanovdb.specs.Decode.{decodeDensity, mediumOf}
@@ -23,7 +24,7 @@ use Rattle.index.specs.Answers.{indexBits}
 use Rattle.boxes.specs.Boxes.{Box, InSome, GreatestOver, Greatest, boxMaximum}
 use Rattle.majorant.specs.Build.{publicMaximum, buildInto}
 use Rattle.majorant.specs.Maxima.{boxAt, maximaOf, maximaInto, greatestInto}
-use Rattle.claim.specs.Claim.{Inside, Bounds, cells}
+use Rattle.claim.specs.Claim.{Inside, Bounds}
 
 -- the bits of a point's index position, with the map and the translation in the bytes
 abbrev pub indexOf : List ℕ → Point → List ℕ
@@ -55,10 +56,10 @@ pub record Keeps (b : List ℕ) (g : Grid) (m : Medium) : Type 0 where
       × GreatestOver (voxel b) (InSome (boxAt boxes) n) (a .value)
   -- world_to_index_f is not refused, and answers the position by which `Bounds` finds the eight voxels
   pub positions : (p : Point) (r : Result (List ℕ)) → r ≡ indexBits m p → r ≡ ok (indexOf b p)
-  -- build_majorant, with a medium of the same corners, map and translation: what a table holds that it filled
+  -- build_majorant, with a medium of the same corners, map and translation and any three numbers of cells: what a table holds that it filled
   pub figures : (n : Medium) → Alike m n → (places number : ℕ) (table : List Float)
-      → number ≡ numberOf (buildInto g n cells places) → table ≡ valueOr (replicate places +0) (buildInto g n cells places)
-      → number ≡ 0 → (places ≡ 262144) × ((p : Point) → Inside b p → Bounds b table p)
+      → number ≡ numberOf (buildInto g n places) → table ≡ valueOr (replicate places +0) (buildInto g n places)
+      → number ≡ 0 → (places ≡ cellCount (n .cells)) × ((p : Point) → Inside b p → Bounds b (n .cells) table p)
 
 -- What a decode that answered 0 hands on: the used parts that it counts lie within the tables and zeros stand past them, the
 -- medium is that of the bytes, and both keep the claim.

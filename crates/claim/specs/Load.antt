@@ -11,7 +11,7 @@ use Rattle.nanovdb.specs.Decode.{Accepted, decodeDensity}
 use Rattle.nanovdb.specs.Lent as Lent
 use Rattle.nanovdb.specs.Lent.{Lent, Tables, decodeInto, answerOf, leftOf}
 use Rattle.majorant.specs.Build.{buildInto}
-use Rattle.claim.specs.Claim.{Inside, Bounds, cells}
+use Rattle.claim.specs.Claim.{Inside, Bounds}
 use Rattle.claim.specs.Contracts.{Handed}
 
 -- after a refused decode the build has the decode's number
@@ -20,7 +20,7 @@ pub record Loaded : Type 0 where
   pub built : Result (List Float)
 
 abbrev pub withBuild : ℕ → Result Accepted → Loaded
-withBuild places r = record { decoded = r; built = bind r (λ (t : Accepted). buildInto (t .grid) (t .medium) cells places) }
+withBuild places r = record { decoded = r; built = bind r (λ (t : Accepted). buildInto (t .grid) (t .medium) places) }
 
 -- the decode into the lent tables, and the build into a table of so many places
 unfoldable pub load : List ℕ → Lent → ℕ → Loaded
@@ -44,7 +44,7 @@ figuresLeft places r = valueOr (replicate places +0) (r .built)
 -- The claim of a load whose decode answered 0: of the grid whatever the build answered, and of the figures where it answered 0.
 pub record Claimed (b : List ℕ) (l : Lent) (a : Answer) (left : Tables) (table : List Float) : Type 0 where
   pub grid : Handed b l (a .decode) left
-  pub figures : a .build ≡ 0 → (p : Point) → Inside b p → Bounds b table p
+  pub figures : a .build ≡ 0 → (p : Point) → Inside b p → Bounds b (a .decode .medium .cells) table p
 
 -- What `load` promises of bytes, the lengths of the lent tables and the places for figures: what it answers and leaves, and the claim.
 pub record Loads (b : List ℕ) (l : Lent) (places : ℕ) (a : Answer) (left : Tables) (table : List Float) : Type 0 where

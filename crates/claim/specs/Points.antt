@@ -3,7 +3,7 @@ use mathlib.Core.Path.{_≡_, sym, ap, _∙_, subst}
 use mathlib.Core.List.{List}
 use Prim.Native.Nat.{ℕ, _+_, _^_}
 use mathlib.Core.Bool.{false}
-use lib.Dec.{T, lit<, lit≤}
+use lib.Dec.{T}
 use lib.ListN.{getD}
 use lib.Ieee.{Float, binary32, binary64, ofBits, lt, le, fits}
 use Rattle.float.specs.Integer.{floorZ}
@@ -25,12 +25,13 @@ use Rattle.nanovdb.specs.Decode.{Accepted, decodeDensity, mediumOf, mediumAt}
 use Rattle.nanovdb.specs.Agreement.{ReadsAs}
 use Rattle.index.specs.Cells.{corner, Cells, cellAxis, cellCorner, Between, AroundIn, EnclosesIn}
 use Rattle.index.specs.Index.{worldToIndex}
-use Rattle.majorant.specs.Build.{build, publicMaximum}
-use Rattle.index.specs.Enclosed.{Fitting, Numbered, enclosed}
+use Rattle.majorant.specs.Build.{buildInto, publicMaximum}
+use Rattle.majorant.specs.Accepted.{into-parts}
+use Rattle.index.specs.Enclosed.{Fitting, numbered, enclosed}
 use Rattle.boxes.specs.Boxes.{Box, Greatest, boxMaximum}
 use Rattle.boxes.specs.Maximum.{greatest, max-same}
 use Rattle.majorant.specs.Bounded.{bounded, built}
-use Rattle.claim.specs.Claim.{Inside, cells, Bounds, Holds}
+use Rattle.claim.specs.Claim.{Inside, Bounds, Holds}
 use Rattle.refusals.specs.Results.{ok}
 
 -- ---- a medium alike has the same corners and the same map
@@ -73,24 +74,21 @@ fitting b = record {
   ];
 }
 
-pub few : Numbered cells
-few = record {
-  some = λ a. elim a [ xAxis ↦ lit< tt | yAxis ↦ lit< tt | zAxis ↦ lit< tt ];
-  few = λ a. elim a [ xAxis ↦ lit≤ tt | yAxis ↦ lit≤ tt | zAxis ↦ lit≤ tt ];
-}
-
--- the third field of `Holds`, from the first
+-- the third field of `Holds`, from the first: one argument over the three numbers of cells
 pub points : (b : List ℕ) (q : Places) (t : Accepted) → decodeDensity b q ≡ ok t → ((c : Coord) → Signed32 c → readIn (t .grid) c ≡ voxel b c)
-    → (m : Medium) → Alike (t .medium) m → (l : List Float) → build (t .grid) m cells ≡ ok l → (p : Point) → Inside b p → Bounds b l p
-points b q t d same m A l e p h =
+    → (m : Medium) → Alike (t .medium) m → (places : ℕ) (l : List Float) → buildInto (t .grid) m places ≡ ok l
+    → (p : Point) → Inside b p → Bounds b (m .cells) l p
+points b q t d same m A places l into p h =
     let M = mediumOf b in
+    let n = m .cells in
+    let (T, e) = into-parts (t .grid) m places into in
     let B : Alike M m = subst (λ (x : Medium). Alike x m) (density-passed b q t d .0 .medium) A in
-    let G = built (t .grid) m cells l e in
+    let G = built (t .grid) m l e in
     record {
-      enclosed = (let (k, K, i) = enclosed m cells few (held M m B (fitting b)) (G .bounds) p
-          (moved M m B h) in (k, K, subst (λ (X : Type 0). X) (encloses-alike M m B cells k p) i));
+      enclosed = (let (k, K, i) = enclosed m n (numbered (T .count)) (held M m B (fitting b)) (G .bounds) p
+          (moved M m B h) in (k, K, subst (λ (X : Type 0). X) (encloses-alike M m B n k p) i));
       bounded = λ k K i c r.
-          let (s, f) = bounded (t .grid) m cells l e p k K (subst (λ (X : Type 0). X) (sym (encloses-alike M m B cells k p)) i) c
+          let (s, f) = bounded (t .grid) m l e p k K (subst (λ (X : Type 0). X) (sym (encloses-alike M m B n k p)) i) c
           (subst (λ (X : Type 0). X) (sym (around-alike M m B p c)) r) in
           (s, subst (λ (x : Float). lt (getD l k +0) x ≡ false) (same c s) f);
     }

@@ -11,12 +11,13 @@ ghost use Rattle.sparse_grid.specs.Answers.{outcome};
 ghost use Rattle.medium.specs.Record.{asMedium, pointOf};
 ghost use Rattle.decode.specs.Answers.{answer as decoded};
 ghost use Rattle.nanovdb.specs.Lent.{tables, lengths, Used, usedOf};
+ghost use Rattle.cells.specs.Cells.{cells};
+ghost use Rattle.cells.specs.Counted.{Counted};
 ghost use Rattle.index.specs.Found.{cellAt};
-ghost use Rattle.claim.specs.Claim.{cells};
 ghost use Rattle.claim.specs.Load.{Loads};
 ghost use Rattle.claim.specs.Answered.{Asks};
 ghost use Rattle.claim.specs.Asked.{asQuestion, asLoad, asAnswer};
-ghost use Rattle.claim.specs.Inner.{Small, buildIn, seenIn, foundIn};
+ghost use Rattle.claim.specs.Inner.{Small, buildIn, seenIn, cellIn, foundIn};
 use decode::Decoded;
 use decode::decode_density_grid;
 use index::axis_cell;
@@ -45,7 +46,7 @@ pub struct Question {
 }
 
 // What the load answers; the voxel, and the greatest of zero and the voxels of the box: zeros after a refused decode; the number
-// and the figure of a cell that encloses the point (262,144 and zero where none does): zeros after a refused build.
+// and the figure of a cell that encloses the point (the number of cells and zero where none does): zeros after a refused build.
 pub struct Asked {
     pub loaded: Loaded,
     pub value: f32,
@@ -76,23 +77,34 @@ fn value_or_zero(a: Answer) -> f32
     }
 }
 
-// The first cell of 64 on each axis that encloses the point, as one number; 262,144 where an axis has none.
-fn cell_at(m: Medium, p: [f32; 3]) -> u32
-    ensures { λ r. ⌜ r ≡ cellAt (asMedium m) cells (pointOf p) ⌝ }
+// The cell that stands there on each axis; the number of cells where it stands past the last on one.
+fn cell_in(x: u32, y: u32, z: u32, nx: u32, ny: u32, nz: u32) -> u32
+    requires { ⌜ Counted (cells nx ny nz) ⌝ }
+    ensures { λ r. ⌜ r ≡ cellIn (cells nx ny nz) x y z ⌝ }
 {
-    let x = axis_cell(x_line(m), 64, p[0]);
-    let y = axis_cell(y_line(m), 64, p[1]);
-    let z = axis_cell(z_line(m), 64, p[2]);
-    if x >= 64 {
-        return 262144;
+    let none = nx * ny * nz;
+    if x >= nx {
+        return none;
     }
-    if y >= 64 {
-        return 262144;
+    if y >= ny {
+        return none;
     }
-    if z >= 64 {
-        return 262144;
+    if z >= nz {
+        return none;
     }
-    (z * 64 + y) * 64 + x
+    (z * ny + y) * nx + x
+}
+
+// The first cell on each axis that encloses the point, as one number; the number of cells where an axis has none.
+fn cell_at(m: Medium, p: [f32; 3]) -> u32
+    requires { ⌜ Counted (asMedium m .cells) ⌝ }
+    ensures { λ r. ⌜ r ≡ cellAt (asMedium m) (asMedium m .cells) (pointOf p) ⌝ }
+{
+    let n = m.cells;
+    let x = axis_cell(x_line(m), n[0], p[0]);
+    let y = axis_cell(y_line(m), n[1], p[1]);
+    let z = axis_cell(z_line(m), n[2], p[2]);
+    cell_in(x, y, z, n[0], n[1], n[2])
 }
 
 // The figure of a cell, and zero where there is no such cell.
@@ -105,6 +117,7 @@ fn figure_at(figures: &[f32], cell: u32) -> f32
 
 // The cell of a point and its figure; zeros where the build was refused.
 fn found_in(build: u32, m: Medium, figures: &[f32], p: [f32; 3]) -> Found
+    requires { ⌜ (build ≡ 0 → Counted (asMedium m .cells)) ⌝ }
     ensures { λ r. ⌜ r ≡ foundIn build (asMedium m) (now (figures .entry)) (pointOf p) ⌝ }
 {
     if build != 0 {

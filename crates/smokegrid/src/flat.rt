@@ -9,12 +9,11 @@ ghost use Rattle.medium.specs.Record.{asMedium};
 ghost use Rattle.decode.specs.Answers.{answer};
 ghost use Rattle.smokegrid.specs.Flat.{countsOf, floatsOf, cornersOf, flatFault, mediumFrom};
 use decode::Decoded;
-use index::Position;
 use medium::Medium;
 
 // 18 for an array of another length.
-pub(crate) fn flat_fault(counts: usize, medium: usize, corners: usize) -> u32
-    ensures { λ r. ⌜ r ≡ flatFault counts medium corners ⌝ }
+pub(crate) fn flat_fault(counts: usize, medium: usize, corners: usize, cells: usize) -> u32
+    ensures { λ r. ⌜ r ≡ flatFault (record { counts = counts; medium = medium; corners = corners; cells = cells }) ⌝ }
 {
     if counts != 4 {
         return refusals::TABLES;
@@ -22,7 +21,10 @@ pub(crate) fn flat_fault(counts: usize, medium: usize, corners: usize) -> u32
     if medium != 18 {
         return refusals::TABLES;
     }
-    if corners != 6 { refusals::TABLES } else { 0 }
+    if corners != 6 {
+        return refusals::TABLES;
+    }
+    if cells != 3 { refusals::TABLES } else { 0 }
 }
 
 pub(crate) fn put_counts(counts: &mut [u64], d: Decoded)
@@ -69,10 +71,10 @@ pub(crate) fn put_corners(to: &mut [i32], m: Medium)
     to[5] = m.index_high[2];
 }
 
-// The medium of 18 numbers and 6 corners.
-pub(crate) fn medium_from(m: &[f32], c: &[i32]) -> Medium
-    requires { ⌜ (length (now m) ≡ 18) × (length (now c) ≡ 6) ⌝ }
-    ensures { λ r. ⌜ asMedium r ≡ mediumFrom (now (m .entry)) (now (c .entry)) ⌝ }
+// The medium of 18 numbers, 6 corners and 3 numbers of cells.
+pub(crate) fn medium_from(m: &[f32], c: &[i32], n: &[u32]) -> Medium
+    requires { ⌜ (length (now m) ≡ 18) × (length (now c) ≡ 6) × (length (now n) ≡ 3) ⌝ }
+    ensures { λ r. ⌜ asMedium r ≡ mediumFrom (now (m .entry)) (now (c .entry)) (now (n .entry)) ⌝ }
 {
     let low = [m[0], m[1], m[2]];
     let high = [m[3], m[4], m[5]];
@@ -80,15 +82,16 @@ pub(crate) fn medium_from(m: &[f32], c: &[i32]) -> Medium
     let index_high = [c[3], c[4], c[5]];
     let map = [m[6], m[7], m[8], m[9], m[10], m[11], m[12], m[13], m[14]];
     let translation = [m[15], m[16], m[17]];
-    medium::make_medium(low, high, index_low, index_high, map, translation)
+    let cells = [n[0], n[1], n[2]];
+    medium::make_medium(low, high, index_low, index_high, map, translation, cells)
 }
 
-// The three bit patterns of a position.
-pub(crate) fn put_bits(to: &mut [u32], p: Position)
+// Three words: the bits of a position, the numbers of cells.
+pub(crate) fn put_three(to: &mut [u32], words: [u32; 3])
     requires { ⌜ now to ≡ replicate 3 0 ⌝ }
-    ensures { λ _. ⌜ now (to .exit) ≡ (getD (p .bits) 0 0 ∷ getD (p .bits) 1 0 ∷ getD (p .bits) 2 0 ∷ []) ⌝ }
+    ensures { λ _. ⌜ now (to .exit) ≡ (getD words 0 0 ∷ getD words 1 0 ∷ getD words 2 0 ∷ []) ⌝ }
 {
-    to[0] = p.bits[0];
-    to[1] = p.bits[1];
-    to[2] = p.bits[2];
+    to[0] = words[0];
+    to[1] = words[1];
+    to[2] = words[2];
 }

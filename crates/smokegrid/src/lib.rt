@@ -14,10 +14,10 @@ mod flat;
 
 use flat::flat_fault;
 use flat::medium_from;
-use flat::put_bits;
 use flat::put_corners;
 use flat::put_counts;
 use flat::put_medium;
+use flat::put_three;
 use index::world_to_index_f;
 use majorant::box_maxima;
 use majorant::box_maximum;
@@ -97,6 +97,7 @@ pub extern "C" fn smokegrid_decode_density_grid(
     background: &mut f32,
     medium: &mut [f32],
     corners: &mut [i32],
+    cells: &mut [u32],
 ) -> u32
     ensures { λ r.
         let lent = lengths (tables
@@ -107,19 +108,26 @@ pub extern "C" fn smokegrid_decode_density_grid(
         (now (blocks .exit)) (now («root_links» .exit)) (now («root_values» .exit)) (now («upper_links» .exit))
         (now («upper_values» .exit)) (now («lower_links» .exit)) (now («lower_values» .exit)) (now («leaf_values» .exit))
         (now (work .exit)) in
-        ⌜ Decodes (now (bytes .entry)) lent (length (now (counts .entry))) (length (now (medium .entry))) (length (now (corners .entry)))
-        r (record {
+        let arrays = record {
+          counts = length (now (counts .entry));
+          medium = length (now (medium .entry));
+          corners = length (now (corners .entry));
+          cells = length (now (cells .entry));
+        } in
+        ⌜ Decodes (now (bytes .entry)) lent arrays r (record {
           tables = left;
           counts = now (counts .exit);
           background = now (background .exit);
           medium = now (medium .exit);
           corners = now (corners .exit);
+          cells = now (cells .exit);
         }) ⌝ }
 {
     lent::zero_u64(counts);
     lent::zero_f32(medium);
     lent::zero_i32(corners);
-    let fault = flat_fault(counts.len(), medium.len(), corners.len());
+    lent::zero_u32(cells);
+    let fault = flat_fault(counts.len(), medium.len(), corners.len(), cells.len());
     if fault != 0 {
         *background = 0.0;
         decode::clear(
@@ -151,6 +159,7 @@ pub extern "C" fn smokegrid_decode_density_grid(
     put_counts(counts, d);
     put_medium(medium, d.medium);
     put_corners(corners, d.medium);
+    put_three(cells, d.medium.cells);
     d.number
 }
 
@@ -405,8 +414,9 @@ pub extern "C" fn smokegrid_world_to_index_f(
         return refusals::TABLES;
     }
     let corners = [0i32; 6];
-    let p = world_to_index_f(medium_from(medium, &corners), x, y, z);
-    put_bits(index_bits, p);
+    let cells = [0u32; 3];
+    let p = world_to_index_f(medium_from(medium, &corners, &cells), x, y, z);
+    put_three(index_bits, p.bits);
     p.number
 }
 
@@ -424,19 +434,24 @@ pub extern "C" fn smokegrid_build_majorant(
     leaf_values: &[f32],
     medium: &[f32],
     corners: &[i32],
+    cells: &[u32],
     majorants: &mut [f32],
 ) -> u32
     ensures { λ r.
         let g = gridOf background
         (now (blocks .entry)) (now («root_links» .entry)) (now («root_values» .entry)) (now («upper_links» .entry))
         (now («upper_values» .entry)) (now («lower_links» .entry)) (now («lower_values» .entry)) (now («leaf_values» .entry)) in
-        ⌜ Builds g (now (medium .entry)) (now (corners .entry)) (length (now (majorants .entry))) r (now (majorants .exit)) ⌝ }
+        ⌜ Builds g (now (medium .entry)) (now (corners .entry)) (now (cells .entry)) (length (now (majorants .entry))) r (now (majorants .exit)) ⌝ }
 {
     if medium.len() != 18 {
         lent::zero_f32(majorants);
         return refusals::TABLES;
     }
     if corners.len() != 6 {
+        lent::zero_f32(majorants);
+        return refusals::TABLES;
+    }
+    if cells.len() != 3 {
         lent::zero_f32(majorants);
         return refusals::TABLES;
     }
@@ -450,7 +465,7 @@ pub extern "C" fn smokegrid_build_majorant(
         lower_links,
         lower_values,
         leaf_values,
-        medium_from(medium, corners),
+        medium_from(medium, corners, cells),
         majorants,
     )
 }

@@ -4,7 +4,7 @@ use Rattle.nanovdb.specs.Lent.{Tables, tables, lengths}
 use Rattle.nanovdb.specs.Kept.{Kept}
 use Rattle.claim.specs.Load.{Loads}
 use Rattle.claim.specs.Asked.{asQuestion, asLoad}
-use Rattle.claim.proofs.Joined.{joined, workless, asks}
+use Rattle.claim.proofs.Joined.{joined, workless, counted-in, asks}
 use borrow.Author.Needs.{needs}
 use Rattle.claim.proofs.ask.Statement.{statement}
 use Rattle.claim.proofs.ask.Tie as tie
@@ -54,6 +54,13 @@ keeps c =
 seen-in-requires : tie.Need-seen-in-requires
 seen-in-requires c κs = λ z. workless (at-load c .load .ensures .claim z .grid .room)
 
+-- the build answered 0 where the cell is asked for
+found-in-requires : tie.Need-found-in-requires
+found-in-requires c κs =
+    let l = at-load (c .before .before .before) in
+    let a = at-start l .args in
+    counted-in (a .bytes .now) (lengths (lent (at-start l))) (length (a .majorants .now)) (l .load .ensures)
+
 returns : tie.Need-returns
 returns c =
     let l = at-call c in
@@ -68,7 +75,7 @@ ask-spec =
     (tie.spec
     (λ c κs. search needs)
     seen-in-requires
-    (λ c κs. search needs)
+    found-in-requires
     (λ c κs. search needs)
     (λ c κs. search needs)
     (λ c. keeps (at-call c) .blocks)

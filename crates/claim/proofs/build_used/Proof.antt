@@ -11,7 +11,6 @@ use Rattle.medium.specs.Record.{asMedium}
 use Rattle.nanovdb.specs.Lent.{Tables, tables, Used, usedOf}
 use Rattle.decode.specs.Answers.{answer as decoded}
 use Rattle.majorant.specs.Build.{buildInto}
-use Rattle.claim.specs.Claim.{cells}
 use borrow.Author.Needs.{needs}
 use Rattle.claim.proofs.build_used.Statement.{statement}
 use Rattle.claim.proofs.build_used.Tie as tie
@@ -68,7 +67,7 @@ refused-out c =
     let s = at-entry t in
     let a = s .args in
     let places = length (a .majorants .now) in
-    let r = buildInto (usedOf (decoded (a .d)) (lent s)) (asMedium (a .d .medium)) cells places in
+    let r = buildInto (usedOf (decoded (a .d)) (lent s)) (asMedium (a .d .medium)) places in
     let stop = passing-stop (a .d .number) r (t .if1 .taken) in
     (ap numberOf (sym stop), z .zero-f32 .ensures ∙ ap (valueOr (replicate places +0)) (sym stop))
 
@@ -79,7 +78,7 @@ built-out c =
     let s = at-start e in
     let a = s .args in
     let places = length (a .majorants .now) in
-    let on = passing-on (a .d .number) (buildInto (usedOf (decoded (a .d)) (lent s)) (asMedium (a .d .medium)) cells places) (e .if1 .left) in
+    let on = passing-on (a .d .number) (buildInto (usedOf (decoded (a .d)) (lent s)) (asMedium (a .d .medium)) places) (e .if1 .left) in
     (b .build-majorant .ensures .0 ∙ ap numberOf (sym on), b .build-majorant .ensures .1 ∙ ap (valueOr (replicate places +0)) (sym on))
 
 pub build-used-spec : {M : Type 1} → statement M

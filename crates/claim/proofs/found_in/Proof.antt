@@ -21,4 +21,4 @@ found-out c =
     found-on (a .build) (asMedium (a .m)) (a .figures .now) (pointOf (a .p)) (e .if1 .left) (c .before .cell-at .ensures) (c .figure-at .ensures)
 
 pub found-in-spec : {M : Type 1} → statement M
-found-in-spec = tie.close (tie.spec refused-out (λ c κs. search needs) (λ c κs. search needs) found-out)
+found-in-spec = tie.close (tie.spec refused-out (λ c κs. c .before .before .pre (c .if1 .left)) (λ c κs. search needs) found-out)

@@ -15,22 +15,22 @@ at-zeros c = c .before .before .before
 abbrev at-start : tie.After-zero-u32 → tie.Start
 at-start c = c .before .before .before .before
 
-abbrev at-else : tie.After-put-bits-arg → tie.Else2
+abbrev at-else : tie.After-put-three-arg → tie.Else2
 at-else c = c .before .before .before .before
 
 -- there are three words
 three : (c : tie.Else2) → length (at-start (at-zeros (c .before)) .args .index-bits .now) ≡ 3
 three c = sym (at-zeros (c .before) .zero-u32 .kept .0) ∙ c .if2 .left
 
-put-bits-requires : tie.Need-put-bits-requires
-put-bits-requires c κs =
+put-three-requires : tie.Need-put-three-requires
+put-three-requires c κs =
     let e = at-else c in
     at-zeros (e .before) .zero-u32 .ensures ∙ ap (λ (n : ℕ). replicate n 0) (three e)
 
 words-same : tie.Need-same-length-3
 words-same c =
     let p = c .before .before in
-    p .put-bits .kept .0 ∙ at-zeros (at-else (p .before) .before) .zero-u32 .kept .0
+    p .put-three .kept .0 ∙ at-zeros (at-else (p .before) .before) .zero-u32 .kept .0
 
 -- ---- the ways out
 medium-out : tie.Need-returns
@@ -46,7 +46,7 @@ position-out c =
     let p = c .before .before in
     let w = p .before .before in
     let e = at-else (p .before) in
-    out-position (e .before .if1 .left) (three e) (w .before .medium-from .ensures) (w .world-to-index-f .ensures) (p .put-bits .ensures)
+    out-position (e .before .if1 .left) (three e) (w .before .medium-from .ensures) (w .world-to-index-f .ensures) (p .put-three .ensures)
 
 pub smokegrid-world-to-index-f-spec : {M : Type 1} → statement M
 smokegrid-world-to-index-f-spec =
@@ -60,6 +60,6 @@ smokegrid-world-to-index-f-spec =
     (λ c. omega arith)
     (λ c κs. search needs)
     (λ c κs. search needs)
-    put-bits-requires
+    put-three-requires
     words-same
     position-out)

@@ -1,10 +1,10 @@
--- `smokegrid::flat::put_bits` meets its contract: three stores to an array of three zeros. Assumes nothing.
+-- `smokegrid::flat::put_three` meets its contract: three stores to an array of three zeros. Assumes nothing.
 use native.Mathlib.Omega.{arith}
 use lib.ListN.{length-set}
 use Rattle.smokegrid.proofs.Stores.{size, each-of-three}
 use borrow.Author.Needs.{needs}
-use Rattle.smokegrid.proofs.flat.put_bits.Statement.{statement}
-use Rattle.smokegrid.proofs.flat.put_bits.Tie as tie
+use Rattle.smokegrid.proofs.flat.put_three.Statement.{statement}
+use Rattle.smokegrid.proofs.flat.put_three.Tie as tie
 
 slice-write-to : tie.Need-slice-write-to
 slice-write-to c = omega (arith, size _ 3 0 (c .before .pre))
@@ -18,8 +18,8 @@ slice-write-to-3 c = simp length-set (omega (arith, size _ 3 0 (c .before .befor
 returns : tie.Need-returns
 returns c = each-of-three _ 0 _ _ _ (c .before .before .before .pre)
 
-pub put-bits-spec : {M : Type 1} → statement M
-put-bits-spec =
+pub put-three-spec : {M : Type 1} → statement M
+put-three-spec =
     tie.close
     (tie.spec
     (λ c. search needs)
