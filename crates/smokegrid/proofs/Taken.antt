@@ -62,6 +62,11 @@ module _ {m : List Float} {p : Point} {n : ℕ} {bits : List ℕ} where
 
 -- ---- a build
 
+into : (g : Grid) (m : List Float) (c : List ℤ) (k : List ℕ) (n : ℕ) → length m ≡ 18 → length c ≡ 6 → length k ≡ 3
+    → buildFlat g m c k n ≡ buildInto g (mediumFrom m c k) n
+unfolding buildFlat
+into g m c k n long six three = rw (eq-eqb (length m) 18 long, eq-eqb (length c) 6 six, eq-eqb (length k) 3 three)
+
 module _ {g : Grid} {m : List Float} {c : List ℤ} {k : List ℕ} {n : ℕ} {table : List Float} where
   refused-build : buildFlat g m c k n ≡ refused 18 → table ≡ replicate n +0 → Builds g m c k n 18 table
   refused-build e z = record { number-is = sym (ap numberOf e); table-is = z ∙ sym (ap (valueOr (replicate n +0)) e) }
@@ -78,13 +83,9 @@ module _ {g : Grid} {m : List Float} {c : List ℤ} {k : List ℕ} {n : ℕ} {ta
   unfolding buildFlat
   build-cells long six h = refused-build (rw (eq-eqb (length m) 18 long, eq-eqb (length c) 6 six, ne-eqb (length k) 3 h))
 
-  into : length m ≡ 18 → length c ≡ 6 → length k ≡ 3 → buildFlat g m c k n ≡ buildInto g (mediumFrom m c k) n
-  unfolding buildFlat
-  into long six three = rw (eq-eqb (length m) 18 long, eq-eqb (length c) 6 six, eq-eqb (length k) 3 three)
-
   -- the build with the medium x that was read
   pub build-taken : length m ≡ 18 → length c ≡ 6 → length k ≡ 3 → {x : Medium} {number : ℕ} → x ≡ mediumFrom m c k
       → number ≡ numberOf (buildInto g x n) → table ≡ valueOr (replicate n +0) (buildInto g x n) → Builds g m c k n number table
   build-taken long six three x-is number-is table-is =
-      let s = ap (λ (x : Medium). buildInto g x n) x-is ∙ sym (into long six three) in
+      let s = ap (λ (x : Medium). buildInto g x n) x-is ∙ sym (into g m c k n long six three) in
       record { number-is = number-is ∙ ap numberOf s; table-is = table-is ∙ ap (valueOr (replicate n +0)) s }

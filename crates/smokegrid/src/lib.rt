@@ -8,6 +8,7 @@ ghost use Rattle.sparse_grid.specs.Validate.{validate as validateS, validateDen
 ghost use Rattle.sparse_grid.specs.Answers.{outcome, heard, unspoken, levelOf, levelNumber, at};
 ghost use Rattle.nanovdb.specs.Lent.{tables, lengths};
 ghost use Rattle.boxes.specs.Boxes.{between};
+ghost use Rattle.smokegrid.specs.Flat.{Arrays};
 ghost use Rattle.smokegrid.specs.Promises.{Decodes, GetsValue, GetsReading, BoxMaximum, BoxMaxima, WorldToIndex, Builds};
 
 mod flat;
@@ -108,7 +109,7 @@ pub extern "C" fn smokegrid_decode_density_grid(
         (now (blocks .exit)) (now («root_links» .exit)) (now («root_values» .exit)) (now («upper_links» .exit))
         (now («upper_values» .exit)) (now («lower_links» .exit)) (now («lower_values» .exit)) (now («leaf_values» .exit))
         (now (work .exit)) in
-        let arrays = record {
+        let arrays : Arrays = record {
           counts = length (now (counts .entry));
           medium = length (now (medium .entry));
           corners = length (now (corners .entry));
@@ -159,7 +160,9 @@ pub extern "C" fn smokegrid_decode_density_grid(
     put_counts(counts, d);
     put_medium(medium, d.medium);
     put_corners(corners, d.medium);
-    put_three(cells, d.medium.cells);
+    let m = d.medium;
+    let n = m.cells;
+    put_three(cells, n);
     d.number
 }
 
@@ -416,7 +419,8 @@ pub extern "C" fn smokegrid_world_to_index_f(
     let corners = [0i32; 6];
     let cells = [0u32; 3];
     let p = world_to_index_f(medium_from(medium, &corners, &cells), x, y, z);
-    put_three(index_bits, p.bits);
+    let bits = p.bits;
+    put_three(index_bits, bits);
     p.number
 }
 

@@ -16,7 +16,7 @@ abbrev at-start : tie.After-zero-u32 → tie.Start
 at-start c = c .before .before .before .before
 
 abbrev at-else : tie.After-put-three-arg → tie.Else2
-at-else c = c .before .before .before .before
+at-else c = c .before .before .before .before .before .before
 
 -- there are three words
 three : (c : tie.Else2) → length (at-start (at-zeros (c .before)) .args .index-bits .now) ≡ 3
@@ -44,7 +44,7 @@ places-out c =
 position-out : tie.Need-returns-3
 position-out c =
     let p = c .before .before in
-    let w = p .before .before in
+    let w = p .before .before .before in
     let e = at-else (p .before) in
     out-position (e .before .if1 .left) (three e) (w .before .medium-from .ensures) (w .world-to-index-f .ensures) (p .put-three .ensures)
 
@@ -57,6 +57,7 @@ smokegrid-world-to-index-f-spec =
     medium-out
     (λ c. search needs)
     places-out
+    (λ c. omega arith)
     (λ c. omega arith)
     (λ c κs. search needs)
     (λ c κs. search needs)

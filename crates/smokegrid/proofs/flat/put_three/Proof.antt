@@ -7,16 +7,16 @@ use Rattle.smokegrid.proofs.flat.put_three.Statement.{statement}
 use Rattle.smokegrid.proofs.flat.put_three.Tie as tie
 
 slice-write-to : tie.Need-slice-write-to
-slice-write-to c = omega (arith, size _ 3 0 (c .before .pre))
+slice-write-to c = omega (arith, size _ 3 0 (c .pre))
 
 slice-write-to-2 : tie.Need-slice-write-to-2
-slice-write-to-2 c = simp length-set (omega (arith, size _ 3 0 (c .before .before .pre)))
+slice-write-to-2 c = simp length-set (omega (arith, size _ 3 0 (c .pre)))
 
 slice-write-to-3 : tie.Need-slice-write-to-3
-slice-write-to-3 c = simp length-set (omega (arith, size _ 3 0 (c .before .before .before .pre)))
+slice-write-to-3 c = simp length-set (omega (arith, size _ 3 0 (c .pre)))
 
 returns : tie.Need-returns
-returns c = each-of-three _ 0 _ _ _ (c .before .before .before .pre)
+returns c = each-of-three _ 0 _ _ _ (c .pre)
 
 pub put-three-spec : {M : Type 1} → statement M
 put-three-spec =
