@@ -26,7 +26,7 @@ use Rattle.boxes.specs.Boxes.{InSome, GreatestOver, Greatest}
 use Rattle.majorant.specs.Maxima.{boxAt}
 use Rattle.majorant.specs.MaximaLaws.{maxima-greatest}
 use Rattle.majorant.specs.Build.{buildInto}
-use Rattle.claim.specs.Claim.{Holds, cells}
+use Rattle.claim.specs.Claim.{Holds}
 use Rattle.claim.specs.Contracts.{indexOf}
 use Rattle.claim.specs.Theorem.{demand3}
 use Rattle.claim.specs.Lists.{listed, listed-greatest}
@@ -43,10 +43,11 @@ passed : {A : Type 0} (n : ℕ) (r : Result A) → numberOf (passing n r) ≡ 0 
 passed zero r z = refl
 passed (suc n) r z = absurd (omega arith)
 
-flat-build : (g : Grid) (m : List Float) (c : List ℤ) (places : ℕ) → numberOf (buildFlat g m c places) ≡ 0
-    → buildFlat g m c places ≡ buildInto g (mediumFrom m c) cells places
+flat-build : (g : Grid) (m : List Float) (c : List ℤ) (n : List ℕ) (places : ℕ) → numberOf (buildFlat g m c n places) ≡ 0
+    → buildFlat g m c n places ≡ buildInto g (mediumFrom m c n) places
 unfolding buildFlat
-flat-build g m c places z = passed (unless (eqb (length m) 18 && eqb (length c) 6) 18) (buildInto g (mediumFrom m c) cells places) z
+flat-build g m c n places z =
+    passed (unless (eqb (length m) 18 && eqb (length c) 6 && eqb (length n) 3) 18) (buildInto g (mediumFrom m c n) places) z
 
 -- the position of a medium in the bytes whose map passes; the index box plays no part
 flat-index : (b : List ℕ) (p : Point) → mapFault (mediumOf b) ≡ 0 → indexFlat (floatsOf (mediumOf b)) p 3 ≡ ok (indexOf b p)
@@ -87,18 +88,18 @@ module _ (b : List ℕ) (bytes : Bytes b) (l : Lent) (t : Accepted) (e : decodeI
           subst (GreatestOver (voxel b) (InSome (boxAt boxes) n)) (sym is) (maxima-greatest (voxel b) boxes n),
         );
     positions = λ p number bits W. (W .number-is ∙ ap numberOf (indexed p), W .bits-are ∙ ap (valueOr (replicate 3 0)) (indexed p));
-    figures = λ corners places number table B z.
-        let into = flat-build (t .grid) (floatsOf (t .medium)) corners places (sym (B .number-is) ∙ z) in
-        figured b bytes l t e (mediumFrom (floatsOf (t .medium)) corners) (medium-alike b bytes l t e corners) places number table
+    figures = λ corners n places number table B z.
+        let into = flat-build (t .grid) (floatsOf (t .medium)) corners n places (sym (B .number-is) ∙ z) in
+        figured b bytes l t e (mediumFrom (floatsOf (t .medium)) corners n) (medium-alike b bytes l t e corners n) places number table
         (B .number-is ∙ ap numberOf into) (B .table-is ∙ ap (valueOr (replicate places +0)) into) z;
   }
 
 pub through-c : ThroughC
-through-c b bytes lent counts medium corners number left d z =
-    let F = flat b lent counts medium corners (sym (d .number-is) ∙ z) in
+through-c b bytes lent arrays number left d z =
+    let F = flat b lent arrays (sym (d .number-is) ∙ z) in
     let t = F .accepted in
-    let grid = used-back b lent counts medium corners t (F .into) in
-    subst (λ (x : Left). Fits x × KeepsC b (used x) (x .medium)) (sym (left-is b lent counts medium corners number left d (ok t) (F .is))) (
-      fits-back b lent counts medium corners t (F .into),
+    let grid = used-back b lent arrays t (F .into) in
+    subst (λ (x : Left). Fits x × KeepsC b (used x) (x .medium)) (sym (left-is b lent arrays number left d (ok t) (F .is))) (
+      fits-back b lent arrays t (F .into),
       subst (λ (g : Grid). KeepsC b g (floatsOf (t .medium))) (sym grid) (keeps b bytes lent t (F .into)),
     )

@@ -11,12 +11,15 @@ use Rattle.layout.specs.Coordinates.{Coord, Signed32}
 use Rattle.layout.specs.Walk.{walk, voxel}
 use Rattle.sparse_grid.specs.Tables.{Grid, gridOf}
 use Rattle.sparse_grid.specs.Answers.{levelNumber}
+use Rattle.cells.specs.Cells.{cellCount}
 use Rattle.medium.specs.Medium.{Point}
+use Rattle.medium.specs.Record.{cellsOf}
 use Rattle.nanovdb.specs.Lent.{Lent}
 use Rattle.boxes.specs.Boxes.{Box, InSome, GreatestOver, Greatest, boxMaximum}
 use Rattle.majorant.specs.Maxima.{boxAt, maximaOf}
 use Rattle.claim.specs.Claim.{Inside, Bounds}
 use Rattle.claim.specs.Contracts.{SignedBoxes, indexOf}
+use Rattle.smokegrid.specs.Flat.{Arrays}
 use Rattle.smokegrid.specs.Promises.{Left, Decodes, GetsValue, GetsReading, BoxMaximum, BoxMaxima, WorldToIndex, Builds}
 
 -- the used parts: three numbers of `blocks` a root, and 32,768, 4,096 and 512 places an upper, lower and leaf node, as counted
@@ -64,11 +67,11 @@ pub record KeepsC (b : List ℕ) (g : Grid) (medium : List Float) : Type 0 where
       → (number ≡ 0) × (maxima ≡ maximaOf (boxMaximum (voxel b)) boxes n) × GreatestOver (voxel b) (InSome (boxAt boxes) n) greatest
   -- an index position is not refused, and is the one by which `Bounds` finds the eight voxels
   pub positions : (p : Point) (number : ℕ) (bits : List ℕ) → WorldToIndex medium p 3 number bits → (number ≡ 0) × (bits ≡ indexOf b p)
-  -- the figures of a build that is not refused, whatever corners of the index box it was handed
-  pub figures : (corners : List ℤ) (places number : ℕ) (table : List Float) → Builds g medium corners places number table
-      → number ≡ 0 → (places ≡ 262144) × ((p : Point) → Inside b p → Bounds b table p)
+  -- the figures of a build that is not refused, whatever corners of the index box and numbers of cells it was handed
+  pub figures : (corners : List ℤ) (cells : List ℕ) (places number : ℕ) (table : List Float) → Builds g medium corners cells places number table
+      → number ≡ 0 → (places ≡ cellCount (cellsOf cells)) × ((p : Point) → Inside b p → Bounds b (cellsOf cells) table p)
 
 -- a decode that answers 0: the used parts of what it leaves lie within the tables, and they and the medium keep the claim
 abbrev pub ThroughC : Type 0
-ThroughC = (b : List ℕ) → Bytes b → (lent : Lent) (counts medium corners number : ℕ) (left : Left)
-    → Decodes b lent counts medium corners number left → number ≡ 0 → Fits left × KeepsC b (used left) (left .medium)
+ThroughC = (b : List ℕ) → Bytes b → (lent : Lent) (arrays : Arrays) (number : ℕ) (left : Left)
+    → Decodes b lent arrays number left → number ≡ 0 → Fits left × KeepsC b (used left) (left .medium)
