@@ -18,6 +18,9 @@ const WAYS: [&str; 4] = ["ours", "Rust", "Rust, 2 threads", "NanoVDB.h"];
 /// Numbers of boxes' voxels a side; the last box is the whole index box.
 const BOXES: [i32; 3] = [8, 64, 256];
 
+/// The cells that are built: those of a decode, fewer, and more than a table of theirs holds.
+const CELLS: [[u32; 3]; 3] = [[64, 64, 64], [32, 32, 32], [128, 128, 64]];
+
 #[cfg(nanovdb)]
 extern "C" {
     /// The sum of the bits that getValue reads at so many coordinates.
@@ -88,7 +91,9 @@ fn measure(name: &str, rounds: usize, lookups: usize) -> Table {
     }
     rows.push(box_row("whole box".to_string(), &ours, &rust, 0, grid.side - 1, rounds));
     rows.push(list_row(grid.side, &ours, &rust, rounds));
-    rows.push(build(bytes, &ours, &rust, rounds));
+    for cells in CELLS {
+        rows.push(build(bytes, &ours, cells, rounds));
+    }
     let peaks = ["ours", "rust"].map(|whose| peak_of(whose, name));
     Table { grid: grid.name.clone(), bytes: bytes.len(), rows, peaks }
 }
@@ -217,18 +222,24 @@ fn figures_sum(figures: &[f32]) -> u64 {
         .fold(1, |sum: u64, figure| sum.wrapping_mul(31).wrapping_add(u64::from(figure.to_bits())))
 }
 
-fn build(bytes: &[u8], ours: &Ours, rust: &Medium, rounds: usize) -> Row {
-    let two = oracle_two::source::decode_density_grid(bytes).expect("a grid that decodes");
+/// A build with so many cells; a build that is refused is the number of its refusal.
+fn build(bytes: &[u8], ours: &Ours, cells: [u32; 3], rounds: usize) -> Row {
+    let mut rust = oracle::source::decode_density_grid(bytes).expect("a grid that decodes");
+    let mut two = oracle_two::source::decode_density_grid(bytes).expect("a grid that decodes");
+    (rust.majorant_resolution, two.majorant_resolution) = (cells, cells);
     let figures = |built: Result<Majorant, smokegrid::Refusal>| {
-        built.map_or_else(|refusal| panic!("{refusal}"), |cells| figures_sum(cells.figures()))
+        built.map_or_else(|refusal| refusal.number().into(), |cells| figures_sum(cells.figures()))
     };
+    let sum = |built: Result<Vec<f32>, u32>| built.map_or_else(u64::from, |f| figures_sum(&f));
     let ways = &mut [
-        way(|| figures(black_box(ours).build_majorant())),
-        way(|| figures_sum(&oracle::source::build_majorant(black_box(rust)).unwrap())),
-        way(|| figures_sum(&oracle_two::source::build_majorant(black_box(&two)).unwrap())),
+        way(|| figures(black_box(ours).build_majorant_with(cells))),
+        way(|| sum(oracle::source::build_majorant(black_box(&rust)))),
+        way(|| sum(oracle_two::source::build_majorant(black_box(&two)))),
         None,
     ];
-    row("build", rounds, "cell", smokegrid::CELLS as f64, ways)
+    let [x, y, z] = cells;
+    let all = cells.iter().map(|number| f64::from(*number)).product();
+    row(&format!("build, {x} x {y} x {z}"), rounds, "cell", all, ways)
 }
 
 /// The most memory of a process that decodes and builds a grid, its bytes included.

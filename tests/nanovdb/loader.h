@@ -16,6 +16,7 @@ struct Loaded {
     uint64_t counts[4] = {};
     float medium[18] = {};
     int32_t corners[6] = {};
+    uint32_t cells[3] = {};
 
     // Tables as long as the bytes say: node counts at 704, tile count at 24 of the root.
     explicit Loaded(const std::vector<uint8_t> &bytes)
@@ -36,7 +37,7 @@ struct Loaded {
             rootLinks.data(), rootLinks.size(), rootValues.data(), rootValues.size(), upperLinks.data(), upperLinks.size(),
             upperValues.data(), upperValues.size(), lowerLinks.data(), lowerLinks.size(), lowerValues.data(),
             lowerValues.size(), leafValues.data(), leafValues.size(), work.data(), work.size(), counts, 4, &background,
-            medium, 18, corners, 6);
+            medium, 18, corners, 6, cells, 3);
     }
 
     // Bit for bit, and every table with its length.
@@ -50,7 +51,7 @@ struct Loaded {
             bits(rootValues, other.rootValues) && bits(upperValues, other.upperValues) &&
             bits(lowerValues, other.lowerValues) && bits(leafValues, other.leafValues) &&
             std::memcmp(counts, other.counts, sizeof counts) == 0 && std::memcmp(medium, other.medium, sizeof medium) == 0 &&
-            std::memcmp(corners, other.corners, sizeof corners) == 0;
+            std::memcmp(corners, other.corners, sizeof corners) == 0 && std::memcmp(cells, other.cells, sizeof cells) == 0;
     }
 
     template <typename Function, typename... Arguments>

@@ -143,9 +143,9 @@ void compareBoxes(Tally &tally, Counts &counts, const std::string &name, const L
 // The greatest figure is the greatest density where the world box holds every voxel.
 void compareBuild(Tally &tally, Counts &counts, const Made &made, const Loaded &ours)
 {
-    std::vector<float> figures(64 * 64 * 64);
-    const uint32_t number =
-        ours.call(smokegrid_build_majorant, ours.medium, size_t(18), ours.corners, size_t(6), figures.data(), figures.size());
+    std::vector<float> figures(size_t(ours.cells[0]) * ours.cells[1] * ours.cells[2]);
+    const uint32_t number = ours.call(smokegrid_build_majorant, ours.medium, size_t(18), ours.corners, size_t(6), ours.cells, size_t(3),
+        figures.data(), figures.size());
     counts.built += number == 0;
     counts.rounded += number == 17;
     const bool due = number == 0 || (!made.mustBuild && (number == 17 || number == 16));

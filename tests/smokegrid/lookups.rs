@@ -65,6 +65,7 @@ fn chain(fill: f32) -> Grid {
         leaf_values: vec![fill; walk::entries(0)],
         medium: Vec::new(),
         corners: Vec::new(),
+        cells: Vec::new(),
     }
 }
 

@@ -424,7 +424,7 @@ pub extern "C" fn smokegrid_world_to_index_f(
     p.number
 }
 
-// The figures of the 64 x 64 x 64 cells, and 0; or the number of the refusal, and a table of zeros.
+// The figures of the cells, and 0; or the number of the refusal, and a table of zeros.
 #[no_mangle]
 pub extern "C" fn smokegrid_build_majorant(
     background: f32,

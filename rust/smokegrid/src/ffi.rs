@@ -12,6 +12,8 @@ pub struct Record {
     pub medium: [f32; 18],
     /// Index minimum and maximum.
     pub corners: [i32; 6],
+    /// Cells on each axis.
+    pub cells: [u32; 3],
 }
 
 /// The tables as inputs.
@@ -51,6 +53,7 @@ pub fn decode_density_grid(
         &mut lent.background,
         &mut record.medium,
         &mut record.corners,
+        &mut record.cells,
     )
 }
 
@@ -88,7 +91,8 @@ pub fn build_majorant(
     tables: &Tables,
     medium: &[f32; 18],
     corners: &[i32; 6],
+    cells: &[u32; 3],
     majorants: &mut [f32],
 ) -> u32 {
-    interface::build_majorant(grid(tables), medium, corners, majorants)
+    interface::build_majorant(grid(tables), medium, corners, cells, majorants)
 }

@@ -2,7 +2,7 @@
 
 use crate::ffi::{self, Record};
 use crate::level::{Level, Reading};
-use crate::majorant::{Majorant, CELLS};
+use crate::majorant::{table_length, Majorant};
 use crate::refusal::Refusal;
 use crate::tables::{Places, Tables};
 
@@ -13,6 +13,7 @@ pub struct Grid {
     used: Places,
     medium: [f32; 18],
     corners: [i32; 6],
+    cells: [u32; 3],
 }
 
 /// How many roots and nodes a grid has.
@@ -34,6 +35,8 @@ pub struct Medium {
     pub translation: [f32; 3],
     pub index_min: [i32; 3],
     pub index_max: [i32; 3],
+    /// The cells that `build_majorant` cuts the world box into on each axis.
+    pub cells: [u32; 3],
 }
 
 /// The maxima of a list of boxes.
@@ -90,6 +93,7 @@ impl Grid {
             translation: three(15),
             index_min: corner(0),
             index_max: corner(3),
+            cells: self.cells,
         }
     }
 
@@ -144,11 +148,17 @@ impl Grid {
         Ok(bits.map(f32::from_bits))
     }
 
-    /// The figures of the 64 x 64 x 64 cells of the world box.
+    /// The figures of the cells of the world box, as many as stand in the record: 64 on each axis.
     pub fn build_majorant(&self) -> Result<Majorant, Refusal> {
-        let mut figures = vec![0.0; CELLS];
-        let number = ffi::build_majorant(&self.tables, &self.medium, &self.corners, &mut figures);
-        Refusal::check(number).map(|()| Majorant::new(figures))
+        self.build_majorant_with(self.cells)
+    }
+
+    /// The same with other numbers of cells on x, y and z, from 1 to 128 each.
+    pub fn build_majorant_with(&self, cells: [u32; 3]) -> Result<Majorant, Refusal> {
+        let mut figures = vec![0.0; table_length(cells)];
+        let number =
+            ffi::build_majorant(&self.tables, &self.medium, &self.corners, &cells, &mut figures);
+        Refusal::check(number).map(|()| Majorant::new(cells, figures))
     }
 }
 
@@ -167,5 +177,6 @@ fn decode_into(bytes: &[u8], places: Places) -> Result<Grid, Refusal> {
     let [roots, upper, lower, leaf] = record.counts.map(|count| count as usize);
     let used = Places { roots, nodes: [upper, lower, leaf] };
     tables.truncate(used);
-    Ok(Grid { tables, used, medium: record.medium, corners: record.corners })
+    let Record { medium, corners, cells, .. } = record;
+    Ok(Grid { tables, used, medium, corners, cells })
 }

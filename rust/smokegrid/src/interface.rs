@@ -45,6 +45,8 @@ mod c {
             medium_len: usize,
             corners: *mut i32,
             corners_len: usize,
+            cells: *mut u32,
+            cells_len: usize,
         ) -> u32;
         pub fn smokegrid_validate(
             background: f32,
@@ -212,6 +214,8 @@ mod c {
             medium_len: usize,
             corners: *const i32,
             corners_len: usize,
+            cells: *const u32,
+            cells_len: usize,
             majorants: *mut f32,
             majorants_len: usize,
         ) -> u32;
@@ -235,6 +239,7 @@ pub fn decode_density_grid(
     background: &mut f32,
     medium: &mut [f32],
     corners: &mut [i32],
+    cells: &mut [u32],
 ) -> u32 {
     // SAFETY: each pointer is valid for its length, and what is written is borrowed mutably, so it overlaps nothing.
     unsafe {
@@ -266,6 +271,8 @@ pub fn decode_density_grid(
             medium.len(),
             corners.as_mut_ptr(),
             corners.len(),
+            cells.as_mut_ptr(),
+            cells.len(),
         )
     }
 }
@@ -492,6 +499,7 @@ pub fn build_majorant(
     grid: GridTables,
     medium: &[f32],
     corners: &[i32],
+    cells: &[u32],
     majorants: &mut [f32],
 ) -> u32 {
     // SAFETY: each pointer is valid for its length, and what is written is borrowed mutably, so it overlaps nothing.
@@ -518,6 +526,8 @@ pub fn build_majorant(
             medium.len(),
             corners.as_ptr(),
             corners.len(),
+            cells.as_ptr(),
+            cells.len(),
             majorants.as_mut_ptr(),
             majorants.len(),
         )

@@ -6,7 +6,7 @@
 //! let bytes = std::fs::read("hall.grid")?;
 //! let grid = smokegrid::Grid::decode(&bytes)?;
 //! let cells = grid.build_majorant()?;
-//! println!("{} of {} cells are clear air", cells.clear(), smokegrid::CELLS);
+//! println!("{} of {} cells are clear air", cells.clear(), cells.figures().len());
 //! # Ok::<(), Box<dyn std::error::Error>>(())
 //! ```
 
@@ -20,5 +20,5 @@ mod tables;
 
 pub use grid::{Counts, Grid, Maxima, Medium};
 pub use level::{Level, Reading};
-pub use majorant::{Majorant, CELLS, CELLS_PER_AXIS};
+pub use majorant::Majorant;
 pub use refusal::Refusal;

@@ -1,30 +1,40 @@
 //! The figures of the cells.
 
-/// The cells of an axis, and all of them.
-pub const CELLS_PER_AXIS: usize = 64;
-pub const CELLS: usize = CELLS_PER_AXIS * CELLS_PER_AXIS * CELLS_PER_AXIS;
+/// The figures of a table of cells. Where a number does not pass, none: the library, not this, refuses it.
+pub(crate) fn table_length(cells: [u32; 3]) -> usize {
+    match cells.iter().all(|number| (1..=128).contains(number)) {
+        true => cells.iter().map(|number| *number as usize).product(),
+        false => 0,
+    }
+}
 
 /// For each cell of the world box a density that no voxel around any of its points exceeds.
 #[derive(Clone, Debug, PartialEq)]
 pub struct Majorant {
+    cells: [u32; 3],
     figures: Vec<f32>,
 }
 
 impl Majorant {
-    pub(crate) fn new(figures: Vec<f32>) -> Self {
-        Majorant { figures }
+    pub(crate) fn new(cells: [u32; 3], figures: Vec<f32>) -> Self {
+        Majorant { cells, figures }
     }
 
-    /// All figures; cell (x, y, z) has the number x + 64 y + 4096 z.
+    /// The cells on each axis.
+    pub fn cells(&self) -> [u32; 3] {
+        self.cells
+    }
+
+    /// All figures; of X, Y and Z cells, cell (x, y, z) has the number x + X (y + Y z).
     pub fn figures(&self) -> &[f32] {
         &self.figures
     }
 
-    /// The figure of a cell, if each number is below 64.
+    /// The figure of a cell, if there is such a cell.
     pub fn figure(&self, cell: [usize; 3]) -> Option<f32> {
-        let [x, y, z] = cell;
-        let inside = cell.iter().all(|number| *number < CELLS_PER_AXIS);
-        inside.then(|| self.figures[x + CELLS_PER_AXIS * (y + CELLS_PER_AXIS * z)])
+        let ([x, y, z], n) = (cell, self.cells.map(|number| number as usize));
+        let inside = cell.iter().zip(n).all(|(number, all)| *number < all);
+        inside.then(|| self.figures[x + n[0] * (y + n[1] * z)])
     }
 
     /// The greatest figure, and the first cell that has it.
@@ -35,8 +45,8 @@ impl Majorant {
                 (greatest, first) = (*figure, number);
             }
         }
-        let n = CELLS_PER_AXIS;
-        (greatest, [first % n, first / n % n, first / n / n])
+        let [x, y, _] = self.cells.map(|number| number as usize);
+        (greatest, [first % x, first / x % y, first / (x * y)])
     }
 
     /// How many cells are clear air: their figure is zero.
@@ -53,35 +63,45 @@ impl Majorant {
 mod tests {
     use super::*;
 
-    fn with(cells: &[(usize, f32)]) -> Majorant {
-        let mut figures = vec![0.0; CELLS];
-        for (number, figure) in cells {
-            figures[*number] = *figure;
+    fn with(cells: [u32; 3], figures: &[(usize, f32)]) -> Majorant {
+        let mut all = vec![0.0; table_length(cells)];
+        for (number, figure) in figures {
+            all[*number] = *figure;
         }
-        Majorant::new(figures)
+        Majorant::new(cells, all)
     }
 
     #[test]
     fn cells_are_numbered_with_x_fastest() {
-        let cells = with(&[(1, 0.25), (64, 0.5), (4096, 0.75), (CELLS - 1, 1.0)]);
+        let cells = with([5, 3, 2], &[(1, 0.25), (5, 0.5), (15, 0.75), (29, 1.0)]);
         assert_eq!(cells.figure([1, 0, 0]), Some(0.25));
         assert_eq!(cells.figure([0, 1, 0]), Some(0.5));
         assert_eq!(cells.figure([0, 0, 1]), Some(0.75));
-        assert_eq!(cells.figure([63, 63, 63]), Some(1.0));
-        assert_eq!(cells.figure([64, 0, 0]), None);
+        assert_eq!(cells.figure([4, 2, 1]), Some(1.0));
+        assert_eq!(cells.figure([5, 0, 0]), None);
+        assert_eq!(cells.figure([0, 3, 0]), None);
         assert_eq!(cells.figure([0, 0, usize::MAX]), None);
     }
 
     #[test]
     fn the_greatest_is_the_first_of_its_value() {
-        let cells = with(&[(70, 0.5), (5000, 2.0), (9000, 2.0)]);
+        let cells = with([64; 3], &[(70, 0.5), (5000, 2.0), (9000, 2.0)]);
         assert_eq!(cells.greatest(), (2.0, [8, 14, 1]));
-        assert_eq!(with(&[]).greatest(), (0.0, [0, 0, 0]));
+        assert_eq!(with([100, 1, 7], &[(699, 0.5)]).greatest(), (0.5, [99, 0, 6]));
+        assert_eq!(with([64; 3], &[]).greatest(), (0.0, [0, 0, 0]));
     }
 
     #[test]
     fn clear_air_is_a_figure_of_zero() {
-        assert_eq!(with(&[]).clear(), CELLS);
-        assert_eq!(with(&[(3, 1e-45), (4, 1.0)]).clear(), CELLS - 2);
+        assert_eq!(with([2, 3, 4], &[]).clear(), 24);
+        assert_eq!(with([2, 3, 4], &[(3, 1e-45), (4, 1.0)]).clear(), 22);
+    }
+
+    #[test]
+    fn no_table_is_lent_for_numbers_that_do_not_pass() {
+        assert_eq!(table_length([128; 3]), 2_097_152);
+        for cells in [[0, 1, 1], [1, 129, 1], [1, 1, u32::MAX]] {
+            assert_eq!(table_length(cells), 0);
+        }
     }
 }

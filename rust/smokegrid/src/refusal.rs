@@ -2,13 +2,14 @@
 
 use std::fmt;
 
-/// Why an input was turned away: a number from 1 to 18.
+/// Why an input was turned away, by its number.
 #[derive(Clone, Copy, Debug, PartialEq, Eq, Hash)]
 pub struct Refusal {
     number: u32,
 }
 
 struct Words {
+    number: u32,
     name: &'static str,
     meaning: &'static str,
     advice: &'static str,
@@ -16,92 +17,116 @@ struct Words {
 
 const DAMAGED: &str = "The file was cut off or damaged: copy or export it again.";
 
-const fn words(name: &'static str, meaning: &'static str, advice: &'static str) -> Words {
-    Words { name, meaning, advice }
+const fn words(
+    number: u32,
+    name: &'static str,
+    meaning: &'static str,
+    advice: &'static str,
+) -> Words {
+    Words { number, name, meaning, advice }
 }
 
-/// By number, from 1.
-const WORDS: [Words; 18] = [
+const WORDS: &[Words] = &[
     words(
+        1,
         "TOO_LONG",
         "more than 4,294,967,295 bytes",
         "Export a smaller part of the hall, or larger voxels.",
     ),
-    words("TOO_SHORT", "fewer than 672 bytes: no grid header", DAMAGED),
+    words(2, "TOO_SHORT", "fewer than 672 bytes: no grid header", DAMAGED),
     words(
+        3,
         "HEADER",
         "a header field that does not pass: mark, version, size, type, class, index or count",
         "Hand over one raw Float grid of NanoVDB ABI 32 with its whole length, which begins with \
          NanoVDB0 or NanoVDB1: a density, not a level set, and not an .nvdb file or a compressed one.",
     ),
     words(
+        4,
         "WORLD_BOX",
         "the world box: not finite as f32, a minimum not below its maximum, or an infinite width",
         "Export the grid with its bounding box worked out; a grid without active voxels has none.",
     ),
-    words("PAST_END", "a field or a span past the end of the bytes", DAMAGED),
-    words("OVERLAP", "two spans overlap", DAMAGED),
-    words("KEY_BIT", "a bit of a root key that must be 0", DAMAGED),
+    words(5, "PAST_END", "a field or a span past the end of the bytes", DAMAGED),
+    words(6, "OVERLAP", "two spans overlap", DAMAGED),
+    words(7, "KEY_BIT", "a bit of a root key that must be 0", DAMAGED),
     words(
+        8,
         "CHILD_TARGET",
         "a child's target: zero in a node, negative, or not a multiple of 32",
         DAMAGED,
     ),
     words(
+        9,
         "NO_PLACE",
         "more tiles than lent root places, or no whole place for the next node or span",
         "The program lent tables that are too short: a fault of the program, not of the grid. \
          Report it.",
     ),
     words(
+        10,
         "NODE_COUNTS",
         "the node counts in the bytes differ from the nodes that were reached",
         DAMAGED,
     ),
     words(
+        11,
         "RECORD",
         "a block repeated or out of range, a link past its table, a child with a nonzero value \
          beside it",
         "The grid holds one block twice: export it again, and report it to the exporter's maker.",
     ),
     words(
+        12,
         "NOT_FINITE",
         "a value that is not finite",
         "The simulation left a NaN or an infinity in the grid: replace it there and export again.",
     ),
     words(
+        13,
         "MAP",
         "the map or the translation: not finite, a diagonal that is not positive, another place \
          that is not zero",
         "Export the grid without rotation, shear or mirroring, with voxels of a positive size.",
     ),
     words(
+        14,
         "INDEX_BOX",
         "an index minimum above its maximum",
         "Export the grid with its bounding box worked out; a grid without active voxels has none.",
     ),
     words(
+        15,
         "NEGATIVE",
         "a negative density",
         "Export the smoke density and no other field, with values below zero set to zero.",
     ),
     words(
+        16,
         "COORDINATE",
         "a coordinate that is not finite or lies outside i32",
         "World box, voxel size and translation do not belong together: check the export's units.",
     ),
     words(
+        17,
         "SECOND_BOX",
         "a cell's second box has a greater maximum than its first",
         "Rounding under this map would let a cell read low. Export with a voxel size that is a \
          power of two and a translation of whole voxels, zero for one.",
     ),
     words(
+        18,
         "TABLES",
         "paired tables of unequal length, blocks that are not three a root, a table that is not of \
          whole nodes, boxes that are not six to a maximum",
         "The program lent tables that do not belong together: a fault of the program, not of the \
          grid. Report it.",
+    ),
+    words(
+        23,
+        "CELLS",
+        "a number of cells on an axis that is not 1 to 128",
+        "Ask for 1 to 128 cells on each axis; where none are asked for, 64 are built.",
     ),
 ];
 
@@ -112,9 +137,10 @@ impl Refusal {
     /// The refusal of more than `LONGEST` bytes, for a caller who will not read them first.
     pub const TOO_LONG: Refusal = Refusal { number: 1 };
 
-    /// The refusal of a number from 1 to 18.
+    /// The refusal of a number that the library has.
     pub fn new(number: u32) -> Option<Self> {
-        (1..=WORDS.len() as u32).contains(&number).then_some(Refusal { number })
+        let refusal = Refusal { number };
+        refusal.words().map(|_| refusal)
     }
 
     /// `Ok` for 0, which every function of the library answers where it gave a value.
@@ -147,7 +173,7 @@ impl Refusal {
     }
 
     fn words(self) -> Option<&'static Words> {
-        WORDS.get((self.number as usize).wrapping_sub(1))
+        WORDS.iter().find(|words| words.number == self.number)
     }
 }
 
@@ -186,9 +212,10 @@ mod tests {
     }
 
     #[test]
-    fn numbers_run_from_1_to_18() {
+    fn numbers_rise_and_no_others_are_known() {
         let known: Vec<u32> = (0..100).filter(|n| Refusal::new(*n).is_some()).collect();
-        assert_eq!(known, (1..=18).collect::<Vec<_>>());
+        assert_eq!(known, WORDS.iter().map(|words| words.number).collect::<Vec<_>>());
+        assert_eq!(Refusal::new(0), None);
         assert_eq!(Refusal::new(u32::MAX), None);
     }
 

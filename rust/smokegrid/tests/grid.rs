@@ -3,7 +3,7 @@
 mod common;
 
 use common::{chain, put32, put64, put_float, resize, tile, LEAF, LOWER, UPPER};
-use smokegrid::{Counts, Grid, Level, Maxima, Reading, CELLS};
+use smokegrid::{Counts, Grid, Level, Maxima, Reading};
 
 fn number(bytes: &[u8]) -> u32 {
     Grid::decode(bytes).map_or_else(|refusal| refusal.number(), |_| 0)
@@ -207,9 +207,24 @@ fn a_repeated_block_is_11() {
 
 #[test]
 fn the_cells_of_a_tile_all_have_its_density() {
-    let cells = Grid::decode(&tile()).unwrap().build_majorant().unwrap();
-    assert_eq!(cells.figures(), [0.5; CELLS]);
+    let grid = Grid::decode(&tile()).unwrap();
+    let cells = grid.build_majorant().unwrap();
+    assert_eq!((cells.cells(), grid.medium().cells), ([64; 3], [64; 3]));
+    assert_eq!(cells.figures(), [0.5; 64 * 64 * 64]);
     assert_eq!((cells.clear(), cells.greatest()), (0, (0.5, [0, 0, 0])));
+    for numbers in [[1, 1, 1], [128, 1, 3], [5, 100, 7]] {
+        let cells = grid.build_majorant_with(numbers).unwrap();
+        let all = numbers.iter().map(|n| *n as usize).product();
+        assert_eq!((cells.cells(), cells.figures()), (numbers, &vec![0.5; all][..]));
+    }
+}
+
+#[test]
+fn a_number_of_cells_outside_1_to_128_is_23() {
+    let grid = Grid::decode(&tile()).unwrap();
+    for cells in [[0, 64, 64], [64, 129, 64], [64, 64, u32::MAX]] {
+        assert_eq!(grid.build_majorant_with(cells).unwrap_err().number(), 23);
+    }
 }
 
 #[test]

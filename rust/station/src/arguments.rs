@@ -1,20 +1,20 @@
 //! The words after the program's name.
 
 use crate::boxes::{self, Zone};
-use smokegrid::CELLS_PER_AXIS;
 use std::ffi::OsString;
 use std::fmt::Display;
 use std::path::PathBuf;
 use std::str::FromStr;
 
 pub const USAGE: &str = "usage: station FILE [QUESTION...]
-Decodes one raw NanoVDB density grid (ABI 32), builds its 64 x 64 x 64 cells, prints what it holds.
+Decodes one raw NanoVDB density grid (ABI 32), builds its cells, prints what it holds.
+  --cells X Y Z              so many cells on each axis, 1 to 128; 64 x 64 x 64 where none are named
 Questions, as many as there are:
   --at X Y Z                 the density at a voxel, and the level that it is read at
   --box LX LY LZ HX HY HZ    the greatest density from the low voxel to the high one, ends included
   --boxes FILE               the same for each box of a file, and the greatest of them: a box a line,
                              six numbers as above; # begins a comment
-  --cell X Y Z               the figure of a cell, each number from 0 to 63
+  --cell X Y Z               the figure of a cell, each number from 0 on
   --help                     this text
 Exit status: 0, 1 where the grid is refused, 2 where the call is wrong or the file cannot be read.
 ";
@@ -28,6 +28,7 @@ pub enum Request {
 #[derive(Debug, PartialEq)]
 pub struct Arguments {
     pub file: PathBuf,
+    pub cells: [u32; 3],
     pub questions: Vec<Question>,
 }
 
@@ -43,6 +44,7 @@ pub enum Question {
 pub fn parse(words: impl Iterator<Item = OsString>) -> Result<Request, String> {
     let mut words = words;
     let mut file = None;
+    let mut cells = [64; 3];
     let mut questions = Vec::new();
     while let Some(word) = words.next() {
         match word.to_str() {
@@ -56,7 +58,8 @@ pub fn parse(words: impl Iterator<Item = OsString>) -> Result<Request, String> {
                 let path = words.next().ok_or("--boxes lacks a file")?;
                 questions.push(Question::Boxes(boxes::read(&PathBuf::from(path))?));
             }
-            Some("--cell") => questions.push(Question::Cell(cell(&mut words)?)),
+            Some("--cell") => questions.push(Question::Cell(three("--cell", &mut words)?)),
+            Some("--cells") => cells = three("--cells", &mut words)?,
             Some(option) if option.starts_with('-') => {
                 return Err(format!("{option} is no option"))
             }
@@ -67,7 +70,12 @@ pub fn parse(words: impl Iterator<Item = OsString>) -> Result<Request, String> {
         }
     }
     let file = file.ok_or("no file is named")?;
-    Ok(Request::Show(Arguments { file, questions }))
+    for question in &questions {
+        if let Question::Cell(cell) = question {
+            check_cell(cell, &cells)?;
+        }
+    }
+    Ok(Request::Show(Arguments { file, cells, questions }))
 }
 
 fn three<T: FromStr>(
@@ -85,11 +93,10 @@ where
     Ok([next()?, next()?, next()?])
 }
 
-fn cell(words: &mut impl Iterator<Item = OsString>) -> Result<[usize; 3], String> {
-    let cell = three("--cell", words)?;
-    match cell.iter().find(|number| **number >= CELLS_PER_AXIS) {
-        Some(number) => Err(format!("--cell {number}: cells are numbered from 0 to 63")),
-        None => Ok(cell),
+fn check_cell(cell: &[usize; 3], cells: &[u32; 3]) -> Result<(), String> {
+    match cell.iter().zip(cells).find(|(number, all)| **number >= **all as usize) {
+        Some((number, all)) => Err(format!("--cell {number}: there are {all} cells, from 0 on")),
+        None => Ok(()),
     }
 }
 
@@ -110,7 +117,15 @@ mod tests {
         ];
         let words = "--box -1 -2 -3 4 5 6 hall.grid --at -2147483648 0 2147483647 --cell 0 63 5";
         let file = PathBuf::from("hall.grid");
-        assert_eq!(parsed(words), Ok(Request::Show(Arguments { file, questions })));
+        let cells = [64; 3];
+        assert_eq!(parsed(words), Ok(Request::Show(Arguments { file, cells, questions })));
+    }
+
+    #[test]
+    fn cells_are_asked_about_as_they_are_built() {
+        let questions = vec![Question::Cell([0, 99, 5])];
+        let arguments = Arguments { file: PathBuf::from("a"), cells: [1, 100, 128], questions };
+        assert_eq!(parsed("--cell 0 99 5 a --cells 1 100 128"), Ok(Request::Show(arguments)));
     }
 
     #[test]
@@ -124,7 +139,10 @@ mod tests {
             ("a --box 1 2 3 4 5 x", "--box x: invalid digit found in string"),
             ("a --boxes", "--boxes lacks a file"),
             ("a --boxes no/such", "--boxes no/such: No such file or directory (os error 2)"),
-            ("a --cell 1 2 64", "--cell 64: cells are numbered from 0 to 63"),
+            ("a --cell 1 2 64", "--cell 64: there are 64 cells, from 0 on"),
+            ("a --cell 1 2 3 --cells 8 2 8", "--cell 2: there are 2 cells, from 0 on"),
+            ("a --cells 1 2", "--cells lacks a number"),
+            ("a --cells 1 2 -3", "--cells -3: invalid digit found in string"),
             ("a --cell 1 2 -1", "--cell -1: invalid digit found in string"),
         ] {
             assert_eq!(parsed(words), Err(fault.to_string()), "{words}");

@@ -70,7 +70,9 @@ fn show(arguments: &Arguments) -> Result<(), Stop> {
     steps.holds(grid.table_bytes());
     drop(bytes);
     say(&report::grid(&grid))?;
-    let built = steps.run("build", "building 262,144 cells", || grid.build_majorant());
+    let [x, y, z] = arguments.cells;
+    let doing = format!("building {x} x {y} x {z} cells");
+    let built = steps.run("build", &doing, || grid.build_majorant_with(arguments.cells));
     if let Ok(cells) = &built {
         steps.holds(cells.table_bytes());
         say(&report::cells(cells))?;

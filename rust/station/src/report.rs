@@ -1,7 +1,7 @@
 //! The lines that are printed.
 
 use crate::boxes::Zone;
-use smokegrid::{Grid, Majorant, Maxima, Reading, CELLS};
+use smokegrid::{Grid, Majorant, Maxima, Reading};
 use std::fmt::Display;
 use std::path::Path;
 
@@ -31,7 +31,7 @@ pub fn grid(grid: &Grid) -> String {
 
 pub fn cells(cells: &Majorant) -> String {
     let (greatest, cell) = cells.greatest();
-    let (clear, all) = (cells.clear(), CELLS);
+    let (clear, all) = (cells.clear(), cells.figures().len());
     let share = 100.0 * clear as f64 / all as f64;
     let clear = format!("{} of {} cells ({share:.1} %)", counted(clear), counted(all));
     line("greatest figure", &format!("{} in cell {}", number(greatest), triple(&cell)))

@@ -61,6 +61,21 @@ fn the_sample_is_shown() {
     );
 }
 
+/// The figures are those of the Rust modules' copy for any cells (tests/oracle/any-cells).
+#[test]
+fn other_cells_are_built_where_they_are_named() {
+    let output = station(&[SAMPLE, "--cells", "16", "8", "4", "--cell", "6", "2", "0"]);
+    assert_eq!((output.status.code(), err(&output).as_str()), (Some(0), ""));
+    let text = out(&output);
+    assert!(text.contains("greatest figure  1 in cell (6, 2, 0)\n"), "{text}");
+    assert!(text.contains("clear air        158 of 512 cells (30.9 %)\n"), "{text}");
+    assert!(text.contains("cell (6, 2, 0)   1\n"), "{text}");
+    let refused = station(&[SAMPLE, "--cells", "16", "0", "4"]);
+    assert_eq!(refused.status.code(), Some(1));
+    assert!(err(&refused).contains("refused 23: "), "{}", err(&refused));
+    assert!(out(&refused).contains("roots            1\n"), "{}", out(&refused));
+}
+
 /// The mark of newer exporters: the same grid and figures.
 #[test]
 fn the_newer_mark_is_shown_alike() {
@@ -184,7 +199,13 @@ fn a_file_too_long_is_refused_unread() {
 
 #[test]
 fn a_wrong_call_shows_the_usage() {
-    for words in [&[][..], &[SAMPLE, "--at", "1", "2"], &[SAMPLE, SAMPLE], &[SAMPLE, "--cells"]] {
+    for words in [
+        &[][..],
+        &[SAMPLE, "--at", "1", "2"],
+        &[SAMPLE, SAMPLE],
+        &[SAMPLE, "--cells"],
+        &[SAMPLE, "--slice"],
+    ] {
         let output = station(words);
         assert_eq!(output.status.code(), Some(2), "{words:?}");
         assert!(err(&output).contains("\nusage: station FILE "), "{}", err(&output));

@@ -24,6 +24,7 @@ pub fn decode_density_grid(
     background: &mut f32,
     medium: &mut [f32],
     corners: &mut [i32],
+    cells: &mut [u32],
 ) -> u32 {
     let lent = Lent {
         blocks,
@@ -39,6 +40,7 @@ pub fn decode_density_grid(
         background,
         medium,
         corners,
+        cells,
     };
     Rust.decode_density_grid(bytes, lent)
 }
@@ -83,6 +85,12 @@ pub fn world_to_index_f(medium: &[f32], x: f32, y: f32, z: f32, index_bits: &mut
     Rust.world_to_index_f(medium, [x, y, z], index_bits)
 }
 
-pub fn build_majorant(grid: Tables, medium: &[f32], corners: &[i32], majorants: &mut [f32]) -> u32 {
-    Rust.build_majorant(grid, medium, corners, majorants)
+pub fn build_majorant(
+    grid: Tables,
+    medium: &[f32],
+    corners: &[i32],
+    cells: &[u32],
+    majorants: &mut [f32],
+) -> u32 {
+    Rust.build_majorant(grid, medium, corners, cells, majorants)
 }

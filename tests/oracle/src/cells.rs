@@ -1,29 +1,32 @@
-//! The cells of a world box, 64 on an axis, and the eight voxels around a point.
+//! The cells of a world box, and the eight voxels around a point.
 
 use crate::loader::Loader;
 
-/// Corner k of 64 cells from min to max.
-pub fn corner(min: f32, max: f32, k: usize) -> f32 {
-    let t = k as f32 / 64.0;
+/// Corner k of n cells from min to max.
+pub fn corner(min: f32, max: f32, n: u32, k: u32) -> f32 {
+    let t = k as f32 / n as f32;
     (1.0 - t) * min + t * max
 }
 
-/// The 65 corners on each axis of a medium record.
-pub fn corners(medium: &[f32]) -> [Vec<f32>; 3] {
-    std::array::from_fn(|axis| (0..65).map(|k| corner(medium[axis], medium[3 + axis], k)).collect())
+/// The corners on each axis of a medium record, one more than cells.
+pub fn corners(medium: &[f32], cells: &[u32]) -> [Vec<f32>; 3] {
+    std::array::from_fn(|axis| {
+        let n = cells[axis];
+        (0..=n).map(|k| corner(medium[axis], medium[3 + axis], n, k)).collect()
+    })
 }
 
 /// On each axis the cells that enclose a point, the first of them first.
 pub fn enclosing(corners: &[Vec<f32>; 3], point: [f32; 3]) -> [Vec<usize>; 3] {
     std::array::from_fn(|axis| {
-        let corners = &corners[axis];
-        (0..64).filter(|k| corners[*k] <= point[axis] && point[axis] <= corners[k + 1]).collect()
+        let (corners, v) = (&corners[axis], point[axis]);
+        (0..corners.len() - 1).filter(|k| corners[*k] <= v && v <= corners[k + 1]).collect()
     })
 }
 
 /// The number of a cell.
-pub fn cell(x: usize, y: usize, z: usize) -> usize {
-    x + 64 * (y + 64 * z)
+pub fn cell(cells: &[u32], [x, y, z]: [usize; 3]) -> usize {
+    x + cells[0] as usize * (y + cells[1] as usize * z)
 }
 
 /// The lowest first and the highest last; none where a voxel lies outside i32.

@@ -3,7 +3,7 @@
 use oracle::generate::bench::Due;
 use oracle::generate::{self, Case};
 use oracle::loader::{
-    decode_into, Answer, Grid, Held, Lengths, Loader, Reading, Rust, Tables, CELLS,
+    decode_into, figures_of, Answer, Grid, Held, Lengths, Loader, Reading, Rust, Tables,
 };
 use oracle::random::Random;
 use oracle::source::has_newer_mark;
@@ -136,8 +136,8 @@ fn compare_due(tally: &mut Tally, due: &Due) {
     let (decode, held) = decode_into(&Rust, &due.case.bytes, Lengths::of(places));
     let mut numbers = (decode, 0);
     if decode == 0 {
-        let (grid, mut figures) = (held.grid(), vec![0.0; CELLS]);
-        numbers.1 = Rust.build_majorant(grid.tables(), &grid.medium, &grid.corners, &mut figures);
+        let grid = held.grid();
+        numbers.1 = grid.build(&Rust, &mut vec![0.0; figures_of(&grid.cells)]);
     }
     let differs = numbers != (due.decode, due.build);
     let difference =
@@ -190,7 +190,7 @@ fn roomy(random: &mut Random, exact: Lengths) -> Lengths {
 
 fn unpaired(random: &mut Random, exact: Lengths) -> Lengths {
     let mut lengths = exact;
-    match random.below(9) {
+    match random.below(10) {
         0 => lengths.blocks += 1,
         1 => lengths.blocks = lengths.blocks.checked_sub(1).unwrap_or(2),
         2 => lengths.root_links += 1,
@@ -199,6 +199,7 @@ fn unpaired(random: &mut Random, exact: Lengths) -> Lengths {
         5 => lengths.lower_links += 1,
         6 => lengths.counts = random.pick(&[0, 3, 5]),
         7 => lengths.medium = random.pick(&[0, 17, 19]),
+        8 => lengths.cells = random.pick(&[0, 2, 4]),
         _ => lengths.corners = random.pick(&[0, 5, 7]),
     }
     lengths
@@ -306,7 +307,21 @@ fn compare_grid(tally: &mut Tally, grid: &Grid, case: &Case, random: &mut Random
         );
     }
     if build {
-        compare_build(tally, "build_majorant", grid, CELLS);
+        compare_build(tally, "build_majorant", grid, figures_of(&grid.cells));
+        let mut other = grid.clone();
+        other.cells = other_cells(random);
+        compare_build(tally, "build_majorant, other cells", &other, figures_of(&other.cells));
+    }
+}
+
+/// Other numbers of cells, each from the whole range: halves, primes and both ends. No more of them than 64 x 64 x 64 and as many again.
+fn other_cells(random: &mut Random) -> Vec<u32> {
+    loop {
+        let cells: Vec<u32> =
+            (0..3).map(|_| random.pick(&[1, 2, 3, 5, 7, 64, 100, 127, 128])).collect();
+        if figures_of(&cells) <= 1 << 19 && cells != [64; 3] {
+            return cells;
+        }
     }
 }
 
@@ -376,13 +391,11 @@ fn compare_index(tally: &mut Tally, kind: &'static str, medium: &[f32], point: [
     }));
 }
 
-fn compare_build(tally: &mut Tally, kind: &'static str, grid: &Grid, cells: usize) {
+fn compare_build(tally: &mut Tally, kind: &'static str, grid: &Grid, places: usize) {
     let fill = f32::from_bits(0x5a5a5a5a);
-    let (mut figures, mut ours) = (vec![fill; cells], vec![fill; cells]);
-    let tables = grid.tables();
-    let number = Rust.build_majorant(tables, &grid.medium, &grid.corners, &mut figures);
-    let our_number = OURS.build_majorant(tables, &grid.medium, &grid.corners, &mut ours);
-    let cell = (0..cells).find(|i| figures[*i].to_bits() != ours[*i].to_bits());
+    let (mut figures, mut ours) = (vec![fill; places], vec![fill; places]);
+    let (number, our_number) = (grid.build(&Rust, &mut figures), grid.build(OURS, &mut ours));
+    let cell = (0..places).find(|i| figures[*i].to_bits() != ours[*i].to_bits());
     let difference = if number != our_number {
         Some(format!("Rust {number}, ours {our_number}"))
     } else {
@@ -414,7 +427,7 @@ fn compare_spoiled(tally: &mut Tally, grid: &Grid, case: &Case, random: &mut Ran
     compare_list(tally, "spoiled: box_maxima", tables, &lists(random, &boxes));
     // A build of tables that still pass would cost as much as any other.
     if rust != 0 {
-        compare_build(tally, "spoiled: build_majorant", &grid, CELLS);
+        compare_build(tally, "spoiled: build_majorant", &grid, figures_of(&grid.cells));
     }
 }
 
@@ -422,13 +435,14 @@ fn compare_spoiled_record(tally: &mut Tally, grid: &Grid, random: &mut Random) {
     let mut spoiled = grid.clone();
     let name = spoil::record(&mut spoiled, random);
     tally.case = format!("{}, spoiled {name}", tally.case);
-    compare_build(tally, "spoiled: build_majorant", &spoiled, CELLS);
+    compare_build(tally, "spoiled: build_majorant", &spoiled, figures_of(&grid.cells));
     for _ in 0..2 {
         let point = samples::point(random, &grid.medium);
         compare_index(tally, "spoiled: world_to_index_f", &spoiled.medium, point);
     }
-    let cells = random.pick(&[0, 1, CELLS - 1, CELLS + 1]);
-    compare_build(tally, "spoiled: build_majorant", grid, cells);
+    let places = figures_of(&grid.cells);
+    let odd = random.pick(&[0, 1, places - 1, places + 1]);
+    compare_build(tally, "spoiled: build_majorant", grid, odd);
 }
 
 /// 4,294,967,295 bytes of zeros have a wrong mark; one more is too long. The memory is never touched.

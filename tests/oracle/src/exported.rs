@@ -37,6 +37,8 @@ pub unsafe extern "C" fn smokegrid_decode_density_grid(
     medium_len: usize,
     corners: *mut i32,
     corners_len: usize,
+    cells: *mut u32,
+    cells_len: usize,
 ) -> u32 {
     behind::decode_density_grid(
         from_raw_parts(bytes, bytes_len),
@@ -53,6 +55,7 @@ pub unsafe extern "C" fn smokegrid_decode_density_grid(
         &mut *background,
         from_raw_parts_mut(medium, medium_len),
         from_raw_parts_mut(corners, corners_len),
+        from_raw_parts_mut(cells, cells_len),
     )
 }
 
@@ -344,6 +347,8 @@ pub unsafe extern "C" fn smokegrid_build_majorant(
     medium_len: usize,
     corners: *const i32,
     corners_len: usize,
+    cells: *const u32,
+    cells_len: usize,
     majorants: *mut f32,
     majorants_len: usize,
 ) -> u32 {
@@ -362,6 +367,7 @@ pub unsafe extern "C" fn smokegrid_build_majorant(
         grid,
         from_raw_parts(medium, medium_len),
         from_raw_parts(corners, corners_len),
+        from_raw_parts(cells, cells_len),
         from_raw_parts_mut(majorants, majorants_len),
     )
 }

@@ -46,6 +46,7 @@ impl Loader for Linked {
             lent.background,
             lent.medium,
             lent.corners,
+            lent.cells,
         )
     }
 
@@ -94,8 +95,9 @@ impl Loader for Linked {
         grid: Tables,
         medium: &[f32],
         corners: &[i32],
+        cells: &[u32],
         majorants: &mut [f32],
     ) -> u32 {
-        interface::build_majorant(tables(grid), medium, corners, majorants)
+        interface::build_majorant(tables(grid), medium, corners, cells, majorants)
     }
 }

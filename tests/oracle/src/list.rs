@@ -2,7 +2,7 @@
 
 use oracle::cells::{cell, corners, enclosing, voxels_around};
 use oracle::generate::{self, Case};
-use oracle::loader::{decode_into, Grid, Held, Lengths, Loader, Rust, CELLS};
+use oracle::loader::{decode_into, figures_of, Grid, Held, Lengths, Loader, Rust, CELLS};
 use oracle::walk::{self, Places};
 use std::io::Write;
 
@@ -20,6 +20,7 @@ const LENT: Lengths = Lengths {
     counts: 4,
     medium: 18,
     corners: 6,
+    cells: 3,
 };
 const BYTES: usize = 655360;
 /// A case that has more bytes than these that are not 0 would make the list long.
@@ -67,8 +68,8 @@ fn build_refused(case: &Case, refusal: u32) -> bool {
         return false;
     }
     let grid = held.grid();
-    let mut figures = vec![0.0; CELLS];
-    let built = Rust.build_majorant(grid.tables(), &grid.medium, &grid.corners, &mut figures);
+    let mut figures = vec![0.0; figures_of(&CELLS)];
+    let built = grid.build(&Rust, &mut figures);
     built == refusal && within(&case.bytes, &grid).is_some()
 }
 
@@ -87,8 +88,8 @@ fn both_signs(case: &Case) -> bool {
         return false;
     }
     let grid = held.grid();
-    let mut figures = vec![0.0; CELLS];
-    let built = Rust.build_majorant(grid.tables(), &grid.medium, &grid.corners, &mut figures);
+    let mut figures = vec![0.0; figures_of(&CELLS)];
+    let built = grid.build(&Rust, &mut figures);
     let mut values: Vec<u32> =
         figures.iter().map(|f| f.to_bits()).filter(|bits| *bits != 0).collect();
     values.sort_unstable();
@@ -125,8 +126,8 @@ fn push_case(words: &mut Vec<u32>, bytes: &[u8], asked_above: &mut bool) {
     words.extend(held.corners.table().iter().map(|c| *c as u32));
     push_tables(words, &held);
     let grid = held.grid();
-    let mut figures = vec![0.0; CELLS];
-    let build = Rust.build_majorant(grid.tables(), &grid.medium, &grid.corners, &mut figures);
+    let mut figures = vec![0.0; figures_of(&CELLS)];
+    let build = grid.build(&Rust, &mut figures);
     push_build(words, build, &figures);
     let question = match (number, build) {
         (0, 0) => question(bytes, &grid, &figures, asked_above),
@@ -153,7 +154,7 @@ fn push_tables(list: &mut Vec<u32>, held: &Held) {
 /// The build of what was decoded: every 4,099th figure, and the first of each value, up to 64.
 fn push_build(list: &mut Vec<u32>, number: u32, figures: &[f32]) {
     let mut seen = Vec::new();
-    let mut cells: Vec<usize> = (0..CELLS).step_by(4099).collect();
+    let mut cells: Vec<usize> = (0..figures.len()).step_by(4099).collect();
     for (cell, figure) in figures.iter().enumerate() {
         if seen.len() < 64 && !seen.contains(&figure.to_bits()) {
             seen.push(figure.to_bits());
@@ -178,9 +179,9 @@ const ANY: Question = Question { coordinate: [0; 3], low: [0; 3], high: [1; 3], 
 /// About the first middle of a cell, from the greatest figure down, that has smoke around it. Where none has, about the
 /// middle of the world box, a corner of eight cells; the first time about a point above the box.
 fn question(bytes: &[u8], grid: &Grid, figures: &[f32], asked_above: &mut bool) -> Question {
-    let mut cells: Vec<usize> = (0..CELLS).filter(|cell| figures[*cell] > 0.0).collect();
+    let mut cells: Vec<usize> = (0..figures.len()).filter(|cell| figures[*cell] > 0.0).collect();
     cells.sort_by(|a, b| figures[*b].total_cmp(&figures[*a]));
-    let corners = corners(&grid.medium);
+    let corners = corners(&grid.medium, &CELLS);
     let middles = cells.iter().map(|cell| middle(&corners, *cell));
     let mut questions = middles.filter_map(|point| around(bytes, grid, point));
     if let Some(question) = questions.find(|q| voxel(bytes, q.coordinate) > 0.0) {
@@ -229,7 +230,7 @@ fn push_question(list: &mut Vec<u32>, question: &Question) {
 }
 
 /// The numbers of the decode and of the build; the value and the maximum, zeros after a refused decode; and the first cell
-/// that encloses the point (CELLS where none does) with its figure, zeros after a refused build.
+/// that encloses the point (the number of cells where none does) with its figure, zeros after a refused build.
 fn push_answer(
     list: &mut Vec<u32>,
     numbers: [u32; 2],
@@ -249,10 +250,10 @@ fn push_answer(
     if numbers[1] != 0 {
         return list.extend([0; 2]);
     }
-    let [x, y, z] = enclosing(&corners(&grid.medium), *point);
+    let [x, y, z] = enclosing(&corners(&grid.medium, &CELLS), *point);
     let found = match (x.first(), y.first(), z.first()) {
-        (Some(x), Some(y), Some(z)) => cell(*x, *y, *z),
-        _ => CELLS,
+        (Some(x), Some(y), Some(z)) => cell(&CELLS, [*x, *y, *z]),
+        _ => figures_of(&CELLS),
     };
     let figure = figures.get(found).copied().unwrap_or_default();
     list.extend([found as u32, figure.to_bits()]);

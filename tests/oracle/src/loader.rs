@@ -4,7 +4,13 @@ use crate::level;
 use crate::source::{self, NanoVDBMedium, SparseGridEntry, SparseGridRoot, SparseScalarGrid};
 use crate::walk::{self, Places};
 
-pub const CELLS: usize = 64 * 64 * 64;
+/// The cells that a decode writes into the record.
+pub const CELLS: [u32; 3] = [64; 3];
+
+/// The figures of so many cells.
+pub fn figures_of(cells: &[u32]) -> usize {
+    cells.iter().map(|number| *number as usize).product()
+}
 
 /// A grid as it is handed in: link 0 is a tile with its value beside it, link k + 1 is child k.
 #[derive(Clone, Copy)]
@@ -35,6 +41,7 @@ pub struct Lent<'a> {
     pub background: &'a mut f32,
     pub medium: &'a mut [f32],
     pub corners: &'a mut [i32],
+    pub cells: &'a mut [u32],
 }
 
 /// A number and the bits of a value.
@@ -60,6 +67,7 @@ pub trait Loader {
         grid: Tables,
         medium: &[f32],
         corners: &[i32],
+        cells: &[u32],
         majorants: &mut [f32],
     ) -> u32;
 }
@@ -143,7 +151,7 @@ impl Loader for Rust {
         if medium.len() != 18 || index_bits.len() != 3 {
             return 18;
         }
-        let record = record(SparseScalarGrid::default(), medium, &[0; 6]);
+        let record = record(SparseScalarGrid::default(), medium, &[0; 6], CELLS);
         if source::has_map_fault(&record) {
             return 13;
         }
@@ -157,14 +165,21 @@ impl Loader for Rust {
         grid: Tables,
         medium: &[f32],
         corners: &[i32],
+        cells: &[u32],
         majorants: &mut [f32],
     ) -> u32 {
         majorants.fill(0.0);
-        let lengths = medium.len() == 18 && corners.len() == 6 && majorants.len() == CELLS;
-        if !lengths || grid.paired().is_err() {
+        let &[x, y, z] = cells else { return 18 };
+        if medium.len() != 18 || corners.len() != 6 {
             return 18;
         }
-        match source::build_majorant(&record(grid.sparse(), medium, corners)) {
+        if cells.iter().any(|number| !(1..=128).contains(number)) {
+            return 23;
+        }
+        if majorants.len() != figures_of(cells) || grid.paired().is_err() {
+            return 18;
+        }
+        match source::build_majorant(&record(grid.sparse(), medium, corners, [x, y, z])) {
             Ok(figures) => {
                 majorants.copy_from_slice(&figures);
                 0
@@ -210,8 +225,13 @@ fn decode(bytes: &[u8], lent: &Lent) -> Result<NanoVDBMedium, u32> {
     }
 }
 
-/// The medium record of a grid, from the 18 floats and the 6 index corners.
-pub fn record(density: SparseScalarGrid, medium: &[f32], corners: &[i32]) -> NanoVDBMedium {
+/// The medium record of a grid, from the 18 floats, the 6 index corners and the 3 numbers of cells.
+pub fn record(
+    density: SparseScalarGrid,
+    medium: &[f32],
+    corners: &[i32],
+    cells: [u32; 3],
+) -> NanoVDBMedium {
     let three = |at: usize| [medium[at], medium[at + 1], medium[at + 2]];
     NanoVDBMedium {
         density,
@@ -225,7 +245,7 @@ pub fn record(density: SparseScalarGrid, medium: &[f32], corners: &[i32]) -> Nan
         translation_f: three(15),
         bounds_min: three(0),
         bounds_max: three(3),
-        majorant_resolution: [64; 3],
+        majorant_resolution: cells,
         majorant: Vec::new(),
     }
 }
@@ -274,6 +294,7 @@ impl Lent<'_> {
             && self.counts.len() == 4
             && self.medium.len() == 18
             && self.corners.len() == 6
+            && self.cells.len() == 3
     }
 
     /// Whole places alone count.
@@ -303,6 +324,7 @@ impl Lent<'_> {
         *self.background = 0.0;
         self.medium.fill(0.0);
         self.corners.fill(0);
+        self.cells.fill(0);
     }
 
     fn fill(&mut self, medium: &NanoVDBMedium) {
@@ -329,6 +351,7 @@ impl Lent<'_> {
         self.medium[15..].copy_from_slice(&medium.translation_f);
         self.corners[..3].copy_from_slice(&medium.index_bbox_min);
         self.corners[3..].copy_from_slice(&medium.index_bbox_max);
+        self.cells.copy_from_slice(&medium.majorant_resolution);
     }
 }
 
@@ -359,6 +382,7 @@ pub struct Lengths {
     pub counts: usize,
     pub medium: usize,
     pub corners: usize,
+    pub cells: usize,
 }
 
 impl Lengths {
@@ -379,6 +403,7 @@ impl Lengths {
             counts: 4,
             medium: 18,
             corners: 6,
+            cells: 3,
         }
     }
 }
@@ -426,6 +451,7 @@ pub struct Held {
     pub background: f32,
     pub medium: Guarded<f32>,
     pub corners: Guarded<i32>,
+    pub cells: Guarded<u32>,
 }
 
 impl Held {
@@ -446,6 +472,7 @@ impl Held {
             background: value,
             medium: Guarded::new(lengths.medium, value),
             corners: Guarded::new(lengths.corners, bits as i32),
+            cells: Guarded::new(lengths.cells, bits),
         }
     }
 
@@ -464,6 +491,7 @@ impl Held {
             background: &mut self.background,
             medium: self.medium.table_mut(),
             corners: self.corners.table_mut(),
+            cells: self.cells.table_mut(),
         }
     }
 
@@ -481,15 +509,17 @@ impl Held {
             && self.counts.intact()
             && self.medium.intact()
             && self.corners.intact()
+            && self.cells.intact()
     }
 
     /// Each table's name and words, floats by their bits.
-    pub fn words(&self) -> [(&'static str, Words<'_>); 13] {
+    pub fn words(&self) -> [(&'static str, Words<'_>); 14] {
         [
             ("counts", Words::Long(self.counts.table())),
             ("background", Words::Float(std::slice::from_ref(&self.background))),
             ("medium", Words::Float(self.medium.table())),
             ("corners", Words::Signed(self.corners.table())),
+            ("cells", Words::Word(self.cells.table())),
             ("blocks", Words::Signed(self.blocks.table())),
             ("root_links", Words::Word(self.root_links.table())),
             ("root_values", Words::Float(self.root_values.table())),
@@ -519,6 +549,7 @@ impl Held {
             leaf_values: self.leaf_values.table()[..leaf].to_vec(),
             medium: self.medium.table().to_vec(),
             corners: self.corners.table().to_vec(),
+            cells: self.cells.table().to_vec(),
         }
     }
 }
@@ -569,9 +600,15 @@ pub struct Grid {
     pub leaf_values: Vec<f32>,
     pub medium: Vec<f32>,
     pub corners: Vec<i32>,
+    pub cells: Vec<u32>,
 }
 
 impl Grid {
+    /// The build with the cells of the record.
+    pub fn build(&self, loader: &dyn Loader, figures: &mut [f32]) -> u32 {
+        loader.build_majorant(self.tables(), &self.medium, &self.corners, &self.cells, figures)
+    }
+
     pub fn tables(&self) -> Tables<'_> {
         Tables {
             background: self.background,

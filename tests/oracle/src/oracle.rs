@@ -1,6 +1,7 @@
 //! The oracle: sparse_grid.rs and flatten/nanovdb.rs as they stand in the source folder, with
 //! stand-ins for what they import. Their text is included when this crate is compiled (SMOKE_SOURCE
-//! names the folder) and is neither changed nor copied.
+//! names the folder) and is not changed. For other numbers of cells than 64, which the source knows alone,
+//! a copy is built in which they stand in place of 64 (document 02, A6; CELLS_SOURCE names it, cells.sed makes it).
 
 pub mod cells;
 pub mod generate;
@@ -98,6 +99,12 @@ pub mod gpu {
         }
 
         pub mod flatten {
+            /// The copy whose build takes its cells from the record.
+            #[allow(dead_code)]
+            pub mod any_cells {
+                include!(env!("CELLS_SOURCE"));
+            }
+
             /// The text, and beside it the ways to its private functions.
             #[allow(dead_code)]
             pub mod nanovdb {

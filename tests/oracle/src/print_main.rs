@@ -3,7 +3,9 @@
 mod list;
 
 use oracle::generate;
-use oracle::loader::{decode_into, record, Grid, Held, Lengths, Loader, Rust, Words, CELLS};
+use oracle::loader::{
+    decode_into, figures_of, record, Grid, Held, Lengths, Loader, Rust, Words, CELLS,
+};
 use oracle::random::Random;
 use oracle::samples;
 use oracle::source::{majorant_index, SparseScalarGrid};
@@ -175,13 +177,13 @@ fn print_index(grid: &Grid, point: [f32; 3]) {
         0 => println!("index {} {}", bits(&point), bits(&index.map(f32::from_bits))),
         _ => return println!("index {} refused {number}", bits(&point)),
     }
-    let medium = record(SparseScalarGrid::default(), &grid.medium, &grid.corners);
+    let medium = record(SparseScalarGrid::default(), &grid.medium, &grid.corners, CELLS);
     println!("majorant index {} {}", bits(&point), bits(&majorant_index(&medium, point)));
 }
 
 fn print_build(grid: &Grid, cells: &[usize]) {
-    let mut figures = vec![0.0; CELLS];
-    let number = Rust.build_majorant(grid.tables(), &grid.medium, &grid.corners, &mut figures);
+    let mut figures = vec![0.0; figures_of(&CELLS)];
+    let number = grid.build(&Rust, &mut figures);
     println!("build {number}");
     if number != 0 {
         return;
@@ -292,9 +294,8 @@ impl Found {
         shape[0] += 1;
         if case.builds && shape[0] % every == 0 {
             let grid = held.grid();
-            let mut figures = vec![0.0; CELLS];
-            let build =
-                Rust.build_majorant(grid.tables(), &grid.medium, &grid.corners, &mut figures);
+            let mut figures = vec![0.0; figures_of(&CELLS)];
+            let build = grid.build(&Rust, &mut figures);
             self.numbers.entry(build).or_default()[1] += 1;
             shape[1] += u64::from(build == 0);
         }

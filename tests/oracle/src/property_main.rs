@@ -5,7 +5,7 @@
 
 use oracle::cells::{cell, corners, enclosing, voxels_around};
 use oracle::generate::{self, Case};
-use oracle::loader::{decode_into, Grid, Lengths, Loader, Rust, CELLS};
+use oracle::loader::{decode_into, figures_of, Grid, Lengths, Loader, Rust};
 use oracle::random::Random;
 use oracle::samples;
 use oracle::walk::{self, Places};
@@ -30,6 +30,7 @@ struct Counts {
     on_faces: u64,
     smoky: u64,
     swapped: u64,
+    other_cells: u64,
     zones: zones::Counts,
     counterexamples: u64,
     case: String,
@@ -44,7 +45,10 @@ impl Counts {
     }
 
     fn print(&self) {
-        println!("grids tried {}, built {}", self.tried, self.built);
+        println!(
+            "grids tried {}, built {}; at other cells than 64 x 64 x 64 {}",
+            self.tried, self.built, self.other_cells
+        );
         println!(
             "builds refused, after lookups and box maxima: 16 {}, 17 {}",
             self.refused_16, self.refused_17
@@ -92,6 +96,7 @@ fn main() {
     let every_end = counts.built == grids
         && counts.refused_16 > 0
         && counts.refused_17 > 0
+        && counts.swapped > 0
         && counts.zones.complete();
     exit(if counts.counterexamples == 0 && every_end { 0 } else { 1 });
 }
@@ -114,14 +119,19 @@ fn run(
     if number != 0 {
         return;
     }
-    let grid = held.grid();
+    let mut grid = held.grid();
     check_lookups(counts, loader, case, &grid, random);
     check_boxes(counts, loader, case, &grid, random);
     for what in zones::check(&mut counts.zones, loader, &grid, &case.near, zone) {
         counts.wrong(what);
     }
-    let mut figures = vec![f32::NAN; CELLS];
-    let number = loader.build_majorant(grid.tables(), &grid.medium, &grid.corners, &mut figures);
+    // Every other grid at other numbers of cells than the decode wrote.
+    if counts.tried % 2 == 0 {
+        grid.cells = (0..3).map(|_| zone.pick(&[1, 2, 3, 5, 7, 100, 127, 128])).collect();
+        counts.other_cells += 1;
+    }
+    let mut figures = vec![f32::NAN; figures_of(&grid.cells)];
+    let number = grid.build(loader, &mut figures);
     if number != 0 && figures.iter().any(|figure| figure.to_bits() != 0) {
         counts.wrong(format!("a build refused by {number} leaves a figure"));
     }
@@ -131,11 +141,11 @@ fn run(
         17 => return counts.refused_17 += 1,
         other => return counts.wrong(format!("an accepted grid's build is refused by {other}")),
     }
-    let corners = corners(&grid.medium);
+    let corners = corners(&grid.medium, &grid.cells);
     counts.swapped +=
         corners.iter().filter(|axis| axis.windows(2).any(|cell| cell[0] > cell[1])).count() as u64;
     for _ in 0..points {
-        let point = samples::point_inside(random, &grid.medium);
+        let point = samples::point_inside(random, &grid.medium, &grid.cells);
         check_point(counts, loader, case, &grid, &figures, &corners, point);
     }
 }
@@ -217,7 +227,7 @@ fn check_point(
         for y in &enclosing[1] {
             for x in &enclosing[0] {
                 counts.cells += 1;
-                let cell = cell(*x, *y, *z);
+                let cell = cell(&grid.cells, [*x, *y, *z]);
                 if !(figures[cell] >= greatest) {
                     counts.wrong(format!(
                         "{point:?}: cell {cell} {}, voxel {greatest}",

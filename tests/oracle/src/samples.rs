@@ -1,6 +1,7 @@
 //! Where a case is looked at: coordinates, boxes and world points.
 
 use crate::cells::corner;
+use crate::loader::CELLS;
 use crate::random::Random;
 
 /// Coordinates at which blocks, nodes and leaves end.
@@ -45,16 +46,16 @@ pub fn areas(random: &mut Random, near: &[[i32; 3]], count: usize) -> Vec<[i32; 
     (0..count).map(|_| area(random, near)).collect()
 }
 
-/// A number between two ends: on a cell's face or beside it, an end, a zero, or anywhere.
-pub fn inside(random: &mut Random, min: f32, max: f32) -> f32 {
-    let k = random.below(65);
+/// A number between two ends: on a face of one of n cells or beside it, an end, a zero, or anywhere.
+pub fn inside(random: &mut Random, min: f32, max: f32, n: u32) -> f32 {
+    let k = random.below(n as usize + 1) as u32;
     let number = match random.below(10) {
         0 => min,
         1 => max,
         2 => random.pick(&[0.0, -0.0]),
-        3 | 4 => corner(min, max, k),
-        5 => corner(min, max, k).next_up(),
-        6 => corner(min, max, k).next_down(),
+        3 | 4 => corner(min, max, n, k),
+        5 => corner(min, max, n, k).next_up(),
+        6 => corner(min, max, n, k).next_down(),
         _ => (f64::from(min) + random.unit() * (f64::from(max) - f64::from(min))) as f32,
     };
     if min <= number && number <= max {
@@ -65,8 +66,8 @@ pub fn inside(random: &mut Random, min: f32, max: f32) -> f32 {
 }
 
 /// A point inside or on the world box of a medium record.
-pub fn point_inside(random: &mut Random, medium: &[f32]) -> [f32; 3] {
-    std::array::from_fn(|axis| inside(random, medium[axis], medium[3 + axis]))
+pub fn point_inside(random: &mut Random, medium: &[f32], cells: &[u32]) -> [f32; 3] {
+    std::array::from_fn(|axis| inside(random, medium[axis], medium[3 + axis], cells[axis]))
 }
 
 /// Numbers whose sums and products overflow, underflow or are none; -1e-45 times a small map is
@@ -79,6 +80,6 @@ pub fn point(random: &mut Random, medium: &[f32]) -> [f32; 3] {
         0 => [0; 3].map(|_| f32::from_bits(random.next() as u32)),
         1 => [0; 3].map(|_| ((random.unit() - 0.5) * 1e4) as f32),
         2 => [0; 3].map(|_| random.pick(&ODD)),
-        _ => point_inside(random, medium),
+        _ => point_inside(random, medium, &CELLS),
     }
 }

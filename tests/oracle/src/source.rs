@@ -1,5 +1,6 @@
 //! The functions of the two Rust modules with numbers for messages.
 
+use crate::gpu::flat::flatten::any_cells;
 pub use crate::gpu::flat::flatten::nanovdb::reach::majorant_index;
 pub use crate::gpu::flat::flatten::nanovdb::world_to_index_f;
 use crate::gpu::flat::flatten::nanovdb::{self, reach};
@@ -93,9 +94,13 @@ pub fn range_max(grid: &SparseScalarGrid, lo: [i32; 3], hi: [i32; 3]) -> Result<
     numbered(reach::range_max(grid, lo, hi)).map(positive_zero)
 }
 
-/// The figures of the cells; a zero is +0.0.
+/// The figures of the cells; a zero is +0.0. The source knows 64 on each axis alone; elsewhere its copy for any cells answers.
 pub fn build_majorant(medium: &NanoVDBMedium) -> Result<Vec<f32>, u32> {
-    match caught(|| nanovdb::build_majorant(medium)) {
+    let build = match medium.majorant_resolution {
+        [64, 64, 64] => nanovdb::build_majorant,
+        _ => any_cells::build_majorant,
+    };
+    match caught(|| build(medium)) {
         Some(Ok(figures)) => Ok(figures.into_iter().map(positive_zero).collect()),
         Some(Err(e)) => Err(build_number(medium, &e.to_string())),
         None => Err(UNKNOWN),

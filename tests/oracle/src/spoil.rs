@@ -105,9 +105,9 @@ fn lengths(grid: &mut Grid, random: &mut Random) -> &'static str {
     "length"
 }
 
-/// One change to the medium record or the index corners.
+/// One change to the medium record, the index corners or the cells.
 pub fn record(grid: &mut Grid, random: &mut Random) -> &'static str {
-    match random.below(8) {
+    match random.below(10) {
         0 => {
             let at = random.below(6);
             grid.corners[at] = random.pick(&[i32::MIN, i32::MAX, 0, -1, 1]);
@@ -120,6 +120,15 @@ pub fn record(grid: &mut Grid, random: &mut Random) -> &'static str {
         2 => {
             grid.corners.push(0);
             "long corners"
+        }
+        3 => {
+            grid.cells.truncate(random.pick(&[0, 2]));
+            "short cells"
+        }
+        4 => {
+            let at = random.below(3);
+            grid.cells[at] = random.pick(&[0, 129, 63, 65, u32::MAX]);
+            "cells"
         }
         _ => {
             let at = random.below(18);
