@@ -48,7 +48,8 @@ module _ {m : List Float} {p : Point} {n : ℕ} {bits : List ℕ} where
   out-places long h = refused-index (rw (eq-eqb (length m) 18 long, ne-eqb n 3 h))
 
   -- the position q of the medium x that was read
-  pub out-position : length m ≡ 18 → n ≡ 3 → {x : Medium} {q : Position} → x ≡ mediumFrom m (replicate 6 (pos 0)) (replicate 3 0) → q ≡ positionOf (indexBits x p)
+  pub out-position : length m ≡ 18 → n ≡ 3 → {x : Medium} {q : Position} → x ≡ mediumFrom m (replicate 6 (pos 0)) (replicate 3 0)
+      → q ≡ positionOf (indexBits x p)
       → bits ≡ getD (q .bits) 0 0 ∷ getD (q .bits) 1 0 ∷ getD (q .bits) 2 0 ∷ [] → WorldToIndex m p n (q .number) bits
   unfolding threeOf
   out-position long e x-is q-is b =
