@@ -1,4 +1,5 @@
-// The C interface beside NanoVDB.h: places and sizes, and lookups of grids from its own builders.
+// The C interface beside NanoVDB.h: places and sizes, lookups of grids from its own builders, and files from its own writer.
+#include "files.h"
 #include "grids.h"
 #include "layout.h"
 #include "loader.h"
@@ -211,9 +212,9 @@ int main(int count, char **words)
 {
     Tally tally;
     Counts counts;
-    if (count == 3) counts.asked = std::atoi(words[2]);
-    if (count < 2 || count > 3 || counts.asked < 1) {
-        std::fprintf(stderr, "usage: nanovdb-test SAMPLE [LOOKUPS]\n");
+    if (count == 4) counts.asked = std::atoi(words[3]);
+    if (count < 3 || count > 4 || counts.asked < 1) {
+        std::fprintf(stderr, "usage: nanovdb-test SAMPLE FOLDER [LOOKUPS]\n");
         return 2;
     }
     Random random(1);
@@ -221,6 +222,7 @@ int main(int count, char **words)
     compareSample(tally, words[1]);
     for (const Made &made : fogs()) compareGrid(tally, counts, made, random);
     for (const Made &made : refused()) compareGrid(tally, counts, made, random);
+    compareFiles(tally, words[2]);
     std::printf("%ld lookups beside getValue, %ld differ, %ld in smoke; %ld box maxima\n", counts.lookups, counts.differ,
         counts.smoky, counts.boxes);
     std::printf("levels of these: %ld background, %ld root tile, %ld upper tile, %ld lower tile, %ld leaf\n", counts.levels[0],

@@ -20,6 +20,9 @@ le (suc n) b at = getD b at 0 + 256 * le n b (at + 1)
 unfoldable pub signed : ℕ → ℕ → ℤ
 signed w u = cond (ltb u (2 ^ (w - 1))) (pos u) (negsuc (2 ^ w - (u + 1)))
 
+abbrev pub u16At : List ℕ → ℕ → ℕ
+u16At b at = le 2 b at
+
 abbrev pub u32At : List ℕ → ℕ → ℕ
 u32At b at = le 4 b at
 

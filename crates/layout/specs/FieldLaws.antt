@@ -8,7 +8,12 @@ use native.Mathlib.Omega.{arith}
 use lib.ListN.{length, getD, List·getD-eq-default}
 use lib.IntN.{pos, negsuc}
 use borrow.Author.Tests.{lt-ltb, le-ltb}
-use Rattle.layout.specs.Bytes.{le, signed, u32At, u64At}
+use Rattle.layout.specs.Bytes.{le, signed, u16At, u32At, u64At}
+
+-- two bytes as one sum
+pub le-two : (b : List ℕ) (at : ℕ) → le 2 b at ≡ getD b at 0 + getD b (at + 1) 0 * 256
+unfolding le
+le-two b at = omega arith
 
 -- four bytes as one sum
 pub le-four : (b : List ℕ) (at : ℕ) → le 4 b at ≡ getD b at 0 + getD b (at + 1) 0 * 256 + getD b (at + 2) 0 * 65536 + getD b (at + 3) 0 * 16777216
@@ -38,6 +43,9 @@ le-past (suc n) b at h = omega (arith, List·getD-eq-default b 0 {n = at} h, le-
 -- a u64 is its lower and its upper u32
 pub u64-halves : (b : List ℕ) (at : ℕ) → u64At b at ≡ u32At b at + u32At b (at + 4) * 4294967296
 u64-halves b at = le-parts 4 4 b at ∙ omega arith
+
+pub u16-below : (b : List ℕ) (at : ℕ) → ((i : ℕ) → getD b i 0 < 256) → u16At b at < 2 ^ 16
+u16-below b at h = le-below 2 b at h
 
 pub u32-below : (b : List ℕ) (at : ℕ) → ((i : ℕ) → getD b i 0 < 256) → u32At b at < 2 ^ 32
 u32-below b at h = le-below 4 b at h

@@ -7,7 +7,7 @@ ghost use lib.IntN.{pos};
 ghost use Rattle.float.specs.Zero.{+0};
 ghost use lib.ListN.{getD, length};
 ghost use Rattle.refusals.specs.Results.{said};
-ghost use Rattle.layout.specs.Bytes.{signed, u32At, u64At, i32At, i64At, f32At, f64At, maskBit, maskWord};
+ghost use Rattle.layout.specs.Bytes.{signed, u16At, u32At, u64At, i32At, i64At, f32At, f64At, maskBit, maskWord};
 ghost use Rattle.layout.specs.Reads.{readField, saidU32, saidU64, saidI32, saidI64, saidF32, saidF64};
 
 const U32_BYTES: usize = 4;
@@ -52,7 +52,7 @@ fn wide(x: u8) -> u32
 }
 
 // Whether a field of `width` bytes at `at` lies inside n bytes. The sum at + width may pass 2^64, so it is not formed.
-fn inside(n: usize, at: usize, width: usize) -> bool
+pub fn inside(n: usize, at: usize, width: usize) -> bool
     ensures { λ r. ⌜ r ≡ leb (at + width) n ⌝ }
 {
     if n < width {
@@ -93,6 +93,14 @@ fn cut_u32(b: &[u8], at: usize, k: usize) -> u32
     let high = byte_after(b, at, k + 2);
     let highest = byte_after(b, at, k + 3);
     lowest + low * 256 + high * 65536 + highest * 16777216
+}
+
+pub fn u16_at(b: &[u8], at: usize) -> u16
+    ensures { λ r. ⌜ r ≡ u16At (now (b .entry)) at ⌝ }
+{
+    let low = byte_after(b, at, 0);
+    let high = byte_after(b, at, 1);
+    (low + high * 256) as u16
 }
 
 pub fn u32_at(b: &[u8], at: usize) -> u32

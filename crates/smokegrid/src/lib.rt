@@ -8,11 +8,13 @@ ghost use Rattle.sparse_grid.specs.Validate.{validate as validateS, validateDen
 ghost use Rattle.sparse_grid.specs.Answers.{outcome, heard, unspoken, levelOf, levelNumber, at};
 ghost use Rattle.nanovdb.specs.Lent.{tables, lengths};
 ghost use Rattle.boxes.specs.Boxes.{between};
+ghost use Rattle.contents.specs.Contents.{pick, pickName};
 ghost use Rattle.smokegrid.specs.Flat.{Arrays};
-ghost use Rattle.smokegrid.specs.Promises.{Decodes, GetsValue, GetsReading, BoxMaximum, BoxMaxima, WorldToIndex, Builds};
+ghost use Rattle.smokegrid.specs.Promises.{Decodes, GetsValue, GetsReading, BoxMaximum, BoxMaxima, WorldToIndex, Builds, GivesPart};
 
 mod flat;
 
+use contents::Picked;
 use flat::flat_fault;
 use flat::medium_from;
 use flat::put_corners;
@@ -472,4 +474,31 @@ pub extern "C" fn smokegrid_build_majorant(
         medium_from(medium, corners, cells),
         majorants,
     )
+}
+
+// A part as C takes it: where it starts and how many bytes it has, zeros after a refusal, and the number.
+fn give_part(found: Picked, start: &mut u64, length: &mut u64) -> u32
+    ensures { λ r. ⌜ r ≡ found .number ⌝ }
+    ensures { λ _. ⌜ now (start .exit) ≡ found .start ⌝ }
+    ensures { λ _. ⌜ now (length .exit) ≡ found .length ⌝ }
+{
+    *start = found.start as u64;
+    *length = found.length as u64;
+    found.number
+}
+
+// The part of a file that holds grid n, counted from 0 through all segments, through `start` and `length`, and 0; or the number of the refusal, and zeros.
+#[no_mangle]
+pub extern "C" fn smokegrid_grid_part(file: &[u8], n: u64, start: &mut u64, length: &mut u64) -> u32
+    ensures { λ r. ⌜ GivesPart (pick (now (file .entry)) n) r (now (start .exit)) (now (length .exit)) ⌝ }
+{
+    give_part(contents::grid_part(file, n as usize), start, length)
+}
+
+// The part that holds the name of grid n.
+#[no_mangle]
+pub extern "C" fn smokegrid_grid_name(file: &[u8], n: u64, start: &mut u64, length: &mut u64) -> u32
+    ensures { λ r. ⌜ GivesPart (pickName (now (file .entry)) n) r (now (start .exit)) (now (length .exit)) ⌝ }
+{
+    give_part(contents::name_part(file, n as usize), start, length)
 }

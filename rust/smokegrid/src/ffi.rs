@@ -96,3 +96,11 @@ pub fn build_majorant(
 ) -> u32 {
     interface::build_majorant(grid(tables), medium, corners, cells, majorants)
 }
+
+pub fn grid_part(file: &[u8], n: u64, start: &mut u64, length: &mut u64) -> u32 {
+    interface::grid_part(file, n, start, length)
+}
+
+pub fn grid_name(file: &[u8], n: u64, start: &mut u64, length: &mut u64) -> u32 {
+    interface::grid_name(file, n, start, length)
+}

@@ -1,5 +1,6 @@
 //! An accepted grid, its medium record, and what can be asked of it.
 
+use crate::contents::grid_part;
 use crate::ffi::{self, Record};
 use crate::level::{Level, Reading};
 use crate::majorant::{table_length, Majorant};
@@ -71,6 +72,12 @@ impl Grid {
             Err(refusal) if refusal.number() == NO_PLACE => decode_into(bytes, Places::most(bytes)),
             answer => answer,
         }
+    }
+
+    /// Decodes grid n of a whole .nvdb file, counted from 0 through all its segments: the file's refusal (19, 20, 21), or what
+    /// `decode` answers for the bytes of that grid alone.
+    pub fn from_file(file: &[u8], n: u64) -> Result<Grid, Refusal> {
+        Grid::decode(grid_part(file, n)?)
     }
 
     pub fn counts(&self) -> Counts {

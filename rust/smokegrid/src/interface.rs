@@ -219,6 +219,20 @@ mod c {
             majorants: *mut f32,
             majorants_len: usize,
         ) -> u32;
+        pub fn smokegrid_grid_part(
+            file: *const u8,
+            file_len: usize,
+            n: u64,
+            start: *mut u64,
+            length: *mut u64,
+        ) -> u32;
+        pub fn smokegrid_grid_name(
+            file: *const u8,
+            file_len: usize,
+            n: u64,
+            start: *mut u64,
+            length: *mut u64,
+        ) -> u32;
     }
 }
 
@@ -532,4 +546,18 @@ pub fn build_majorant(
             majorants.len(),
         )
     }
+}
+
+#[inline]
+#[allow(clippy::too_many_arguments)]
+pub fn grid_part(file: &[u8], n: u64, start: &mut u64, length: &mut u64) -> u32 {
+    // SAFETY: each pointer is valid for its length, and what is written is borrowed mutably, so it overlaps nothing.
+    unsafe { c::smokegrid_grid_part(file.as_ptr(), file.len(), n, start, length) }
+}
+
+#[inline]
+#[allow(clippy::too_many_arguments)]
+pub fn grid_name(file: &[u8], n: u64, start: &mut u64, length: &mut u64) -> u32 {
+    // SAFETY: each pointer is valid for its length, and what is written is borrowed mutably, so it overlaps nothing.
+    unsafe { c::smokegrid_grid_name(file.as_ptr(), file.len(), n, start, length) }
 }

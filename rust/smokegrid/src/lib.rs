@@ -9,7 +9,10 @@
 //! println!("{} of {} cells are clear air", cells.clear(), cells.figures().len());
 //! # Ok::<(), Box<dyn std::error::Error>>(())
 //! ```
+//!
+//! Of a whole .nvdb file `Contents::of` lists the grids, and `Grid::from_file` loads one of them.
 
+mod contents;
 mod ffi;
 mod grid;
 mod interface;
@@ -18,6 +21,7 @@ mod majorant;
 mod refusal;
 mod tables;
 
+pub use contents::{grid_name, grid_part, Contents, Listed};
 pub use grid::{Counts, Grid, Maxima, Medium};
 pub use level::{Level, Reading};
 pub use majorant::Majorant;

@@ -39,7 +39,7 @@ const WORDS: &[Words] = &[
         "HEADER",
         "a header field that does not pass: mark, version, size, type, class, index or count",
         "Hand over one raw Float grid of NanoVDB ABI 32 with its whole length, which begins with \
-         NanoVDB0 or NanoVDB1: a density, not a level set, and not an .nvdb file or a compressed one.",
+         NanoVDB0 or NanoVDB1: a density, not a level set. Of an .nvdb file take one grid.",
     ),
     words(
         4,
@@ -121,6 +121,25 @@ const WORDS: &[Words] = &[
          whole nodes, boxes that are not six to a maximum",
         "The program lent tables that do not belong together: a fault of the program, not of the \
          grid. Report it.",
+    ),
+    words(
+        19,
+        "FILE",
+        "no .nvdb file that passes: empty, cut off, another mark, no grids, a major other than 32, an \
+         entry unlike its segment, an empty name, or a body under 736 bytes",
+        "Copy or export the file again, by an exporter of NanoVDB ABI 32.",
+    ),
+    words(
+        20,
+        "CODEC",
+        "a file whose segment is compressed",
+        "Write the file without compression: codec NONE, neither ZIP nor BLOSC.",
+    ),
+    words(
+        21,
+        "NO_GRID",
+        "a number past the last grid of the file",
+        "Ask for the file's contents, and name a grid that stands in it.",
     ),
     words(
         23,

@@ -1,13 +1,17 @@
 //! The words after the program's name.
 
 use crate::boxes::{self, Zone};
+use crate::source::Choice;
 use std::ffi::OsString;
 use std::fmt::Display;
 use std::path::PathBuf;
 use std::str::FromStr;
 
-pub const USAGE: &str = "usage: station FILE [QUESTION...]
-Decodes one raw NanoVDB density grid (ABI 32), builds its cells, prints what it holds.
+pub const USAGE: &str = "usage: station FILE [--grid GRID | --list] [--cells X Y Z] [QUESTION...]
+Decodes one NanoVDB density grid (ABI 32), builds its cells, prints what it holds. The file is an .nvdb
+file, not compressed, or one raw grid.
+  --grid GRID                which grid of an .nvdb file: a number from 0, or a name
+  --list                     the grids of an .nvdb file, and no more
   --cells X Y Z              so many cells on each axis, 1 to 128; 64 x 64 x 64 where none are named
 Questions, as many as there are:
   --at X Y Z                 the density at a voxel, and the level that it is read at
@@ -16,7 +20,8 @@ Questions, as many as there are:
                              six numbers as above; # begins a comment
   --cell X Y Z               the figure of a cell, each number from 0 on
   --help                     this text
-Exit status: 0, 1 where the grid is refused, 2 where the call is wrong or the file cannot be read.
+Exit status: 0, 1 where the grid or the file is refused, 2 where the call is wrong, the file cannot be
+read, or no one grid of it is chosen.
 ";
 
 #[derive(Debug, PartialEq)]
@@ -28,6 +33,8 @@ pub enum Request {
 #[derive(Debug, PartialEq)]
 pub struct Arguments {
     pub file: PathBuf,
+    pub grid: Option<Choice>,
+    pub list: bool,
     pub cells: [u32; 3],
     pub questions: Vec<Question>,
 }
@@ -44,11 +51,19 @@ pub enum Question {
 pub fn parse(words: impl Iterator<Item = OsString>) -> Result<Request, String> {
     let mut words = words;
     let mut file = None;
+    let (mut grid, mut list) = (None, false);
     let mut cells = [64; 3];
     let mut questions = Vec::new();
     while let Some(word) = words.next() {
         match word.to_str() {
             Some("--help" | "-h") => return Ok(Request::Help),
+            Some("--list") => list = true,
+            Some("--grid") if grid.is_some() => return Err("--grid stands twice".to_string()),
+            Some("--grid") => {
+                let word = words.next().ok_or("--grid lacks a number or a name")?;
+                let word = word.to_string_lossy().into_owned();
+                grid = Some(word.parse().map_or(Choice::Name(word), Choice::Number));
+            }
             Some("--at") => questions.push(Question::At(three("--at", &mut words)?)),
             Some("--box") => {
                 let low = three("--box", &mut words)?;
@@ -70,12 +85,15 @@ pub fn parse(words: impl Iterator<Item = OsString>) -> Result<Request, String> {
         }
     }
     let file = file.ok_or("no file is named")?;
+    if list && (grid.is_some() || !questions.is_empty()) {
+        return Err("--list stands by itself".to_string());
+    }
     for question in &questions {
         if let Question::Cell(cell) = question {
             check_cell(cell, &cells)?;
         }
     }
-    Ok(Request::Show(Arguments { file, cells, questions }))
+    Ok(Request::Show(Arguments { file, grid, list, cells, questions }))
 }
 
 fn three<T: FromStr>(
@@ -116,16 +134,29 @@ mod tests {
             Question::Cell([0, 63, 5]),
         ];
         let words = "--box -1 -2 -3 4 5 6 hall.grid --at -2147483648 0 2147483647 --cell 0 63 5";
-        let file = PathBuf::from("hall.grid");
-        let cells = [64; 3];
-        assert_eq!(parsed(words), Ok(Request::Show(Arguments { file, cells, questions })));
+        let (file, grid, list, cells) = (PathBuf::from("hall.grid"), None, false, [64; 3]);
+        let arguments = Arguments { file, grid, list, cells, questions };
+        assert_eq!(parsed(words), Ok(Request::Show(arguments)));
     }
 
     #[test]
     fn cells_are_asked_about_as_they_are_built() {
+        let (file, grid, list, cells) = (PathBuf::from("a"), None, false, [1, 100, 128]);
         let questions = vec![Question::Cell([0, 99, 5])];
-        let arguments = Arguments { file: PathBuf::from("a"), cells: [1, 100, 128], questions };
+        let arguments = Arguments { file, grid, list, cells, questions };
         assert_eq!(parsed("--cell 0 99 5 a --cells 1 100 128"), Ok(Request::Show(arguments)));
+    }
+
+    #[test]
+    fn a_grid_is_chosen_by_its_number_or_its_name() {
+        let chosen = |words: &str| match parsed(words) {
+            Ok(Request::Show(arguments)) => arguments.grid,
+            _ => None,
+        };
+        assert_eq!(chosen("a --grid 7"), Some(Choice::Number(7)));
+        assert_eq!(chosen("--grid density a"), Some(Choice::Name("density".to_string())));
+        assert_eq!(chosen("a --grid -1"), Some(Choice::Name("-1".to_string())));
+        assert_eq!(chosen("a --at 0 0 0"), None);
     }
 
     #[test]
@@ -138,6 +169,10 @@ mod tests {
             ("a --at 1 2 2147483648", "--at 2147483648: number too large to fit in target type"),
             ("a --box 1 2 3 4 5 x", "--box x: invalid digit found in string"),
             ("a --boxes", "--boxes lacks a file"),
+            ("a --grid", "--grid lacks a number or a name"),
+            ("a --grid 1 --grid 2", "--grid stands twice"),
+            ("a --list --grid 1", "--list stands by itself"),
+            ("a --list --at 0 0 0", "--list stands by itself"),
             ("a --boxes no/such", "--boxes no/such: No such file or directory (os error 2)"),
             ("a --cell 1 2 64", "--cell 64: there are 64 cells, from 0 on"),
             ("a --cell 1 2 3 --cells 8 2 8", "--cell 2: there are 2 cells, from 0 on"),

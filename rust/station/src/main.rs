@@ -1,16 +1,15 @@
-//! `station`: what a smoke station shows of one raw grid.
+//! `station`: what a smoke station shows of one grid, raw or out of an .nvdb file.
 
 mod arguments;
 mod boxes;
 mod report;
+mod source;
 mod steps;
 
 use arguments::{Arguments, Question, Request, USAGE};
 use report::{counted, number, triple};
-use smokegrid::{Grid, Majorant, Refusal};
-use std::fs::File;
-use std::io::{self, Read, Write};
-use std::path::Path;
+use smokegrid::{Contents, Grid, Majorant, Refusal};
+use std::io::{self, Write};
 use std::process::ExitCode;
 use steps::Steps;
 
@@ -21,6 +20,8 @@ const BAD_USAGE: u8 = 2;
 enum Stop {
     Refused(Refusal),
     Unreadable(io::Error),
+    /// No one grid of the file is chosen.
+    Choice(String),
     /// Standard output was closed.
     Unwritten,
 }
@@ -55,6 +56,10 @@ fn main() -> ExitCode {
             eprintln!("station: {name}: {error}");
             ExitCode::from(BAD_USAGE)
         }
+        Err(Stop::Choice(fault)) => {
+            eprintln!("station: {name}: {fault}");
+            ExitCode::from(BAD_USAGE)
+        }
         Err(Stop::Unwritten) => ExitCode::from(BAD_USAGE),
     }
 }
@@ -62,12 +67,21 @@ fn main() -> ExitCode {
 /// What is known is printed before the next step begins, so that a refusal hides nothing.
 fn show(arguments: &Arguments) -> Result<(), Stop> {
     let mut steps = Steps::new(3);
-    let bytes = steps.run("read", "reading", || read(&arguments.file))?;
+    let bytes = steps.run("read", "reading", || source::read(&arguments.file))?;
     steps.holds(bytes.len());
     say(&report::file(&arguments.file, bytes.len()))?;
-    let doing = format!("decoding {} bytes", counted(bytes.len()));
-    let grid = steps.run("decode", &doing, || Grid::decode(&bytes))?;
+    if arguments.list {
+        return say(&report::contents(&Contents::of(&bytes)?));
+    }
+    let picked = source::pick(&bytes, arguments.grid.as_ref())?;
+    if let Some(grid) = &picked {
+        say(&report::listed(grid))?;
+    }
+    let length = picked.as_ref().map_or(bytes.len(), |grid| grid.size());
+    let doing = format!("decoding {} bytes", counted(length));
+    let grid = steps.run("decode", &doing, || source::load(&bytes, picked.as_ref()))?;
     steps.holds(grid.table_bytes());
+    drop(picked);
     drop(bytes);
     say(&report::grid(&grid))?;
     let [x, y, z] = arguments.cells;
@@ -80,21 +94,6 @@ fn show(arguments: &Arguments) -> Result<(), Stop> {
     say(&answers(arguments, &grid, built.as_ref().ok())?)?;
     say(&steps.table())?;
     built.map(|_| ()).map_err(Stop::from)
-}
-
-/// A file too long for any grid is not read.
-fn read(path: &Path) -> Result<Vec<u8>, Stop> {
-    let file = File::open(path).map_err(Stop::Unreadable)?;
-    let length = file.metadata().map_err(Stop::Unreadable)?.len();
-    if length > Refusal::LONGEST {
-        return Err(Refusal::TOO_LONG.into());
-    }
-    let mut bytes = Vec::with_capacity(length as usize);
-    file.take(Refusal::LONGEST + 1).read_to_end(&mut bytes).map_err(Stop::Unreadable)?;
-    if bytes.len() as u64 > Refusal::LONGEST {
-        return Err(Refusal::TOO_LONG.into());
-    }
-    Ok(bytes)
 }
 
 /// A line for each question; a cell's has no figure where the build was refused.

@@ -1,7 +1,8 @@
 //! The lines that are printed.
 
 use crate::boxes::Zone;
-use smokegrid::{Grid, Majorant, Maxima, Reading};
+use smokegrid::{Contents, Grid, Listed, Majorant, Maxima, Reading};
+use std::collections::HashMap;
 use std::fmt::Display;
 use std::path::Path;
 
@@ -14,6 +15,33 @@ pub fn line(label: &str, text: &str) -> String {
 pub fn file(path: &Path, length: usize) -> String {
     line("file", &path.display().to_string())
         + &line("length", &format!("{} bytes", counted(length)))
+}
+
+/// A grid of a file: its number, name, length and place.
+pub fn listed(grid: &Listed) -> String {
+    let (size, place) = (counted(grid.size()), counted(grid.place.start));
+    line(
+        &format!("grid {}", grid.index),
+        &format!("{:?}, {size} bytes from byte {place}", grid.name()),
+    )
+}
+
+/// The grids of a file; a name that stands more than once is said so.
+pub fn contents(contents: &Contents) -> String {
+    let grids = contents.grids();
+    let mut times = HashMap::new();
+    for grid in grids {
+        *times.entry(grid.name()).or_insert(0) += 1;
+    }
+    let mut lines = line("grids", &counted(grids.len()));
+    for grid in grids {
+        lines += listed(grid).trim_end();
+        if times[&grid.name()] > 1 {
+            lines += &format!(" (this name stands {} times)", times[&grid.name()]);
+        }
+        lines.push('\n');
+    }
+    lines
 }
 
 pub fn grid(grid: &Grid) -> String {

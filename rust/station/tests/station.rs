@@ -225,7 +225,102 @@ fn help_is_printed() {
     let output = station(&["--help"]);
     assert_eq!((output.status.code(), err(&output).as_str()), (Some(0), ""));
     assert!(out(&output).starts_with("usage: station FILE "), "{}", out(&output));
-    for option in ["--at X Y Z", "--box LX LY LZ HX HY HZ", "--cell X Y Z"] {
+    for option in ["--grid GRID", "--list", "--at X Y Z", "--box LX LY LZ HX HY HZ", "--cell X Y Z"]
+    {
         assert!(out(&output).contains(option), "{option}");
+    }
+}
+
+/// An .nvdb file of one segment, with the sample under each name.
+fn nvdb(name: &str, codec: u16, names: &[&str]) -> PathBuf {
+    edited(name, |bytes| {
+        let grid = std::mem::take(bytes);
+        let version = (32u32 << 21).to_le_bytes();
+        bytes.extend(b"NanoVDB2");
+        bytes.extend(version);
+        bytes.extend([names.len() as u16, codec].map(u16::to_le_bytes).concat());
+        for name in names {
+            let mut entry = [0; 176];
+            entry[..8].copy_from_slice(&(grid.len() as u64).to_le_bytes());
+            entry[136..140].copy_from_slice(&(name.len() as u32).to_le_bytes());
+            entry[168..170].copy_from_slice(&codec.to_le_bytes());
+            entry[172..].copy_from_slice(&version);
+            bytes.extend(entry);
+            bytes.extend(name.as_bytes());
+        }
+        names.iter().for_each(|_| bytes.extend(&grid));
+    })
+}
+
+/// The only grid of a file is shown as the raw grid is, with a line that says where it stands.
+#[test]
+fn an_nvdb_file_is_shown_as_it_is() {
+    let path = nvdb("one.nvdb", 0, &["density\0"]);
+    let output = station(&[path.to_str().unwrap()]);
+    assert_eq!((output.status.code(), err(&output).as_str()), (Some(0), ""));
+    let [file, raw] = [out(&output), out(&station(&[SAMPLE]))];
+    let [file, raw] = [&file, &raw].map(|text| text.lines().collect::<Vec<_>>());
+    assert_eq!(file[1], "length           346,024 bytes");
+    assert_eq!(file[2], "grid 0           \"density\", 345,824 bytes from byte 200");
+    assert_eq!(file[3..10], raw[2..9]);
+}
+
+#[test]
+fn the_contents_are_listed() {
+    let path = nvdb("three.nvdb", 0, &["density\0", "heat", "density"]);
+    let output = station(&["--list", path.to_str().unwrap()]);
+    assert_eq!((output.status.code(), err(&output).as_str()), (Some(0), ""));
+    assert_eq!(
+        out(&output).lines().skip(2).collect::<Vec<_>>(),
+        [
+            "grids            3",
+            "grid 0           \"density\", 345,824 bytes from byte 563 (this name stands 2 times)",
+            "grid 1           \"heat\", 345,824 bytes from byte 346,387",
+            "grid 2           \"density\", 345,824 bytes from byte 692,211 (this name stands 2 times)",
+        ]
+    );
+}
+
+#[test]
+fn one_grid_of_several_is_chosen() {
+    let path = nvdb("several.nvdb", 0, &["density", "heat", "density"]);
+    let path = path.to_str().unwrap();
+    for choice in ["1", "heat"] {
+        let output = station(&[path, "--grid", choice, "--at", "11", "9", "0"]);
+        assert_eq!((output.status.code(), err(&output).as_str()), (Some(0), ""));
+        let text = out(&output);
+        assert!(text.contains("\ngrid 1           \"heat\", "), "{text}");
+        assert!(text.contains("\nat (11, 9, 0)    1 (leaf)\n"), "{text}");
+    }
+    let wrong = |words: &[&str], fault: &str| {
+        let output = station(words);
+        assert_eq!(output.status.code(), Some(2));
+        assert_eq!(err(&output), format!("station: {path}: {fault}\n"));
+    };
+    wrong(&[path], "3 grids: choose one by --grid; --list shows them");
+    wrong(&[path, "--grid", "smoke"], "no grid is named \"smoke\"; --list shows the names");
+    let twice = "\"density\" stands 2 times, as grids 0, 2: choose by number";
+    wrong(&[path, "--grid", "density"], twice);
+    let output = station(&[path, "--grid", "3"]);
+    assert_eq!(output.status.code(), Some(1));
+    assert!(
+        err(&output).starts_with(&format!("station: {path}: refused 21: ")),
+        "{}",
+        err(&output)
+    );
+}
+
+/// Where neither passes, the refusal is that of what the bytes begin as; whoever asks for a grid of a file hears the file's.
+#[test]
+fn a_file_that_does_not_pass_is_refused_by_its_own_number() {
+    assert_refused(&nvdb("packed.nvdb", 1, &["density"]), 20);
+    let cut = nvdb("cut.nvdb", 0, &["density"]);
+    let bytes = std::fs::read(&cut).unwrap();
+    std::fs::write(&cut, &bytes[..bytes.len() - 1]).unwrap();
+    assert_refused(&cut, 19);
+    for words in [&[SAMPLE, "--list"][..], &[SAMPLE, "--grid", "0"]] {
+        let output = station(words);
+        assert_eq!(output.status.code(), Some(1));
+        assert!(err(&output).contains(": refused 19: "), "{}", err(&output));
     }
 }

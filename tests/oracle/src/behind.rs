@@ -1,6 +1,7 @@
 //! The Rust modules behind the functions of smokegrid.h, as a library: what the comparison is tried on. Built from a copy with one
 //! wrong step, it must be found out.
 
+use oracle::file::Part;
 use oracle::loader::{Answer, Lent, Loader, Rust, Tables};
 
 fn given(value: &mut f32, (number, bits): Answer) -> u32 {
@@ -93,4 +94,17 @@ pub fn build_majorant(
     majorants: &mut [f32],
 ) -> u32 {
     Rust.build_majorant(grid, medium, corners, cells, majorants)
+}
+
+fn handed(start: &mut u64, length: &mut u64, part: Part) -> u32 {
+    (*start, *length) = (part.1, part.2);
+    part.0
+}
+
+pub fn grid_part(file: &[u8], n: u64, start: &mut u64, length: &mut u64) -> u32 {
+    handed(start, length, Rust.grid_part(file, n))
+}
+
+pub fn grid_name(file: &[u8], n: u64, start: &mut u64, length: &mut u64) -> u32 {
+    handed(start, length, Rust.grid_name(file, n))
 }

@@ -371,3 +371,29 @@ pub unsafe extern "C" fn smokegrid_build_majorant(
         from_raw_parts_mut(majorants, majorants_len),
     )
 }
+
+/// # Safety
+/// Each pointer is valid for its length, and no buffer that is written overlaps another.
+#[no_mangle]
+pub unsafe extern "C" fn smokegrid_grid_part(
+    file: *const u8,
+    file_len: usize,
+    n: u64,
+    start: *mut u64,
+    length: *mut u64,
+) -> u32 {
+    behind::grid_part(from_raw_parts(file, file_len), n, &mut *start, &mut *length)
+}
+
+/// # Safety
+/// Each pointer is valid for its length, and no buffer that is written overlaps another.
+#[no_mangle]
+pub unsafe extern "C" fn smokegrid_grid_name(
+    file: *const u8,
+    file_len: usize,
+    n: u64,
+    start: *mut u64,
+    length: *mut u64,
+) -> u32 {
+    behind::grid_name(from_raw_parts(file, file_len), n, &mut *start, &mut *length)
+}

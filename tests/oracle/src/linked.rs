@@ -3,6 +3,7 @@
 #[path = "../../../rust/smokegrid/src/interface.rs"]
 mod interface;
 
+use crate::file::Part;
 use crate::loader::{Answer, Lent, Loader, Reading, Tables};
 use interface::GridTables;
 
@@ -13,6 +14,12 @@ fn answer(call: impl FnOnce(&mut f32) -> u32) -> Answer {
     let mut value = f32::from_bits(0x5a5a5a5a);
     let number = call(&mut value);
     (number, value.to_bits())
+}
+
+fn part(call: impl FnOnce(&mut u64, &mut u64) -> u32) -> Part {
+    let (mut start, mut length) = (0x5a5a5a5a, 0x5a5a5a5a);
+    let number = call(&mut start, &mut length);
+    (number, start, length)
 }
 
 fn tables(grid: Tables<'_>) -> GridTables<'_> {
@@ -99,5 +106,13 @@ impl Loader for Linked {
         majorants: &mut [f32],
     ) -> u32 {
         interface::build_majorant(tables(grid), medium, corners, cells, majorants)
+    }
+
+    fn grid_part(&self, file: &[u8], n: u64) -> Part {
+        part(|start, length| interface::grid_part(file, n, start, length))
+    }
+
+    fn grid_name(&self, file: &[u8], n: u64) -> Part {
+        part(|start, length| interface::grid_name(file, n, start, length))
     }
 }

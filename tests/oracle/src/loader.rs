@@ -1,5 +1,6 @@
 //! What is compared: the functions of smokegrid.h over slices, and the Rust modules behind them.
 
+use crate::file;
 use crate::level;
 use crate::source::{self, NanoVDBMedium, SparseGridEntry, SparseGridRoot, SparseScalarGrid};
 use crate::walk::{self, Places};
@@ -70,6 +71,9 @@ pub trait Loader {
         cells: &[u32],
         majorants: &mut [f32],
     ) -> u32;
+    /// The parts of a file that hold grid n and its name.
+    fn grid_part(&self, file: &[u8], n: u64) -> file::Part;
+    fn grid_name(&self, file: &[u8], n: u64) -> file::Part;
 }
 
 /// The Rust modules. They lend nothing and take vectors, so 1, 9 and 18 of the lengths come from
@@ -186,6 +190,15 @@ impl Loader for Rust {
             }
             Err(number) => number,
         }
+    }
+
+    /// The source's reader of files is not at hand: these are ours, from document 02.
+    fn grid_part(&self, file: &[u8], n: u64) -> file::Part {
+        file::part(file, n, |grid| grid.body.clone())
+    }
+
+    fn grid_name(&self, file: &[u8], n: u64) -> file::Part {
+        file::part(file, n, |grid| grid.name.clone())
     }
 }
 

@@ -4,6 +4,7 @@
 //! a copy is built in which they stand in place of 64 (document 02, A6; CELLS_SOURCE names it, cells.sed makes it).
 
 pub mod cells;
+pub mod file;
 pub mod generate;
 pub mod level;
 #[cfg(linked)]
@@ -125,6 +126,10 @@ pub mod gpu {
                         hi: [i32; 3],
                     ) -> Result<f32, PbrtError> {
                         super::range_max(grid, lo, hi)
+                    }
+
+                    pub fn validate_file_envelope(filename: &str) -> Result<(), PbrtError> {
+                        super::validate_file_envelope(filename)
                     }
 
                     pub fn majorant_index(medium: &NanoVDBMedium, point: [f32; 3]) -> [f32; 3] {

@@ -1,5 +1,6 @@
-//! Stands in for nanovdb_rs. The header of a raw grid is read; the tree check accepts everything;
-//! what concerns whole files is here only so that the source compiles, and finds nothing.
+//! Stands in for nanovdb_rs. The header of a raw grid is read, and that of a segment; the tree check
+//! accepts everything; what else concerns whole files is here only so that the source compiles, and
+//! finds nothing.
 
 const HEADER_SIZE: usize = 672;
 
@@ -88,8 +89,17 @@ pub struct SegmentHeader {
 }
 
 impl SegmentHeader {
-    pub fn parse(_bytes: &[u8; 16], _at: u64) -> Result<Self, String> {
-        Err("Files are not read here.".to_string())
+    /// The marks are document 02's, and the codecs those of the enum.
+    pub fn parse(bytes: &[u8; 16], _at: u64) -> Result<Self, String> {
+        let u16_at = |at: usize| u16::from_le_bytes([bytes[at], bytes[at + 1]]);
+        let codec = match (&bytes[..8], u16_at(14)) {
+            (b"NanoVDB0" | b"NanoVDB2", 0) => Codec::None,
+            (b"NanoVDB0" | b"NanoVDB2", 1) => Codec::Zip,
+            (b"NanoVDB0" | b"NanoVDB2", 2) => Codec::Blosc,
+            _ => return Err("Another mark or codec.".to_string()),
+        };
+        let version = Version(u32::from_le_bytes(bytes[8..12].try_into().unwrap()));
+        Ok(SegmentHeader { version, grid_count: u16_at(12), codec })
     }
 }
 

@@ -67,3 +67,24 @@ pub fn resize(bytes: &mut Vec<u8>, length: usize) {
     bytes.resize(length, 0);
     put64(bytes, 32, length as u64);
 }
+
+/// A segment of an .nvdb file: each grid's name, as it stands there, and its bytes.
+#[allow(dead_code)]
+pub fn segment(mark: &[u8; 8], codec: u16, grids: &[(&str, &[u8])]) -> Vec<u8> {
+    let version = 32u32 << 21 | 4 << 10 | 2;
+    let mut bytes = mark.to_vec();
+    bytes.extend(version.to_le_bytes());
+    bytes.extend((grids.len() as u16).to_le_bytes());
+    bytes.extend(codec.to_le_bytes());
+    for (name, grid) in grids {
+        let mut entry = vec![0; 176];
+        put64(&mut entry, 0, grid.len() as u64);
+        put32(&mut entry, 136, name.len() as u32);
+        entry[168..170].copy_from_slice(&codec.to_le_bytes());
+        put32(&mut entry, 172, version);
+        bytes.extend(entry);
+        bytes.extend(name.as_bytes());
+    }
+    bytes.extend(grids.iter().flat_map(|(_, grid)| *grid));
+    bytes
+}
