@@ -1,4 +1,4 @@
--- The fields of a bit pattern. Definitions that the contracts within the crate cite.
+-- The fields of a bit pattern: a value is its digits times a power of two.
 use Prim.Native.Nat.{ℕ, _+_, _-_, _%_, _/_}
 use mathlib.Core.Bool.{cond}
 use lib.Dec.{eqb}

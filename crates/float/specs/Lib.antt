@@ -5,8 +5,8 @@ pub mod Fused
 pub mod Coordinate
 pub mod Answers
 pub mod Integer
--- Definitions that only contracts within the crate cite.
 pub mod Fields
+-- Definitions that only contracts within the crate cite.
 pub mod Shifts
 -- Worked examples.
 pub mod Examples

@@ -54,14 +54,14 @@ pub(crate) fn field(b: u32) -> u64
 }
 
 // Its digits, with the leading one.
-pub(crate) fn digits(b: u32) -> u64
+pub fn digits(b: u32) -> u64
     ensures { λ r. ⌜ r ≡ digitsOf binary32 b ⌝ }
 {
     significand(field(b), (b % LEADING) as u64, LEADING as u64)
 }
 
 // The power of two that the digits count, from the smallest value up.
-pub(crate) fn place(b: u32) -> u64
+pub fn place(b: u32) -> u64
     ensures { λ r. ⌜ r ≡ placeOf binary32 b ⌝ }
 {
     excess(field(b), 1)

@@ -4,6 +4,16 @@ ghost use lib.IntN.{pos};
 ghost use lib.ListN.{length, replicate};
 ghost use Rattle.float.specs.Zero.{+0};
 
+pub fn zero_u8(bytes: &mut [u8])
+    ensures { λ _. ⌜ now (bytes .exit) ≡ replicate (length (now (bytes .entry))) 0 ⌝ }
+{
+    let mut i: usize = 0;
+    while i < bytes.len() {
+        bytes[i] = 0;
+        i += 1;
+    }
+}
+
 pub fn zero_i32(numbers: &mut [i32])
     ensures { λ _. ⌜ now (numbers .exit) ≡ replicate (length (now (numbers .entry))) (pos 0) ⌝ }
 {

@@ -1,3 +1,4 @@
 pub mod Stores
 pub mod Left
 pub mod Taken
+pub mod Windows

@@ -1,5 +1,7 @@
 -- Definitions that the contracts cite.
 pub mod Flat
+pub mod FlatTables
 pub mod Promises
 -- Laws.
 pub mod Back
+pub mod WindowRuns

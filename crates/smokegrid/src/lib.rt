@@ -10,9 +10,12 @@ ghost use Rattle.nanovdb.specs.Lent.{tables, lengths};
 ghost use Rattle.boxes.specs.Boxes.{between};
 ghost use Rattle.contents.specs.Contents.{pick, pickName};
 ghost use Rattle.smokegrid.specs.Flat.{Arrays};
+ghost use Rattle.smokegrid.specs.FlatTables.{windowArrays};
 ghost use Rattle.smokegrid.specs.Promises.{Decodes, GetsValue, GetsReading, BoxMaximum, BoxMaxima, WorldToIndex, Builds, GivesPart};
+ghost use Rattle.smokegrid.specs.Promises.{PrintsLayer, OpensWindow, PushesTable};
 
 mod flat;
+mod tables;
 
 use contents::Picked;
 use flat::flat_fault;
@@ -25,6 +28,8 @@ use index::world_to_index_f;
 use majorant::box_maxima;
 use majorant::box_maximum;
 use majorant::build_majorant;
+use refusals::both;
+use sheet::print_layer;
 use sparse_grid::Answer;
 use sparse_grid::Level;
 use sparse_grid::Reading;
@@ -32,6 +37,10 @@ use sparse_grid::get_reading;
 use sparse_grid::get_value;
 use sparse_grid::validate;
 use sparse_grid::validate_density;
+use tables::put_window;
+use tables::window_from;
+use window::open;
+use window::push;
 
 // An answer as C takes it: the value through `value`, +0.0 after a refusal, and the number.
 fn give(found: Answer, value: &mut f32) -> u32
@@ -501,4 +510,85 @@ pub extern "C" fn smokegrid_grid_name(file: &[u8], n: u64, start: &mut u64, leng
     ensures { λ r. ⌜ GivesPart (pickName (now (file .entry)) n) r (now (start .exit)) (now (length .exit)) ⌝ }
 {
     give_part(contents::name_part(file, n as usize), start, length)
+}
+
+// A layer of a table of cells as text, its length, and 0; or the number of the refusal, and zeros.
+#[no_mangle]
+pub extern "C" fn smokegrid_print_layer(
+    majorants: &[f32],
+    cells: &[u32],
+    layer: u32,
+    text: &mut [u8],
+    written: &mut u64,
+) -> u32
+    ensures { λ r.
+        ⌜ PrintsLayer (now (majorants .entry)) (now (cells .entry)) layer (length (now (text .entry)))
+        r (now (text .exit)) (now (written .exit)) ⌝ }
+{
+    if cells.len() != 3 {
+        lent::zero_u8(text);
+        *written = 0;
+        return refusals::TABLES;
+    }
+    let printed = print_layer(majorants, cells[0], cells[1], cells[2], layer, text);
+    *written = printed.written;
+    printed.number
+}
+
+// A window that holds no table yet, with memory and answer zeroed, and 0; or the number of the refusal, and zeros in all three.
+#[no_mangle]
+pub extern "C" fn smokegrid_window_open(
+    w: u32,
+    cells: &[u32],
+    window: &mut [u32],
+    memory: &mut [f32],
+    answer: &mut [f32],
+) -> u32
+    ensures { λ r.
+        ⌜ OpensWindow w (now (cells .entry)) (length (now (window .entry))) (length (now (memory .entry))) (length (now (answer .entry)))
+        r (windowArrays (now (window .exit)) (now (memory .exit)) (now (answer .exit))) ⌝ }
+{
+    lent::zero_u32(window);
+    if !both(cells.len() == 3, window.len() == 6) {
+        lent::zero_f32(memory);
+        lent::zero_f32(answer);
+        return refusals::TABLES;
+    }
+    let opened = open(w, cells[0], cells[1], cells[2], memory, answer);
+    put_window(window, opened.window);
+    opened.number
+}
+
+// One table more, the answer of the tables that are held, and 0; or the number of the refusal, and everything as it was.
+#[no_mangle]
+pub extern "C" fn smokegrid_window_push(
+    majorants: &[f32],
+    cells: &[u32],
+    window: &mut [u32],
+    memory: &mut [f32],
+    answer: &mut [f32],
+) -> u32
+    ensures { λ r.
+        ⌜ PushesTable (now (cells .entry)) (now (majorants .entry)) (windowArrays (now (window .entry)) (now (memory .entry)) (now (answer .entry)))
+        r (windowArrays (now (window .exit)) (now (memory .exit)) (now (answer .exit))) ⌝ }
+{
+    if !both(cells.len() == 3, window.len() == 6) {
+        return refusals::TABLES;
+    }
+    let before = window_from(window);
+    let pushed = push(
+        before,
+        cells[0],
+        cells[1],
+        cells[2],
+        majorants,
+        memory,
+        answer,
+    );
+    if pushed.number != 0 {
+        return pushed.number;
+    }
+    lent::zero_u32(window);
+    put_window(window, pushed.window);
+    0
 }

@@ -233,6 +233,39 @@ mod c {
             start: *mut u64,
             length: *mut u64,
         ) -> u32;
+        pub fn smokegrid_print_layer(
+            majorants: *const f32,
+            majorants_len: usize,
+            cells: *const u32,
+            cells_len: usize,
+            layer: u32,
+            text: *mut u8,
+            text_len: usize,
+            written: *mut u64,
+        ) -> u32;
+        pub fn smokegrid_window_open(
+            w: u32,
+            cells: *const u32,
+            cells_len: usize,
+            window: *mut u32,
+            window_len: usize,
+            memory: *mut f32,
+            memory_len: usize,
+            answer: *mut f32,
+            answer_len: usize,
+        ) -> u32;
+        pub fn smokegrid_window_push(
+            majorants: *const f32,
+            majorants_len: usize,
+            cells: *const u32,
+            cells_len: usize,
+            window: *mut u32,
+            window_len: usize,
+            memory: *mut f32,
+            memory_len: usize,
+            answer: *mut f32,
+            answer_len: usize,
+        ) -> u32;
     }
 }
 
@@ -560,4 +593,79 @@ pub fn grid_part(file: &[u8], n: u64, start: &mut u64, length: &mut u64) -> u32 
 pub fn grid_name(file: &[u8], n: u64, start: &mut u64, length: &mut u64) -> u32 {
     // SAFETY: each pointer is valid for its length, and what is written is borrowed mutably, so it overlaps nothing.
     unsafe { c::smokegrid_grid_name(file.as_ptr(), file.len(), n, start, length) }
+}
+
+#[inline]
+#[allow(clippy::too_many_arguments)]
+pub fn print_layer(
+    majorants: &[f32],
+    cells: &[u32],
+    layer: u32,
+    text: &mut [u8],
+    written: &mut u64,
+) -> u32 {
+    // SAFETY: each pointer is valid for its length, and what is written is borrowed mutably, so it overlaps nothing.
+    unsafe {
+        c::smokegrid_print_layer(
+            majorants.as_ptr(),
+            majorants.len(),
+            cells.as_ptr(),
+            cells.len(),
+            layer,
+            text.as_mut_ptr(),
+            text.len(),
+            written,
+        )
+    }
+}
+
+#[inline]
+#[allow(clippy::too_many_arguments)]
+pub fn window_open(
+    w: u32,
+    cells: &[u32],
+    window: &mut [u32],
+    memory: &mut [f32],
+    answer: &mut [f32],
+) -> u32 {
+    // SAFETY: each pointer is valid for its length, and what is written is borrowed mutably, so it overlaps nothing.
+    unsafe {
+        c::smokegrid_window_open(
+            w,
+            cells.as_ptr(),
+            cells.len(),
+            window.as_mut_ptr(),
+            window.len(),
+            memory.as_mut_ptr(),
+            memory.len(),
+            answer.as_mut_ptr(),
+            answer.len(),
+        )
+    }
+}
+
+#[inline]
+#[allow(clippy::too_many_arguments)]
+pub fn window_push(
+    majorants: &[f32],
+    cells: &[u32],
+    window: &mut [u32],
+    memory: &mut [f32],
+    answer: &mut [f32],
+) -> u32 {
+    // SAFETY: each pointer is valid for its length, and what is written is borrowed mutably, so it overlaps nothing.
+    unsafe {
+        c::smokegrid_window_push(
+            majorants.as_ptr(),
+            majorants.len(),
+            cells.as_ptr(),
+            cells.len(),
+            window.as_mut_ptr(),
+            window.len(),
+            memory.as_mut_ptr(),
+            memory.len(),
+            answer.as_mut_ptr(),
+            answer.len(),
+        )
+    }
 }

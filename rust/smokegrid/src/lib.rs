@@ -16,13 +16,17 @@ mod contents;
 mod ffi;
 mod grid;
 mod interface;
+mod layer;
 mod level;
 mod majorant;
 mod refusal;
 mod tables;
+mod window;
 
 pub use contents::{grid_name, grid_part, Contents, Listed};
 pub use grid::{Counts, Grid, Maxima, Medium};
+pub use layer::layer;
 pub use level::{Level, Reading};
 pub use majorant::Majorant;
 pub use refusal::Refusal;
+pub use window::Window;

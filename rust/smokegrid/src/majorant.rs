@@ -1,5 +1,9 @@
 //! The figures of the cells.
 
+use crate::layer;
+use crate::refusal::Refusal;
+use crate::window::Window;
+
 /// The figures of a table of cells. Where a number does not pass, none: the library, not this, refuses it.
 pub(crate) fn table_length(cells: [u32; 3]) -> usize {
     match cells.iter().all(|number| (1..=128).contains(number)) {
@@ -52,6 +56,16 @@ impl Majorant {
     /// How many cells are clear air: their figure is zero.
     pub fn clear(&self) -> usize {
         self.figures.iter().filter(|figure| **figure == 0.0).count()
+    }
+
+    /// Layer z on paper, as `layer` has it.
+    pub fn layer(&self, z: u32) -> Result<String, Refusal> {
+        layer::layer(&self.figures, self.cells, z)
+    }
+
+    /// The greatest of the tables in a window, as a table of the same cells.
+    pub fn of_window(window: &Window) -> Self {
+        Majorant::new(window.cells(), window.greatest().to_vec())
     }
 
     pub fn table_bytes(&self) -> usize {

@@ -59,7 +59,8 @@ const WORDS: &[Words] = &[
     words(
         9,
         "NO_PLACE",
-        "more tiles than lent root places, or no whole place for the next node or span",
+        "more tiles than lent root places, no whole place for the next node or span, or too short a \
+         buffer for the text of a layer",
         "The program lent tables that are too short: a fault of the program, not of the grid. \
          Report it.",
     ),
@@ -79,7 +80,7 @@ const WORDS: &[Words] = &[
     words(
         12,
         "NOT_FINITE",
-        "a value that is not finite",
+        "a value or a figure that is not finite",
         "The simulation left a NaN or an infinity in the grid: replace it there and export again.",
     ),
     words(
@@ -98,7 +99,7 @@ const WORDS: &[Words] = &[
     words(
         15,
         "NEGATIVE",
-        "a negative density",
+        "a negative density or figure",
         "Export the smoke density and no other field, with values below zero set to zero.",
     ),
     words(
@@ -118,7 +119,8 @@ const WORDS: &[Words] = &[
         18,
         "TABLES",
         "paired tables of unequal length, blocks that are not three a root, a table that is not of \
-         whole nodes, boxes that are not six to a maximum",
+         whole nodes, boxes that are not six to a maximum, a table of cells, an answer or a window's \
+         memory of another length, a window that claims over w tables or a place past them",
         "The program lent tables that do not belong together: a fault of the program, not of the \
          grid. Report it.",
     ),
@@ -146,6 +148,18 @@ const WORDS: &[Words] = &[
         "CELLS",
         "a number of cells on an axis that is not 1 to 128",
         "Ask for 1 to 128 cells on each axis; where none are asked for, 64 are built.",
+    ),
+    words(
+        26,
+        "WINDOW",
+        "a window over fewer than 1 or more than 16 tables, or a table of other cells than its window's",
+        "Ask for a window of 1 to 16 tables, and build all of them with the same cells.",
+    ),
+    words(
+        28,
+        "LAYER",
+        "a layer past the last",
+        "Layers are numbered from 0: the last is one less than the cells on the z axis.",
     ),
 ];
 
@@ -250,8 +264,8 @@ mod tests {
         let error: Box<dyn std::error::Error> = Box::new(Refusal::new(15).unwrap());
         assert_eq!(
             error.to_string(),
-            "refused 15: a negative density. Export the smoke density and no other field, with \
-             values below zero set to zero."
+            "refused 15: a negative density or figure. Export the smoke density and no other field, \
+             with values below zero set to zero."
         );
     }
 

@@ -8,17 +8,23 @@ use std::path::PathBuf;
 use std::str::FromStr;
 
 pub const USAGE: &str = "usage: station FILE [--grid GRID | --list] [--cells X Y Z] [QUESTION...]
+       station --window W FILE... [--grid GRID] [--cells X Y Z] [QUESTION...]
 Decodes one NanoVDB density grid (ABI 32), builds its cells, prints what it holds. The file is an .nvdb
 file, not compressed, or one raw grid.
   --grid GRID                which grid of an .nvdb file: a number from 0, or a name
   --list                     the grids of an .nvdb file, and no more
   --cells X Y Z              so many cells on each axis, 1 to 128; 64 x 64 x 64 where none are named
+  --window W                 files in a row, and for each cell the greatest figure over the last W, 1
+                             to 16, that were built; a file that is refused is named and passed over.
+                             The questions of cells are then of that.
 Questions, as many as there are:
   --at X Y Z                 the density at a voxel, and the level that it is read at
   --box LX LY LZ HX HY HZ    the greatest density from the low voxel to the high one, ends included
   --boxes FILE               the same for each box of a file, and the greatest of them: a box a line,
                              six numbers as above; # begins a comment
   --cell X Y Z               the figure of a cell, each number from 0 on
+  --layer Z                  the cells of a layer as a sheet to print: a line for each y, . for clear
+                             air and 1 to 9 for ninths of the layer's greatest figure
   --help                     this text
 Exit status: 0, 1 where the grid or the file is refused, 2 where the call is wrong, the file cannot be
 read, or no one grid of it is chosen.
@@ -32,7 +38,10 @@ pub enum Request {
 
 #[derive(Debug, PartialEq)]
 pub struct Arguments {
-    pub file: PathBuf,
+    /// One, or in a window any number of them.
+    pub files: Vec<PathBuf>,
+    /// How many tables the window keeps.
+    pub window: Option<u32>,
     pub grid: Option<Choice>,
     pub list: bool,
     pub cells: [u32; 3],
@@ -45,12 +54,14 @@ pub enum Question {
     Box([i32; 3], [i32; 3]),
     Boxes(Vec<Zone>),
     Cell([usize; 3]),
+    Layer(u32),
 }
 
 /// The request, or what is wrong with it.
 pub fn parse(words: impl Iterator<Item = OsString>) -> Result<Request, String> {
     let mut words = words;
-    let mut file = None;
+    let mut files: Vec<PathBuf> = Vec::new();
+    let mut window = None;
     let (mut grid, mut list) = (None, false);
     let mut cells = [64; 3];
     let mut questions = Vec::new();
@@ -75,25 +86,41 @@ pub fn parse(words: impl Iterator<Item = OsString>) -> Result<Request, String> {
             }
             Some("--cell") => questions.push(Question::Cell(three("--cell", &mut words)?)),
             Some("--cells") => cells = three("--cells", &mut words)?,
+            Some("--layer") => questions.push(Question::Layer(one("--layer", &mut words)?)),
+            Some("--window") => window = Some(one("--window", &mut words)?),
             Some(option) if option.starts_with('-') => {
                 return Err(format!("{option} is no option"))
             }
-            _ if file.is_some() => {
-                return Err(format!("{} is a second file", word.to_string_lossy()))
-            }
-            _ => file = Some(PathBuf::from(word)),
+            _ => files.push(PathBuf::from(word)),
         }
     }
-    let file = file.ok_or("no file is named")?;
-    if list && (grid.is_some() || !questions.is_empty()) {
+    match (&files[..], window) {
+        ([], _) => return Err("no file is named".to_string()),
+        ([_, second, ..], None) => return Err(format!("{} is a second file", second.display())),
+        _ => {}
+    }
+    if list && (grid.is_some() || window.is_some() || !questions.is_empty()) {
         return Err("--list stands by itself".to_string());
+    }
+    let of_cells = |question: &Question| matches!(question, Question::Cell(_) | Question::Layer(_));
+    if window.is_some() && !questions.iter().all(of_cells) {
+        return Err("--window answers --cell and --layer alone".to_string());
     }
     for question in &questions {
         if let Question::Cell(cell) = question {
             check_cell(cell, &cells)?;
         }
     }
-    Ok(Request::Show(Arguments { file, grid, list, cells, questions }))
+    Ok(Request::Show(Arguments { files, window, grid, list, cells, questions }))
+}
+
+fn one<T: FromStr>(option: &str, words: &mut impl Iterator<Item = OsString>) -> Result<T, String>
+where
+    T::Err: Display,
+{
+    let word = words.next().ok_or(format!("{option} lacks a number"))?;
+    let word = word.to_string_lossy();
+    word.parse().map_err(|fault| format!("{option} {word}: {fault}"))
 }
 
 fn three<T: FromStr>(
@@ -103,12 +130,7 @@ fn three<T: FromStr>(
 where
     T::Err: Display,
 {
-    let mut next = || {
-        let word = words.next().ok_or(format!("{option} lacks a number"))?;
-        let word = word.to_string_lossy();
-        word.parse().map_err(|fault| format!("{option} {word}: {fault}"))
-    };
-    Ok([next()?, next()?, next()?])
+    Ok([one(option, words)?, one(option, words)?, one(option, words)?])
 }
 
 fn check_cell(cell: &[usize; 3], cells: &[u32; 3]) -> Result<(), String> {
@@ -126,25 +148,37 @@ mod tests {
         parse(words.split_whitespace().map(OsString::from))
     }
 
+    /// The files with nothing else named.
+    fn of(files: &[&str], questions: Vec<Question>) -> Arguments {
+        let files = files.iter().map(PathBuf::from).collect();
+        Arguments { files, window: None, grid: None, list: false, cells: [64; 3], questions }
+    }
+
     #[test]
     fn questions_keep_their_order_and_signs() {
         let questions = vec![
             Question::Box([-1, -2, -3], [4, 5, 6]),
             Question::At([i32::MIN, 0, i32::MAX]),
             Question::Cell([0, 63, 5]),
+            Question::Layer(7),
         ];
-        let words = "--box -1 -2 -3 4 5 6 hall.grid --at -2147483648 0 2147483647 --cell 0 63 5";
-        let (file, grid, list, cells) = (PathBuf::from("hall.grid"), None, false, [64; 3]);
-        let arguments = Arguments { file, grid, list, cells, questions };
-        assert_eq!(parsed(words), Ok(Request::Show(arguments)));
+        let words =
+            "--box -1 -2 -3 4 5 6 hall.grid --at -2147483648 0 2147483647 --cell 0 63 5 --layer 7";
+        assert_eq!(parsed(words), Ok(Request::Show(of(&["hall.grid"], questions))));
+    }
+
+    #[test]
+    fn a_window_takes_files_in_a_row() {
+        let questions = vec![Question::Layer(3)];
+        let wanted = Arguments { window: Some(2), ..of(&["a", "b", "a"], questions) };
+        assert_eq!(parsed("--window 2 a b --layer 3 a"), Ok(Request::Show(wanted)));
     }
 
     #[test]
     fn cells_are_asked_about_as_they_are_built() {
-        let (file, grid, list, cells) = (PathBuf::from("a"), None, false, [1, 100, 128]);
         let questions = vec![Question::Cell([0, 99, 5])];
-        let arguments = Arguments { file, grid, list, cells, questions };
-        assert_eq!(parsed("--cell 0 99 5 a --cells 1 100 128"), Ok(Request::Show(arguments)));
+        let wanted = Arguments { cells: [1, 100, 128], ..of(&["a"], questions) };
+        assert_eq!(parsed("--cell 0 99 5 a --cells 1 100 128"), Ok(Request::Show(wanted)));
     }
 
     #[test]
@@ -179,6 +213,11 @@ mod tests {
             ("a --cells 1 2", "--cells lacks a number"),
             ("a --cells 1 2 -3", "--cells -3: invalid digit found in string"),
             ("a --cell 1 2 -1", "--cell -1: invalid digit found in string"),
+            ("a --layer", "--layer lacks a number"),
+            ("a --layer -1", "--layer -1: invalid digit found in string"),
+            ("a b --window", "--window lacks a number"),
+            ("--window 2", "no file is named"),
+            ("--window 2 a --at 1 2 3", "--window answers --cell and --layer alone"),
         ] {
             assert_eq!(parsed(words), Err(fault.to_string()), "{words}");
         }

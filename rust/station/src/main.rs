@@ -5,6 +5,7 @@ mod boxes;
 mod report;
 mod source;
 mod steps;
+mod window;
 
 use arguments::{Arguments, Question, Request, USAGE};
 use report::{counted, number, triple};
@@ -43,57 +44,84 @@ fn main() -> ExitCode {
             return ExitCode::from(BAD_USAGE);
         }
     };
-    let name = arguments.file.display();
-    match show(&arguments) {
-        Ok(()) => ExitCode::SUCCESS,
-        Err(Stop::Refused(refusal)) => {
+    match arguments.window {
+        Some(w) => window::show(&arguments, w),
+        None => {
+            let file = &arguments.files[0];
+            show(file, &arguments).map_or_else(|stop| told(file, &stop), |()| ExitCode::SUCCESS)
+        }
+    }
+}
+
+/// Why it stopped, on standard error, and the status.
+fn told(file: &Path, stop: &Stop) -> ExitCode {
+    let name = file.display();
+    match stop {
+        Stop::Refused(refusal) => {
             let (number, meaning) = (refusal.number(), refusal.meaning());
             eprintln!("station: {name}: refused {number}: {meaning}");
             eprintln!("what to do: {}", refusal.advice());
             ExitCode::from(REFUSED)
         }
-        Err(Stop::Unreadable(error)) => {
+        Stop::Unreadable(error) => {
             eprintln!("station: {name}: {error}");
             ExitCode::from(BAD_USAGE)
         }
-        Err(Stop::Choice(fault)) => {
+        Stop::Choice(fault) => {
             eprintln!("station: {name}: {fault}");
             ExitCode::from(BAD_USAGE)
         }
-        Err(Stop::Unwritten) => ExitCode::from(BAD_USAGE),
+        Stop::Unwritten => ExitCode::from(BAD_USAGE),
     }
 }
 
 /// What is known is printed before the next step begins, so that a refusal hides nothing.
-fn show(arguments: &Arguments) -> Result<(), Stop> {
+fn show(file: &Path, arguments: &Arguments) -> Result<(), Stop> {
     let mut steps = Steps::new(3);
-    let bytes = steps.run("read", "reading", || source::read(&arguments.file))?;
-    steps.holds(bytes.len());
-    say(&report::file(&arguments.file, bytes.len()))?;
+    let bytes = read(file, &mut steps)?;
     if arguments.list {
         return say(&report::contents(&Contents::of(&bytes)?));
     }
-    let picked = source::pick(&bytes, arguments.grid.as_ref())?;
-    if let Some(grid) = &picked {
-        say(&report::listed(grid))?;
-    }
-    let length = picked.as_ref().map_or(bytes.len(), |grid| grid.size());
-    let doing = format!("decoding {} bytes", counted(length));
-    let grid = steps.run("decode", &doing, || source::load(&bytes, picked.as_ref()))?;
-    steps.holds(grid.table_bytes());
-    drop(picked);
+    let grid = decode(&bytes, arguments, &mut steps)?;
     drop(bytes);
     say(&report::grid(&grid))?;
-    let [x, y, z] = arguments.cells;
-    let doing = format!("building {x} x {y} x {z} cells");
-    let built = steps.run("build", &doing, || grid.build_majorant_with(arguments.cells));
+    let built = build(&grid, arguments, &mut steps);
     if let Ok(cells) = &built {
-        steps.holds(cells.table_bytes());
         say(&report::cells(cells))?;
     }
     say(&answers(arguments, &grid, built.as_ref().ok())?)?;
     say(&steps.table())?;
     built.map(|_| ()).map_err(Stop::from)
+}
+
+fn read(file: &Path, steps: &mut Steps) -> Result<Vec<u8>, Stop> {
+    let bytes = steps.run("read", "reading", || source::read(file))?;
+    steps.holds(bytes.len());
+    say(&report::file(file, bytes.len()))?;
+    Ok(bytes)
+}
+
+/// The grid that is asked for, of an .nvdb file or of the bytes as they are.
+fn decode(bytes: &[u8], arguments: &Arguments, steps: &mut Steps) -> Result<Grid, Stop> {
+    let picked = source::pick(bytes, arguments.grid.as_ref())?;
+    if let Some(grid) = &picked {
+        say(&report::listed(grid))?;
+    }
+    let length = picked.as_ref().map_or(bytes.len(), |grid| grid.size());
+    let doing = format!("decoding {} bytes", counted(length));
+    let grid = steps.run("decode", &doing, || source::load(bytes, picked.as_ref()))?;
+    steps.holds(grid.table_bytes());
+    Ok(grid)
+}
+
+fn build(grid: &Grid, arguments: &Arguments, steps: &mut Steps) -> Result<Majorant, Refusal> {
+    let [x, y, z] = arguments.cells;
+    let doing = format!("building {x} x {y} x {z} cells");
+    let built = steps.run("build", &doing, || grid.build_majorant_with(arguments.cells));
+    if let Ok(cells) = &built {
+        steps.holds(cells.table_bytes());
+    }
+    built
 }
 
 /// A line for each question; a cell's has no figure where the build was refused.
@@ -106,13 +134,25 @@ fn answers(arguments: &Arguments, grid: &Grid, cells: Option<&Majorant>) -> Resu
             }
             Question::Box(low, high) => report::zone(low, high, grid.box_maximum(*low, *high)?),
             Question::Boxes(boxes) => report::zones(boxes, &grid.box_maxima(boxes)?),
-            Question::Cell(cell) => report::line(
-                &format!("cell {}", triple(cell)),
-                &cells.and_then(|cells| cells.figure(*cell)).map_or("none".to_string(), number),
-            ),
+            Question::Cell(_) | Question::Layer(_) => of_cells(question, cells)?,
         };
     }
     Ok(lines)
+}
+
+/// What a table of cells answers: a line, or a sheet as it is.
+fn of_cells(question: &Question, cells: Option<&Majorant>) -> Result<String, Stop> {
+    Ok(match question {
+        Question::Cell(cell) => report::line(
+            &format!("cell {}", triple(cell)),
+            &cells.and_then(|cells| cells.figure(*cell)).map_or("none".to_string(), number),
+        ),
+        Question::Layer(z) => match cells {
+            Some(cells) => cells.layer(*z)?,
+            None => report::line(&format!("layer {z}"), "none"),
+        },
+        _ => String::new(),
+    })
 }
 
 fn say(text: &str) -> Result<(), Stop> {

@@ -57,13 +57,16 @@ pub fn grid(grid: &Grid) -> String {
         + &line("background", &number(grid.background()))
 }
 
-pub fn cells(cells: &Majorant) -> String {
+pub fn greatest(cells: &Majorant) -> String {
     let (greatest, cell) = cells.greatest();
+    line("greatest figure", &format!("{} in cell {}", number(greatest), triple(&cell)))
+}
+
+pub fn cells(cells: &Majorant) -> String {
     let (clear, all) = (cells.clear(), cells.figures().len());
     let share = 100.0 * clear as f64 / all as f64;
     let clear = format!("{} of {} cells ({share:.1} %)", counted(clear), counted(all));
-    line("greatest figure", &format!("{} in cell {}", number(greatest), triple(&cell)))
-        + &line("clear air", &clear)
+    greatest(cells) + &line("clear air", &clear)
 }
 
 pub fn zone(low: &[i32; 3], high: &[i32; 3], maximum: f32) -> String {

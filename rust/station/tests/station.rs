@@ -225,8 +225,16 @@ fn help_is_printed() {
     let output = station(&["--help"]);
     assert_eq!((output.status.code(), err(&output).as_str()), (Some(0), ""));
     assert!(out(&output).starts_with("usage: station FILE "), "{}", out(&output));
-    for option in ["--grid GRID", "--list", "--at X Y Z", "--box LX LY LZ HX HY HZ", "--cell X Y Z"]
-    {
+    for option in [
+        "--grid GRID",
+        "--list",
+        "--cells X Y Z",
+        "--at X Y Z",
+        "--box LX LY LZ HX HY HZ",
+        "--cell X Y Z",
+        "--layer Z",
+        "--window W",
+    ] {
         assert!(out(&output).contains(option), "{option}");
     }
 }
@@ -323,4 +331,47 @@ fn a_file_that_does_not_pass_is_refused_by_its_own_number() {
         assert_eq!(output.status.code(), Some(1));
         assert!(err(&output).contains(": refused 19: "), "{}", err(&output));
     }
+}
+
+/// The sheet as it is: a heading, and 64 lines of 64 characters, the highest y first.
+#[test]
+fn a_layer_is_printed_as_it_is() {
+    let text = out(&station(&[SAMPLE, "--layer", "0"]));
+    let lines: Vec<&str> = text.lines().skip_while(|line| !line.starts_with("layer")).collect();
+    assert_eq!(lines[0], "layer   0 3f800000");
+    for (y, line) in (0..64).rev().zip(&lines[1..]) {
+        assert_eq!((&line[..4], line.len()), (&*format!("{y:>3} "), 68), "{line}");
+        assert!(line[4..].bytes().all(|c| c == b'.' || (b'1'..=b'9').contains(&c)), "{line}");
+    }
+    assert_eq!(&lines[64 - 21][4 + 26..4 + 27], "9");
+    let past = station(&[SAMPLE, "--layer", "64"]);
+    assert_eq!(past.status.code(), Some(1));
+    assert!(err(&past).contains("refused 28: a layer past the last"), "{}", err(&past));
+}
+
+/// The greatest over the last two: the refused file among them changes nothing.
+#[test]
+fn a_window_keeps_the_last_files() {
+    let broken = edited("window-broken.grid", |bytes| bytes[0] = 0);
+    let broken = broken.to_str().unwrap();
+    let one = out(&station(&[SAMPLE]));
+    let figure =
+        |text: &str| text.lines().rfind(|l| l.starts_with("greatest figure")).unwrap().to_string();
+    let output =
+        station(&["--window", "2", SAMPLE, broken, SAMPLE, SAMPLE, "--cell", "26", "21", "0"]);
+    let text = out(&output);
+    assert_eq!(output.status.code(), Some(1));
+    assert!(
+        err(&output).starts_with(&format!("station: {broken}: refused 3: ")),
+        "{}",
+        err(&output)
+    );
+    assert!(text.contains("\nwindow           2 tables of at most 2\n"), "{text}");
+    assert!(
+        text.contains("\ncell (26, 21, 0)  1\n") || text.contains("\ncell (26, 21, 0) 1\n"),
+        "{text}"
+    );
+    assert_eq!(figure(&text), figure(&one));
+    let wide = station(&["--window", "17", SAMPLE]);
+    assert_eq!((wide.status.code(), err(&wide).contains("refused 26: ")), (Some(1), true));
 }

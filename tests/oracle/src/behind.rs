@@ -1,8 +1,13 @@
 //! The Rust modules behind the functions of smokegrid.h, as a library: what the comparison is tried on. Built from a copy with one
 //! wrong step, it must be found out.
 
+#[path = "../../tables/reference.rs"]
+mod reference;
+
 use oracle::file::Part;
 use oracle::loader::{Answer, Lent, Loader, Rust, Tables};
+/// What the Rust modules do not have is the reference's.
+pub use reference::{print_layer, window_open, window_push};
 
 fn given(value: &mut f32, (number, bits): Answer) -> u32 {
     *value = f32::from_bits(bits);

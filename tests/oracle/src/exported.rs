@@ -397,3 +397,72 @@ pub unsafe extern "C" fn smokegrid_grid_name(
 ) -> u32 {
     behind::grid_name(from_raw_parts(file, file_len), n, &mut *start, &mut *length)
 }
+
+/// # Safety
+/// Each pointer is valid for its length, and no buffer that is written overlaps another.
+#[no_mangle]
+pub unsafe extern "C" fn smokegrid_print_layer(
+    majorants: *const f32,
+    majorants_len: usize,
+    cells: *const u32,
+    cells_len: usize,
+    layer: u32,
+    text: *mut u8,
+    text_len: usize,
+    written: *mut u64,
+) -> u32 {
+    behind::print_layer(
+        from_raw_parts(majorants, majorants_len),
+        from_raw_parts(cells, cells_len),
+        layer,
+        from_raw_parts_mut(text, text_len),
+        &mut *written,
+    )
+}
+
+/// # Safety
+/// Each pointer is valid for its length, and no buffer that is written overlaps another.
+#[no_mangle]
+pub unsafe extern "C" fn smokegrid_window_open(
+    w: u32,
+    cells: *const u32,
+    cells_len: usize,
+    window: *mut u32,
+    window_len: usize,
+    memory: *mut f32,
+    memory_len: usize,
+    answer: *mut f32,
+    answer_len: usize,
+) -> u32 {
+    behind::window_open(
+        w,
+        from_raw_parts(cells, cells_len),
+        from_raw_parts_mut(window, window_len),
+        from_raw_parts_mut(memory, memory_len),
+        from_raw_parts_mut(answer, answer_len),
+    )
+}
+
+/// # Safety
+/// Each pointer is valid for its length, and no buffer that is written overlaps another.
+#[no_mangle]
+pub unsafe extern "C" fn smokegrid_window_push(
+    majorants: *const f32,
+    majorants_len: usize,
+    cells: *const u32,
+    cells_len: usize,
+    window: *mut u32,
+    window_len: usize,
+    memory: *mut f32,
+    memory_len: usize,
+    answer: *mut f32,
+    answer_len: usize,
+) -> u32 {
+    behind::window_push(
+        from_raw_parts(majorants, majorants_len),
+        from_raw_parts(cells, cells_len),
+        from_raw_parts_mut(window, window_len),
+        from_raw_parts_mut(memory, memory_len),
+        from_raw_parts_mut(answer, answer_len),
+    )
+}
