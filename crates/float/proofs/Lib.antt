@@ -10,3 +10,4 @@ pub mod Special
 pub mod Truncating
 pub mod Flooring
 pub mod Ranged
+pub mod Casting

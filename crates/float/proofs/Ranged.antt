@@ -16,7 +16,7 @@ use Rattle.float.specs.Tests.{yes, or-l}
 use Rattle.float.specs.Rising.{le→signed, finite-between}
 
 -- a / c is at most k
-quotient-le : (a c k : ℕ) → 0 < c → a ≤ k * c → a / c ≤ k
+pub quotient-le : (a c k : ℕ) → 0 < c → a ≤ k * c → a / c ≤ k
 quotient-le a c k C h = le-of-suc-le-suc (div-lt-iff-lt-mul C .1 (lt-of-le-of-lt h (subst (λ (x : ℕ). k * c < x) (sym (suc-mul k c)) (more (k * c) c C))))
   where
     more : (x c : ℕ) → 0 < c → x < x + c
@@ -28,7 +28,7 @@ pos-range m e h = plain (m * up e) (down e) (le→signed false m e false 2147483
     plain : (X d : ℕ) → X * 1 + 0 ≤ 2147483647 * 1 * d + 0 → X ≤ 2147483647 * d
     plain X d h = omega arith
 
-neg-range : (m : ℕ) (e : ℤ) → T (le (fin true 1 (pos 31)) (fin true m e)) → m * up e ≤ 2147483648 * down e
+pub neg-range : (m : ℕ) (e : ℤ) → T (le (fin true 1 (pos 31)) (fin true m e)) → m * up e ≤ 2147483648 * down e
 neg-range m e h = plain (m * up e) (down e) (le→signed true 1 (pos 31) true m e h)
   where
     plain : (X d : ℕ) → 0 + X * 1 ≤ 0 + 1 * 2147483648 * d → X ≤ 2147483648 * d

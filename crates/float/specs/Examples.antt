@@ -1,12 +1,13 @@
 -- Worked examples and edges, by computation.
 use mathlib.Core.Path.{_≡_, refl}
-use mathlib.Core.Bool.{true}
+use mathlib.Core.Bool.{true, false}
 use Prim.Native.Nat.{ℕ}
 use lib.IntN.{ℤ, pos, negsuc}
-use lib.Ieee.{fin, binary32, binary64, ofBits, toBits, ofInt, sum, round, add, sub, mul, le, toSigned}
+use lib.Ieee.{nan, fin, binary32, binary64, ofBits, toBits, ofInt, sum, round, add, sub, mul, le, toSigned}
 use Rattle.refusals.specs.Results.{Result, ok, refused}
 use Rattle.float.specs.Fused.{plus, fma, narrow, trunc, floor}
 use Rattle.float.specs.Coordinate.{coordinate}
+use Rattle.float.specs.Saturated.{saturated}
 
 abbrev pub mulAdd : ℕ → ℕ → ℕ → ℕ
 mulAdd a b c = toBits binary32 (fma binary32 (ofBits binary32 a) (ofBits binary32 b) (ofBits binary32 c))
@@ -89,3 +90,23 @@ low-tiny = refl
 low-next : low 0x2480_0001 ≡ ok (pos 0)
 unfolding coordinate trunc floor sub ofBits ofInt le toSigned
 low-next = refl
+
+-- ---- the cast to an i32: toward zero, to the nearer end, and 0 for a NaN
+
+-- -2.5 is -2
+pub cast-whole : saturated (fin true 5 (negsuc 0)) ≡ negsuc 1
+unfolding saturated
+cast-whole = refl
+
+-- -2^40 and 2^31 are the ends
+pub cast-low : saturated (fin true 1 (pos 40)) ≡ negsuc 2147483647
+unfolding saturated
+cast-low = refl
+
+pub cast-high : saturated (fin false 1 (pos 31)) ≡ pos 2147483647
+unfolding saturated
+cast-high = refl
+
+pub cast-nan : saturated nan ≡ pos 0
+unfolding saturated
+cast-nan = refl

@@ -3,6 +3,7 @@ pub mod Zero
 pub mod Literal
 pub mod Fused
 pub mod Coordinate
+pub mod Saturated
 pub mod Answers
 pub mod Integer
 pub mod Fields
@@ -25,3 +26,4 @@ pub mod Plain
 pub mod Middle
 pub mod Blend
 pub mod Floors
+pub mod SaturatedLaws

@@ -1,5 +1,5 @@
-// Float work that the language lacks, by bit patterns: widen, narrow, floor, trunc, mul_add and the
-// checked coordinate. A pattern is an IEEE 754 binary32 in a u32 or a binary64 in a u64. A NaN that
+// Float work that the language lacks, by bit patterns: widen, narrow, floor, trunc, mul_add, the
+// checked coordinate and the cast to an i32. A pattern is an IEEE 754 binary32 in a u32 or a binary64 in a u64. A NaN that
 // is worked out is 7fc00000, or 7ff8000000000000 in binary64.
 mod convert;
 mod fused;
@@ -24,6 +24,7 @@ pub use whole::checked_coordinate;
 pub use whole::checked_coordinate_bits;
 pub use whole::floor;
 pub use whole::floor_bits;
+pub use whole::saturated;
 pub use whole::trunc;
 pub use whole::trunc_bits;
 

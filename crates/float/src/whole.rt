@@ -1,10 +1,11 @@
-// Whole parts: trunc, floor, and the checked coordinate.
+// Whole parts: trunc, floor, the checked coordinate, and the cast to an i32.
 ghost use mathlib.Core.Path.{_≡_};
 ghost use lib.IntN.{pos};
 ghost use lib.Ieee.{binary64, ofBits, toBits};
 ghost use Rattle.refusals.specs.Results.{said};
 ghost use Rattle.float.specs.Fused.{trunc, floor};
 ghost use Rattle.float.specs.Coordinate.{coordinate};
+ghost use Rattle.float.specs.Saturated as Saturated;
 ghost use Rattle.float.specs.Answers.{coordinateSaid};
 use crate::Coordinate;
 use crate::pattern::INFINITY_64;
@@ -73,4 +74,21 @@ pub fn checked_coordinate_bits(b: u64) -> Coordinate
     ensures { λ r. ⌜ coordinateSaid r ≡ said (pos 0) (coordinate (ofBits binary64 b)) ⌝ }
 {
     checked_coordinate(f64_of(b))
+}
+
+// v as an i32: without its fraction, the nearer end where that is outside i32, and 0 for a NaN. Rust's `as i32`.
+pub fn saturated(v: f32) -> i32
+    ensures { λ r. ⌜ r ≡ Saturated.saturated v ⌝ }
+{
+    if -2147483648.0 <= v {
+        if v < 2147483648.0 {
+            std::num::truncating_f32_to_i64(v) as i32
+        } else {
+            2147483647
+        }
+    } else if v < -2147483648.0 {
+        -2147483648
+    } else {
+        0
+    }
 }

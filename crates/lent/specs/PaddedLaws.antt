@@ -18,6 +18,10 @@ module _ {A : Type 0} where
   unfolding padded
   padded-fits t z l e = omega (arith, ap length e, length-append l (replicate (length t - length l) z), length-replicate (length t - length l) z)
 
+  pub padded-length : (n : ℕ) (z : A) (l : List A) → length l ≤ n → length (padded n z l) ≡ n
+  unfolding padded
+  padded-length n z l h = length-append l (replicate (n - length l) z) ∙ ap (λ (k : ℕ). length l + k) (length-replicate (n - length l) z) ∙ omega arith
+
   -- one place is left: there is a zero behind the used part
   padded-more : (n : ℕ) (z : A) (l : List A) → length l < n → padded n z l ≡ l ++ (z ∷ replicate (n - (length l + 1)) z)
   unfolding padded

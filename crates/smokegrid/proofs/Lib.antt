@@ -2,3 +2,4 @@ pub mod Stores
 pub mod Left
 pub mod Taken
 pub mod Windows
+pub mod Rayed

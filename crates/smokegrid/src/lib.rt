@@ -10,11 +10,13 @@ ghost use Rattle.nanovdb.specs.Lent.{tables, lengths};
 ghost use Rattle.boxes.specs.Boxes.{between};
 ghost use Rattle.contents.specs.Contents.{pick, pickName};
 ghost use Rattle.smokegrid.specs.Flat.{Arrays};
+ghost use Rattle.smokegrid.specs.FlatRay.{beam};
 ghost use Rattle.smokegrid.specs.FlatTables.{windowArrays};
 ghost use Rattle.smokegrid.specs.Promises.{Decodes, GetsValue, GetsReading, BoxMaximum, BoxMaxima, WorldToIndex, Builds, GivesPart};
-ghost use Rattle.smokegrid.specs.Promises.{PrintsLayer, OpensWindow, PushesTable};
+ghost use Rattle.smokegrid.specs.Promises.{OpensRay, NextPiece, PrintsLayer, OpensWindow, PushesTable};
 
 mod flat;
+mod ray;
 mod tables;
 
 use contents::Picked;
@@ -28,6 +30,13 @@ use index::world_to_index_f;
 use majorant::box_maxima;
 use majorant::box_maximum;
 use majorant::build_majorant;
+use ray::one_if;
+use ray::put_numbers;
+use ray::put_times;
+use ray::ray_fault;
+use ray::ray_from;
+use rays::next_piece;
+use rays::open_ray;
 use refusals::both;
 use sheet::print_layer;
 use sparse_grid::Answer;
@@ -510,6 +519,92 @@ pub extern "C" fn smokegrid_grid_name(file: &[u8], n: u64, start: &mut u64, leng
     ensures { λ r. ⌜ GivesPart (pickName (now (file .entry)) n) r (now (start .exit)) (now (length .exit)) ⌝ }
 {
     give_part(contents::name_part(file, n as usize), start, length)
+}
+
+// A ray from a point in a direction through a table, opened into its state, and 0; or the number of the refusal, and a state of zeros.
+#[no_mangle]
+pub extern "C" fn smokegrid_ray_open(
+    medium: &[f32],
+    cells: &[u32],
+    majorants: &[f32],
+    ox: f32,
+    oy: f32,
+    oz: f32,
+    dx: f32,
+    dy: f32,
+    dz: f32,
+    t_min: f32,
+    t_max: f32,
+    ray_times: &mut [f32],
+    ray_cells: &mut [i32],
+) -> u32
+    ensures { λ r.
+        ⌜ OpensRay (now (medium .entry)) (now (cells .entry)) (beam ox oy oz dx dy dz «t_min» «t_max») (length (now (majorants .entry)))
+        (length (now («ray_times» .entry))) (length (now («ray_cells» .entry)))
+        r (now («ray_times» .exit)) (now («ray_cells» .exit)) ⌝ }
+{
+    lent::zero_f32(ray_times);
+    lent::zero_i32(ray_cells);
+    if medium.len() != 18 {
+        return refusals::TABLES;
+    }
+    if cells.len() != 3 {
+        return refusals::TABLES;
+    }
+    let fault = ray_fault(ray_times.len(), ray_cells.len());
+    if fault != 0 {
+        return fault;
+    }
+    let corners = [0i32; 6];
+    let m = medium_from(medium, &corners, cells);
+    let o = open_ray(m, [ox, oy, oz], [dx, dy, dz], t_min, t_max, majorants);
+    put_times(ray_times, o.ray);
+    put_numbers(ray_cells, o.ray);
+    o.number
+}
+
+// The next piece of a ray: `more` is 1, and the piece and the figure of its cell stand behind the other pointers; or 0 and zeros at the ray's end. The
+// state is written anew; after a refusal it is zeros, and all else too.
+#[no_mangle]
+pub extern "C" fn smokegrid_ray_next(
+    majorants: &[f32],
+    ray_times: &mut [f32],
+    ray_cells: &mut [i32],
+    more: &mut u32,
+    t0: &mut f32,
+    t1: &mut f32,
+    figure: &mut f32,
+) -> u32
+    ensures { λ r.
+        ⌜ NextPiece (now (majorants .entry)) (now («ray_times» .entry)) (now («ray_cells» .entry)) r (record {
+          times = now («ray_times» .exit);
+          numbers = now («ray_cells» .exit);
+          more = now (more .exit);
+          t0 = now (t0 .exit);
+          t1 = now (t1 .exit);
+          figure = now (figure .exit);
+        }) ⌝ }
+{
+    let fault = ray_fault(ray_times.len(), ray_cells.len());
+    if fault != 0 {
+        lent::zero_f32(ray_times);
+        lent::zero_i32(ray_cells);
+        *more = 0;
+        *t0 = 0.0;
+        *t1 = 0.0;
+        *figure = 0.0;
+        return fault;
+    }
+    let s = next_piece(ray_from(ray_times, ray_cells), majorants);
+    lent::zero_f32(ray_times);
+    lent::zero_i32(ray_cells);
+    put_times(ray_times, s.ray);
+    put_numbers(ray_cells, s.ray);
+    *more = one_if(s.some);
+    *t0 = s.from;
+    *t1 = s.to;
+    *figure = s.figure;
+    s.number
 }
 
 // A layer of a table of cells as text, its length, and 0; or the number of the refusal, and zeros.

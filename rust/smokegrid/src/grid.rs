@@ -4,6 +4,7 @@ use crate::contents::grid_part;
 use crate::ffi::{self, Record};
 use crate::level::{Level, Reading};
 use crate::majorant::{table_length, Majorant};
+use crate::ray::{Beam, Pieces};
 use crate::refusal::Refusal;
 use crate::tables::{Places, Tables};
 
@@ -166,6 +167,11 @@ impl Grid {
         let number =
             ffi::build_majorant(&self.tables, &self.medium, &self.corners, &cells, &mut figures);
         Refusal::check(number).map(|()| Majorant::new(cells, figures))
+    }
+
+    /// The pieces of a ray through the figures of a build.
+    pub fn ray<'a>(&self, cells: &'a Majorant, beam: &Beam) -> Result<Pieces<'a>, Refusal> {
+        Pieces::open(&self.medium, cells.cells(), cells.figures(), beam)
     }
 }
 

@@ -233,6 +233,38 @@ mod c {
             start: *mut u64,
             length: *mut u64,
         ) -> u32;
+        pub fn smokegrid_ray_open(
+            medium: *const f32,
+            medium_len: usize,
+            cells: *const u32,
+            cells_len: usize,
+            majorants: *const f32,
+            majorants_len: usize,
+            ox: f32,
+            oy: f32,
+            oz: f32,
+            dx: f32,
+            dy: f32,
+            dz: f32,
+            t_min: f32,
+            t_max: f32,
+            ray_times: *mut f32,
+            ray_times_len: usize,
+            ray_cells: *mut i32,
+            ray_cells_len: usize,
+        ) -> u32;
+        pub fn smokegrid_ray_next(
+            majorants: *const f32,
+            majorants_len: usize,
+            ray_times: *mut f32,
+            ray_times_len: usize,
+            ray_cells: *mut i32,
+            ray_cells_len: usize,
+            more: *mut u32,
+            t0: *mut f32,
+            t1: *mut f32,
+            figure: *mut f32,
+        ) -> u32;
         pub fn smokegrid_print_layer(
             majorants: *const f32,
             majorants_len: usize,
@@ -593,6 +625,76 @@ pub fn grid_part(file: &[u8], n: u64, start: &mut u64, length: &mut u64) -> u32 
 pub fn grid_name(file: &[u8], n: u64, start: &mut u64, length: &mut u64) -> u32 {
     // SAFETY: each pointer is valid for its length, and what is written is borrowed mutably, so it overlaps nothing.
     unsafe { c::smokegrid_grid_name(file.as_ptr(), file.len(), n, start, length) }
+}
+
+#[inline]
+#[allow(clippy::too_many_arguments)]
+pub fn ray_open(
+    medium: &[f32],
+    cells: &[u32],
+    majorants: &[f32],
+    ox: f32,
+    oy: f32,
+    oz: f32,
+    dx: f32,
+    dy: f32,
+    dz: f32,
+    t_min: f32,
+    t_max: f32,
+    ray_times: &mut [f32],
+    ray_cells: &mut [i32],
+) -> u32 {
+    // SAFETY: each pointer is valid for its length, and what is written is borrowed mutably, so it overlaps nothing.
+    unsafe {
+        c::smokegrid_ray_open(
+            medium.as_ptr(),
+            medium.len(),
+            cells.as_ptr(),
+            cells.len(),
+            majorants.as_ptr(),
+            majorants.len(),
+            ox,
+            oy,
+            oz,
+            dx,
+            dy,
+            dz,
+            t_min,
+            t_max,
+            ray_times.as_mut_ptr(),
+            ray_times.len(),
+            ray_cells.as_mut_ptr(),
+            ray_cells.len(),
+        )
+    }
+}
+
+#[inline]
+#[allow(clippy::too_many_arguments)]
+pub fn ray_next(
+    majorants: &[f32],
+    ray_times: &mut [f32],
+    ray_cells: &mut [i32],
+    more: &mut u32,
+    t0: &mut f32,
+    t1: &mut f32,
+    figure: &mut f32,
+) -> u32 {
+    // SAFETY: each pointer is valid for its length, and what is written is borrowed mutably, so it overlaps nothing.
+    unsafe {
+        c::smokegrid_ray_next(
+            majorants.as_ptr(),
+            majorants.len(),
+            ray_times.as_mut_ptr(),
+            ray_times.len(),
+            ray_cells.as_mut_ptr(),
+            ray_cells.len(),
+            more,
+            t0,
+            t1,
+            figure,
+        )
+    }
 }
 
 #[inline]

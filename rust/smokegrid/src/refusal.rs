@@ -59,8 +59,8 @@ const WORDS: &[Words] = &[
     words(
         9,
         "NO_PLACE",
-        "more tiles than lent root places, no whole place for the next node or span, or too short a \
-         buffer for the text of a layer",
+        "more tiles than lent root places, no whole place for the next node or span, too short a \
+         buffer for the text of a layer, or more pieces of a ray than lent places",
         "The program lent tables that are too short: a fault of the program, not of the grid. \
          Report it.",
     ),
@@ -120,7 +120,8 @@ const WORDS: &[Words] = &[
         "TABLES",
         "paired tables of unequal length, blocks that are not three a root, a table that is not of \
          whole nodes, boxes that are not six to a maximum, a table of cells, an answer or a window's \
-         memory of another length, a window that claims over w tables or a place past them",
+         memory of another length, a window that claims over w tables or a place past them, a ray's cell outside the table or \
+         step other than 1 and -1",
         "The program lent tables that do not belong together: a fault of the program, not of the \
          grid. Report it.",
     ),
@@ -142,6 +143,12 @@ const WORDS: &[Words] = &[
         "NO_GRID",
         "a number past the last grid of the file",
         "Ask for the file's contents, and name a grid that stands in it.",
+    ),
+    words(
+        22,
+        "RAY",
+        "a ray's origin, direction, t_min or t_max that is not finite, or no direction",
+        "Ask for a ray with a direction that is not zero and with numbers that a float can hold.",
     ),
     words(
         23,

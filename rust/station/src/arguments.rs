@@ -2,6 +2,7 @@
 
 use crate::boxes::{self, Zone};
 use crate::source::Choice;
+use smokegrid::Beam;
 use std::ffi::OsString;
 use std::fmt::Display;
 use std::path::PathBuf;
@@ -23,6 +24,9 @@ Questions, as many as there are:
   --boxes FILE               the same for each box of a file, and the greatest of them: a box a line,
                              six numbers as above; # begins a comment
   --cell X Y Z               the figure of a cell, each number from 0 on
+  --ray OX OY OZ DX DY DZ T0 T1
+                             the pieces of a ray from the world point O along D, from T0 to T1, how
+                             much of it is clear air, and the greatest figure on it
   --layer Z                  the cells of a layer as a sheet to print: a line for each y, . for clear
                              air and 1 to 9 for ninths of the layer's greatest figure
   --help                     this text
@@ -54,6 +58,7 @@ pub enum Question {
     Box([i32; 3], [i32; 3]),
     Boxes(Vec<Zone>),
     Cell([usize; 3]),
+    Ray(Beam),
     Layer(u32),
 }
 
@@ -85,6 +90,7 @@ pub fn parse(words: impl Iterator<Item = OsString>) -> Result<Request, String> {
                 questions.push(Question::Boxes(boxes::read(&PathBuf::from(path))?));
             }
             Some("--cell") => questions.push(Question::Cell(three("--cell", &mut words)?)),
+            Some("--ray") => questions.push(Question::Ray(ray(&mut words)?)),
             Some("--cells") => cells = three("--cells", &mut words)?,
             Some("--layer") => questions.push(Question::Layer(one("--layer", &mut words)?)),
             Some("--window") => window = Some(one("--window", &mut words)?),
@@ -133,6 +139,11 @@ where
     Ok([one(option, words)?, one(option, words)?, one(option, words)?])
 }
 
+fn ray(words: &mut impl Iterator<Item = OsString>) -> Result<Beam, String> {
+    let (origin, direction) = (three("--ray", words)?, three("--ray", words)?);
+    Ok(Beam { origin, direction, t_min: one("--ray", words)?, t_max: one("--ray", words)? })
+}
+
 fn check_cell(cell: &[usize; 3], cells: &[u32; 3]) -> Result<(), String> {
     match cell.iter().zip(cells).find(|(number, all)| **number >= **all as usize) {
         Some((number, all)) => Err(format!("--cell {number}: there are {all} cells, from 0 on")),
@@ -160,10 +171,16 @@ mod tests {
             Question::Box([-1, -2, -3], [4, 5, 6]),
             Question::At([i32::MIN, 0, i32::MAX]),
             Question::Cell([0, 63, 5]),
+            Question::Ray(Beam {
+                origin: [-1.0, 0.5, 2.0],
+                direction: [1.0, 0.0, -0.5],
+                t_min: 0.0,
+                t_max: 10.0,
+            }),
             Question::Layer(7),
         ];
-        let words =
-            "--box -1 -2 -3 4 5 6 hall.grid --at -2147483648 0 2147483647 --cell 0 63 5 --layer 7";
+        let words = "--box -1 -2 -3 4 5 6 hall.grid --at -2147483648 0 2147483647 --cell 0 63 5 \
+                     --ray -1 0.5 2 1 0 -5e-1 0 10 --layer 7";
         assert_eq!(parsed(words), Ok(Request::Show(of(&["hall.grid"], questions))));
     }
 

@@ -2,6 +2,7 @@
 
 mod arguments;
 mod boxes;
+mod rays;
 mod report;
 mod source;
 mod steps;
@@ -124,7 +125,7 @@ fn build(grid: &Grid, arguments: &Arguments, steps: &mut Steps) -> Result<Majora
     built
 }
 
-/// A line for each question; a cell's has no figure where the build was refused.
+/// Lines for each question; a cell's has no figure, and a ray's no pieces, where the build was refused.
 fn answers(arguments: &Arguments, grid: &Grid, cells: Option<&Majorant>) -> Result<String, Stop> {
     let mut lines = String::new();
     for question in &arguments.questions {
@@ -135,6 +136,10 @@ fn answers(arguments: &Arguments, grid: &Grid, cells: Option<&Majorant>) -> Resu
             Question::Box(low, high) => report::zone(low, high, grid.box_maximum(*low, *high)?),
             Question::Boxes(boxes) => report::zones(boxes, &grid.box_maxima(boxes)?),
             Question::Cell(_) | Question::Layer(_) => of_cells(question, cells)?,
+            Question::Ray(beam) => match cells {
+                Some(cells) => rays::shown(beam, grid.ray(cells, beam)?),
+                None => rays::none(beam),
+            },
         };
     }
     Ok(lines)

@@ -156,6 +156,30 @@ fn a_file_of_boxes_is_answered_box_by_box() {
     assert!(err(&output).starts_with(&fault), "{}", err(&output));
 }
 
+/// Along x through the middle of the smoke.
+#[test]
+fn a_ray_is_shown_piece_by_piece() {
+    let mut words = vec![SAMPLE];
+    words.extend("--ray 0 3 1 1 0 0 0 6".split(' '));
+    let output = station(&words);
+    let text = out(&output);
+    let lines: Vec<&str> = text.lines().skip(9).take(67).collect();
+    assert_eq!(output.status.code(), Some(0));
+    assert_eq!(lines[0], "ray (0, 3, 1) along (1, 0, 0) 64 pieces");
+    assert_eq!(lines[1], "  t 0 to 0.09375 0 in cell (0, 32, 10)");
+    assert_eq!(lines[33], "  t 3 to 3.09375 0.73499995 in cell (32, 32, 10)");
+    assert_eq!(lines[64], "  t 5.90625 to 6 0 in cell (63, 32, 10)");
+    assert_eq!(lines[65], "  clear air      3.09375 of 6 in t (51.6 %)");
+    assert_eq!(lines[66], "  greatest figure 0.73499995");
+}
+
+#[test]
+fn a_ray_without_a_direction_is_refused() {
+    let output = station(&[SAMPLE, "--ray", "0", "3", "1", "0", "-0", "0", "0", "6"]);
+    assert_eq!(output.status.code(), Some(1));
+    assert!(err(&output).contains("refused 22: "), "{}", err(&output));
+}
+
 #[test]
 fn a_cut_file_is_refused() {
     let shown = assert_refused(&edited("cut", |bytes| bytes.truncate(500)), 2);

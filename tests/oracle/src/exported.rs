@@ -401,6 +401,72 @@ pub unsafe extern "C" fn smokegrid_grid_name(
 /// # Safety
 /// Each pointer is valid for its length, and no buffer that is written overlaps another.
 #[no_mangle]
+pub unsafe extern "C" fn smokegrid_ray_open(
+    medium: *const f32,
+    medium_len: usize,
+    cells: *const u32,
+    cells_len: usize,
+    majorants: *const f32,
+    majorants_len: usize,
+    ox: f32,
+    oy: f32,
+    oz: f32,
+    dx: f32,
+    dy: f32,
+    dz: f32,
+    t_min: f32,
+    t_max: f32,
+    ray_times: *mut f32,
+    ray_times_len: usize,
+    ray_cells: *mut i32,
+    ray_cells_len: usize,
+) -> u32 {
+    behind::ray_open(
+        from_raw_parts(medium, medium_len),
+        from_raw_parts(cells, cells_len),
+        from_raw_parts(majorants, majorants_len),
+        ox,
+        oy,
+        oz,
+        dx,
+        dy,
+        dz,
+        t_min,
+        t_max,
+        from_raw_parts_mut(ray_times, ray_times_len),
+        from_raw_parts_mut(ray_cells, ray_cells_len),
+    )
+}
+
+/// # Safety
+/// Each pointer is valid for its length, and no buffer that is written overlaps another.
+#[no_mangle]
+pub unsafe extern "C" fn smokegrid_ray_next(
+    majorants: *const f32,
+    majorants_len: usize,
+    ray_times: *mut f32,
+    ray_times_len: usize,
+    ray_cells: *mut i32,
+    ray_cells_len: usize,
+    more: *mut u32,
+    t0: *mut f32,
+    t1: *mut f32,
+    figure: *mut f32,
+) -> u32 {
+    behind::ray_next(
+        from_raw_parts(majorants, majorants_len),
+        from_raw_parts_mut(ray_times, ray_times_len),
+        from_raw_parts_mut(ray_cells, ray_cells_len),
+        &mut *more,
+        &mut *t0,
+        &mut *t1,
+        &mut *figure,
+    )
+}
+
+/// # Safety
+/// Each pointer is valid for its length, and no buffer that is written overlaps another.
+#[no_mangle]
 pub unsafe extern "C" fn smokegrid_print_layer(
     majorants: *const f32,
     majorants_len: usize,
