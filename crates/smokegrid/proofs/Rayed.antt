@@ -163,8 +163,8 @@ module _ (m : List Float) (c : List ℕ) (b : Beam) (places times numbers : ℕ)
 module _ (table : List Float) (t : List Float) (n : List ℤ) {left : RayLeft} where
   -- the clauses over what the definition gives
   clauses : {k : ℕ} (r : Result Step) → nextFlat t n table ≡ r → k ≡ numberOf r → left .times ≡ timesOpened (length t) (stateAfter (rayStateFrom t n) r)
-      → left .numbers ≡ numbersOpened (length n) (stateAfter (rayStateFrom t n) r) → left .more ≡ moreOf r → left .t0 ≡ pieceIn r .from → left .t1 ≡ pieceIn r .to
-      → left .figure ≡ pieceIn r .figure → NextPiece table t n k left
+      → left .numbers ≡ numbersOpened (length n) (stateAfter (rayStateFrom t n) r) → left .more ≡ moreOf r → left .t0 ≡ pieceIn r .from
+      → left .t1 ≡ pieceIn r .to → left .figure ≡ pieceIn r .figure → NextPiece table t n k left
   clauses r h a b c d e f g =
       let q = sym h in
       record {
@@ -183,7 +183,8 @@ module _ (table : List Float) (t : List Float) (n : List ℤ) {left : RayLeft} w
       → NextPiece table t n k left
   unfolding nextFlat
   next-unfit {k} e off p q a b c d =
-      clauses (refused k) (ap (λ (f : ℕ). passing f (next (rayStateFrom t n) table)) (sym e) ∙ passing-stop k (next (rayStateFrom t n) table) off) refl p q a b c d
+      let s = next (rayStateFrom t n) table in
+      clauses (refused k) (ap (λ (f : ℕ). passing f s) (sym e) ∙ passing-stop k s off) refl p q a b c d
 
   pub next-fit : {a : Answer} → rayFault (length t) (length n) ≡ 0 → a ≡ answerOf (rayStateFrom t n) (next (rayStateFrom t n) table)
       → left .times ≡ timesOf (a .state) → left .numbers ≡ wordsOf (a .state) → left .more ≡ cond (a .some) 1 0
