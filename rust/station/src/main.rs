@@ -12,6 +12,7 @@ use arguments::{Arguments, Question, Request, USAGE};
 use report::{counted, number, triple};
 use smokegrid::{Contents, Grid, Majorant, Refusal};
 use std::io::{self, Write};
+use std::path::Path;
 use std::process::ExitCode;
 use steps::Steps;
 
