@@ -1,5 +1,7 @@
 //! The proved static library behind the functions of smokegrid.h.
 
+// Rays, layers and windows are compared elsewhere (tests/rays, tests/tables).
+#[allow(dead_code)]
 #[path = "../../../rust/smokegrid/src/interface.rs"]
 mod interface;
 
