@@ -1,39 +1,7 @@
 //! The two functions of smokegrid.h for rays.
 
-extern "C" {
-    fn smokegrid_ray_open(
-        medium: *const f32,
-        medium_len: usize,
-        cells: *const u32,
-        cells_len: usize,
-        majorants: *const f32,
-        majorants_len: usize,
-        ox: f32,
-        oy: f32,
-        oz: f32,
-        dx: f32,
-        dy: f32,
-        dz: f32,
-        t_min: f32,
-        t_max: f32,
-        ray_times: *mut f32,
-        ray_times_len: usize,
-        ray_cells: *mut i32,
-        ray_cells_len: usize,
-    ) -> u32;
-    fn smokegrid_ray_next(
-        majorants: *const f32,
-        majorants_len: usize,
-        ray_times: *mut f32,
-        ray_times_len: usize,
-        ray_cells: *mut i32,
-        ray_cells_len: usize,
-        more: *mut u32,
-        t0: *mut f32,
-        t1: *mut f32,
-        figure: *mut f32,
-    ) -> u32;
-}
+#[path = "../../rust/smokegrid/src/interface.rs"]
+mod interface;
 
 /// What is asked for.
 #[derive(Clone, Debug)]
@@ -99,29 +67,9 @@ pub fn open_with(
     times: &mut [f32],
     numbers: &mut [i32],
 ) -> u32 {
-    let (o, d) = (a.origin, a.direction);
-    unsafe {
-        smokegrid_ray_open(
-            m.as_ptr(),
-            m.len(),
-            cells.as_ptr(),
-            cells.len(),
-            table.as_ptr(),
-            table.len(),
-            o[0],
-            o[1],
-            o[2],
-            d[0],
-            d[1],
-            d[2],
-            a.t_min,
-            a.t_max,
-            times.as_mut_ptr(),
-            times.len(),
-            numbers.as_mut_ptr(),
-            numbers.len(),
-        )
-    }
+    let ([ox, oy, oz], [dx, dy, dz]) = (a.origin, a.direction);
+    let (from, to) = (a.t_min, a.t_max);
+    interface::ray_open(m, cells, table, ox, oy, oz, dx, dy, dz, from, to, times, numbers)
 }
 
 pub fn open(a: &Asked, table: &[f32]) -> (u32, State) {
@@ -132,20 +80,8 @@ pub fn open(a: &Asked, table: &[f32]) -> (u32, State) {
 
 pub fn next_with(table: &[f32], times: &mut [f32], numbers: &mut [i32]) -> (u32, Piece) {
     let mut p = Piece { more: 9, t0: 8.5, t1: 8.5, figure: 8.5 };
-    let number = unsafe {
-        smokegrid_ray_next(
-            table.as_ptr(),
-            table.len(),
-            times.as_mut_ptr(),
-            times.len(),
-            numbers.as_mut_ptr(),
-            numbers.len(),
-            &mut p.more,
-            &mut p.t0,
-            &mut p.t1,
-            &mut p.figure,
-        )
-    };
+    let Piece { more, t0, t1, figure } = &mut p;
+    let number = interface::ray_next(table, times, numbers, more, t0, t1, figure);
     (number, p)
 }
 
