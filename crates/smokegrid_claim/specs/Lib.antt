@@ -1,9 +1,12 @@
 -- The claim.
 pub mod ThroughC
 pub mod FileThroughC
+pub mod RaysThroughC
 -- Laws.
+pub mod Passed
 pub mod Back
 pub mod Theorem
 pub mod FileTheorem
+pub mod RaysTheorem
 -- Worked examples.
 pub mod Examples

@@ -2,8 +2,7 @@
 use mathlib.Core.Path.{_≡_, refl, sym, ap, _∙_, subst}
 use mathlib.Core.List.{List}
 use mathlib.Core.Bool.{_&&_}
-use Prim.Native.Nat.{ℕ, zero, suc}
-use native.Mathlib.Omega.{arith}
+use Prim.Native.Nat.{ℕ}
 use lib.IntN.{ℤ}
 use lib.Dec.{eqb}
 use lib.ListN.{length, replicate}
@@ -34,14 +33,10 @@ use Rattle.claim.specs.ContractLaws.{looked, heard-at, same-medium, figured}
 use Rattle.smokegrid.specs.Flat.{floatsOf, mediumFrom, indexFlat, buildFlat}
 use Rattle.smokegrid.specs.Promises.{Left}
 use Rattle.smokegrid_claim.specs.ThroughC.{used, Fits, KeepsC, ThroughC}
+use Rattle.smokegrid_claim.specs.Passed.{passed}
 use Rattle.smokegrid_claim.specs.Back.{flat, left-is, used-back, fits-back, medium-alike}
 
 -- ---- a build and an index position from flat arrays
-
--- no fault before a result whose number is 0
-passed : {A : Type 0} (n : ℕ) (r : Result A) → numberOf (passing n r) ≡ 0 → passing n r ≡ r
-passed zero r z = refl
-passed (suc n) r z = absurd (omega arith)
 
 flat-build : (g : Grid) (m : List Float) (c : List ℤ) (n : List ℕ) (places : ℕ) → numberOf (buildFlat g m c n places) ≡ 0
     → buildFlat g m c n places ≡ buildInto g (mediumFrom m c n) places
