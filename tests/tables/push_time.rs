@@ -1,5 +1,6 @@
 //! How long a push takes: w = 16 tables of 64³ cells, a full window. usage: push_time ROUNDS
 //! Beside it: one read of the memory that the push goes through (16 tables), the same greatest by the Rust's own loops, and one printed layer.
+//! Each of the first three twice: right after one another, when the caches have the tables, and out of memory, after 256 MiB of something else.
 
 #[path = "../../rust/smokegrid/src/interface.rs"]
 #[allow(dead_code)]
@@ -12,15 +13,22 @@ const W: usize = 16;
 const SIDE: usize = 64;
 const N: usize = SIDE * SIDE * SIDE;
 
-/// The best of the rounds, in milliseconds.
-fn best(rounds: usize, mut run: impl FnMut()) -> f64 {
+/// The best of the rounds, in milliseconds; before each, `others` are written.
+fn best(rounds: usize, others: &mut [u64], mut run: impl FnMut()) -> f64 {
     let mut least = f64::INFINITY;
-    for _ in 0..rounds {
+    for round in 0..rounds {
+        others.iter_mut().for_each(|v| *v = round as u64);
+        black_box(&others);
         let start = Instant::now();
         run();
         least = least.min(start.elapsed().as_secs_f64() * 1e3);
     }
     least
+}
+
+/// In the caches, and out of memory.
+fn both(rounds: usize, others: &mut [u64], mut run: impl FnMut()) -> [f64; 2] {
+    [best(rounds, &mut [], &mut run), best(rounds, others, &mut run)]
 }
 
 fn main() {
@@ -36,13 +44,14 @@ fn main() {
         assert_eq!(number, 0);
     };
     (0..W).for_each(|_| pushed());
-    let push = best(rounds, pushed);
+    let others = &mut vec![0u64; 32 << 20];
+    let push = both(rounds, others, pushed);
     assert_eq!((window[4], &answer), (W as u32, &table));
-    let read = best(rounds, || {
+    let read = both(rounds, others, || {
         let sum = memory.iter().fold(0u32, |sum, v| sum.wrapping_add(v.to_bits()));
         black_box(sum);
     });
-    let rust = best(rounds, || {
+    let rust = both(rounds, others, || {
         answer.fill(0.0);
         for table in memory.chunks(N) {
             for (a, v) in answer.iter_mut().zip(table) {
@@ -52,12 +61,14 @@ fn main() {
         black_box(&answer);
     });
     let (mut text, mut written) = (vec![0u8; 19 + SIDE * (SIDE + 5)], 0);
-    let print = best(rounds, || {
+    let print = best(rounds, &mut [], || {
         assert_eq!(interface::print_layer(&table, &cells, 7, &mut text, &mut written), 0);
     });
-    println!("a push, w = {W}, {SIDE}^3 cells: {push:.3} ms");
-    println!(
-        "a read of its memory: {read:.3} ms; the same greatest by the Rust's loops: {rust:.3} ms"
-    );
+    println!("w = {W}, {SIDE}^3 cells, in the caches and out of memory, in ms:");
+    for (name, [near, far]) in
+        [("a push", push), ("a read of its memory", read), ("the same by the Rust's loops", rust)]
+    {
+        println!("{name}: {near:.3} {far:.3}");
+    }
     println!("a layer of {SIDE} x {SIDE} cells: {print:.4} ms");
 }
