@@ -63,6 +63,24 @@ front-more i (x ∷ a) [] d h k = absurd (not-suc-le-zero k)
 front-more zero (x ∷ a) (v ∷ t) d h k = refl
 front-more (suc i) (x ∷ a) (v ∷ t) d h k = ap (λ (l : List Float). greater x v ∷ l) (front-more i a t d (le-of-suc-le-suc h) (le-of-suc-le-suc k))
 
+-- cell i is not raised yet
+pub front-rest : (i : ℕ) (l t : List Float) (z : Float) → getD (front i l t) i z ≡ getD l i z
+unfolding front
+front-rest zero l t z = refl
+front-rest (suc i) [] t z = refl
+front-rest (suc i) (x ∷ l) [] z = refl
+front-rest (suc i) (x ∷ l) (v ∷ t) z = front-rest i l t z
+
+-- a list whose cell i was raised before: one cell more
+pub front-again : (i : ℕ) (l t : List Float) (x z : Float) → i < length l → i < length t
+    → front (suc i) (set l i x) t ≡ set (front i l t) i (greater x (getD t i z))
+unfolding front
+front-again i [] t x z h k = absurd (not-suc-le-zero h)
+front-again i (y ∷ l) [] x z h k = absurd (not-suc-le-zero k)
+front-again zero (y ∷ l) (v ∷ t) x z h k = refl
+front-again (suc i) (y ∷ l) (v ∷ t) x z h k =
+    ap (λ (m : List Float). greater y v ∷ m) (front-again i l t x z (le-of-suc-le-suc h) (le-of-suc-le-suc k))
+
 pub front-all : (a t : List Float) → length t ≡ length a → front (length a) a t ≡ raised a t
 unfolding front raised
 front-all [] t e = refl

@@ -6,8 +6,9 @@ ghost use lib.ListN.{length};
 ghost use lib.Seq.{paste};
 ghost use Rattle.cells.specs.Cells.{cells};
 ghost use Rattle.window.specs.Tables.{raised, raisedBy};
+ghost use Rattle.window.specs.Fours.{Alike, raisedFour};
 ghost use Rattle.window.specs.Window.{before as beforeOf, after as afterOf, grown as grownOf, advanced as advancedOf};
-ghost use Rattle.window.specs.Window.{widthIn, fitsWindow, fitsLengths, ring, stateOf, tableOf, faultOf};
+ghost use Rattle.window.specs.Window.{widthIn, fitsWindow, fitsLengths, tableAt, ring, stateOf, tableOf, faultOf};
 ghost use Rattle.window.specs.Window.{pushFault, push as pushOf, openFault, opened};
 use cells::cells_fault;
 use cells::table_length;
@@ -152,20 +153,73 @@ fn raise(answer: &mut [f32], table: &[f32])
     }
 }
 
-// The tables in the `held` places before `next`, going round, the newest first.
+// The same with four tables, so that the answer is gone through once for the four.
+fn raise_four(answer: &mut [f32], a: &[f32], b: &[f32], c: &[f32], d: &[f32])
+    requires { ⌜ Alike (now answer) (now a) (now b) (now c) (now d) ⌝ }
+    ensures { λ _. ⌜ now (answer .exit) ≡ raisedFour (now (answer .entry)) (now (a .entry)) (now (b .entry)) (now (c .entry)) (now (d .entry)) ⌝ }
+{
+    let mut i: usize = 0;
+    while i < answer.len() {
+        let first = greater(answer[i], a[i]);
+        let second = greater(first, b[i]);
+        let third = greater(second, c[i]);
+        answer[i] = greater(third, d[i]);
+        i += 1;
+    }
+}
+
+// The table in the place before `at`, and that place.
+fn raise_one_before(answer: &mut [f32], memory: &[f32], w: usize, at: usize) -> usize
+    requires { ⌜ (at < w) × (w * length (now answer) ≤ length (now memory)) ⌝ }
+    ensures place { λ r. ⌜ r ≡ beforeOf w at ⌝ }
+    ensures answer { λ r. ⌜ now (answer .exit) ≡ raised (now (answer .entry)) (tableAt (length (now (answer .entry))) (now (memory .entry)) r) ⌝ }
+{
+    let n = answer.len();
+    let p = before(w, at);
+    raise(answer, &memory[p * n..p * n + n]);
+    p
+}
+
+// The tables in the four places before `at`, the newest first, and the last of these places.
+fn raise_four_before(answer: &mut [f32], memory: &[f32], w: usize, at: usize) -> usize
+    requires { ⌜ (at < w) × (w * length (now answer) ≤ length (now memory)) ⌝ }
+    ensures place { λ r. ⌜ r ≡ beforeOf w (beforeOf w (beforeOf w (beforeOf w at))) ⌝ }
+    ensures answer { λ r.
+        let table = tableAt (length (now (answer .entry))) (now (memory .entry)) in
+        let p = beforeOf w at in
+        let q = beforeOf w p in
+        ⌜ now (answer .exit) ≡ raisedFour (now (answer .entry)) (table p) (table q) (table (beforeOf w q)) (table r) ⌝ }
+{
+    let n = answer.len();
+    let a = before(w, at);
+    let b = before(w, a);
+    let c = before(w, b);
+    let d = before(w, c);
+    raise_four(
+        answer,
+        &memory[a * n..a * n + n],
+        &memory[b * n..b * n + n],
+        &memory[c * n..c * n + n],
+        &memory[d * n..d * n + n],
+    );
+    d
+}
+
+// The tables in the `held` places before `next`, going round, the newest first; four at a time while there are four.
 fn raise_ring(answer: &mut [f32], memory: &[f32], w: usize, held: usize, next: usize)
     requires { ⌜ (next < w) × (w * length (now answer) ≤ length (now memory)) ⌝ }
     ensures { λ _. ⌜ now (answer .exit) ≡ raisedBy (now (answer .entry)) (ring (length (now (answer .entry))) w (now (memory .entry)) held next) ⌝ }
 {
-    let n = answer.len();
     let mut left = held;
     let mut at = next;
     while left > 0 {
-        at = before(w, at);
-        let start = at * n;
-        let end = start + n;
-        raise(answer, &memory[start..end]);
-        left -= 1;
+        if left < 4 {
+            at = raise_one_before(answer, memory, w, at);
+            left -= 1;
+        } else {
+            at = raise_four_before(answer, memory, w, at);
+            left -= 4;
+        }
     }
 }
 
