@@ -46,11 +46,12 @@ pub record Ends (lo hi : ℤ) (s : Span) : Type 0 where
   pub some : 0 < s .hi
   pub top : s .hi ≤ 4294967296
 
--- e ends a part of at..end that lies in one cell of `side` coordinates
+-- e ends a part of at..end that lies in one cell of `side` coordinates; before the end it is a cell's border
 pub record Cut (side at end e : ℕ) : Type 0 where
   pub more : at < e
   pub within : e ≤ end
   pub cell : e ≤ at / side * side + side
+  pub border : e < end → e % side ≡ 0
 
 -- a span that lies in one cell
 abbrev pub InCell : ℕ → Span → Type 0

@@ -2,19 +2,22 @@
 use Prim.Native.Nat.{ℕ, zero, suc, _+_, _-_, _*_, _≤_, _<_}
 use native.Mathlib.Numerals.{add-one}
 use native.Mathlib.Omega.{arith}
-use mathlib.Core.Path.{_≡_, refl, ap, _∙_, subst}
+use mathlib.Core.Path.{_≡_, refl, sym, ap, _∙_, subst}
 use mathlib.Core.Bool.{Bool, true, false, cond, _||_}
 use lib.Dec.{T, eqb}
 use borrow.Author.Tests.{le-leb}
+use lib.IntN.{ℤ, pos, negsuc}
+use lib.Signed.{leZ}
 use lib.ListN.{length, getD}
 use lib.Ieee.{Float}
 use Rattle.float.specs.Zero.{+0}
 use Rattle.layout.specs.Coordinates.{Coord, slot, blockOf, sameBlock}
 use Rattle.sparse_grid.specs.Tables.{Grid, entryOf, entryAt, blockAt}
-use Rattle.sparse_grid.specs.Validate.{earlier}
+use Rattle.sparse_grid.specs.Validate.{blockIn, earlier}
 use Rattle.sparse_grid.specs.Lookup.{refused, lookup, rootsFrom, rootEntry, upperEntry, lowerEntry, upperAt, lowerAt, leafAt, valueIn}
-use Rattle.sparse_grid.specs.Biased.{place}
-use Rattle.sparse_grid.specs.BiasedLaws.{mod-8, mod-128, mod-4096, shr-4096}
+use Rattle.sparse_grid.specs.Biased.{back, raised, place}
+use Rattle.sparse_grid.specs.BiasedLaws.{back-low, back-high, mod-8, mod-128, mod-4096, shr-4096, raised-pos, raised-neg}
+use Rattle.sparse_grid.specs.Signs.{low, high, both}
 use Rattle.sparse_grid.specs.Sound.{Sound}
 use Rattle.boxes.specs.RangeMax.{entryRead, leafRead, lowerRead, upperRead, lowerSlot, upperSlot, readAt, blockAtPlace}
 
@@ -59,7 +62,18 @@ module _ (g : Grid) (s : Sound g) (x y z : ℕ) where
 
 -- ---- the roots
 
-or-false : (a b : Bool) → (a || b) ≡ false → (a ≡ false) × (b ≡ false)
+-- a block in range, by its number plus 2^19
+pub back-raised : (z : ℤ) → blockIn z ≡ true → z ≡ back 524288 (raised z)
+back-raised (pos k) h =
+    let l = high k (both true (leZ (pos k) (pos 524287)) h .1) in
+    let e : 524288 + k - 524288 ≡ k = omega arith in
+    sym (ap (back 524288) (raised-pos k l) ∙ back-high 524288 (524288 + k) (omega arith) ∙ ap pos e)
+back-raised (negsuc k) h =
+    let l = low k (both (leZ (negsuc 524287) (negsuc k)) true h .0) in
+    let e : 524288 - (524288 - (k + 1) + 1) ≡ k = omega arith in
+    sym (ap (back 524288) (raised-neg k l) ∙ back-low 524288 (524288 - (k + 1)) (omega arith) ∙ ap negsuc e)
+
+pub or-false : (a b : Bool) → (a || b) ≡ false → (a ≡ false) × (b ≡ false)
 or-false true b h = absurd (subst T h tt)
 or-false false b h = (refl, h)
 

@@ -1,11 +1,12 @@
--- From spans of biased coordinates back to a box between two corners: what is the greatest there is `boxMaximum`.
-use Prim.Native.Nat.{ℕ, _-_, _≤_, _<_}
+-- From spans of biased coordinates back to a box between two corners: what is the greatest there is `boxMaximum`, and what is read for it. Assumes nothing.
+use Prim.Native.Nat.{ℕ, _+_, _-_, _≤_, _<_}
 use native.Mathlib.Omega.{arith}
 use mathlib.Core.Path.{_≡_, refl, sym, ap, _∙_, subst}
 use mathlib.Core.Logic.{inl, inr, ⊎-elim}
 use mathlib.Core.Bool.{Bool, true, false, _||_}
 use lib.Dec.{T, leb}
 use lib.IntN.{ℤ}
+use lib.ListN.{length}
 use lib.Signed.{_≤ℤ_}
 use lib.Ieee.{Float, lt, fits, binary32, ofBits}
 use mir.Syntax.{w32}
@@ -16,7 +17,8 @@ use Rattle.layout.specs.Coordinates.{Coord}
 use Rattle.sparse_grid.specs.Tables.{Grid}
 use Rattle.sparse_grid.specs.Lookup.{readIn}
 use Rattle.sparse_grid.specs.Biased.{back, place}
-use Rattle.sparse_grid.specs.BiasedLaws.{back-le, back-between}
+use Rattle.sparse_grid.specs.BiasedLaws.{back-low, back-high, back-le, back-between}
+use Rattle.sparse_grid.specs.Count.{split-lt}
 use Rattle.boxes.specs.declared.Span.{Span}
 use Rattle.boxes.specs.Boxes.{Greatest, boxMaximum, between}
 use Rattle.boxes.specs.Maximum.{greatest}
@@ -26,6 +28,12 @@ use Rattle.boxes.specs.Most.{Most}
 use Rattle.boxes.specs.RangeMax.{Within, Full, Ends, empty, readAt}
 use Rattle.boxes.specs.MostLaws.{none}
 use Rattle.sparse_grid.specs.Signs.{seen}
+use Rattle.walk.specs.Walk.{Price, biased, zoneOf, steps, rootsOnly, uppersOnly, lowersOnly, leavesOnly}
+use Rattle.walk.specs.Counts.{zoneIn, stepsTo, CountedTo}
+use Rattle.walk.specs.CountLaws.{all-to}
+use Rattle.walk.specs.NodeWalk.{empty-steps}
+use Rattle.majorant.specs.declared.Counted.{Counted}
+use Rattle.majorant.specs.Counted.{unread, asRead, readFor}
 
 -- ---- spans with a place, and without
 
@@ -113,17 +121,82 @@ module _ (g : Grid) {lx ly lz hx hy hz : ℤ} {x y z : Span} (spans : Spans lx l
         )) (m .reached);
   }
 
-  pub is-maximum : {r : Float} → T (fits binary32 r) → ((c : Coord) → T (fits binary32 (readIn g c))) → Most (readAt g) (Within x y z) r
+  -- it is +0 or one of the values that are read, so it fits where they do
+  most-fits : {r : Float} → ((c : Coord) → T (fits binary32 (readIn g c))) → Most (readAt g) (Within x y z) r → T (fits binary32 r)
+  unfolding readAt
+  most-fits h m =
+      ⊎-elim (λ e. subst (λ (v : Float). T (fits binary32 v)) (sym e) zero-fits)
+      (λ w. subst (λ (v : Float). T (fits binary32 v)) (w .4) (h (place (w .0) (w .1) (w .2)))) (m .reached)
+
+  pub is-maximum : {r : Float} → ((c : Coord) → T (fits binary32 (readIn g c))) → Most (readAt g) (Within x y z) r
       → r ≡ boxMaximum (readIn g) (between lx ly lz hx hy hz)
-  is-maximum p h m =
+  is-maximum h m =
       let b = between lx ly lz hx hy hz in
-      greatest-one (readIn g) binary32 b p (box-fits (readIn g) b h) (most-greatest m) (greatest (readIn g) b)
+      greatest-one (readIn g) binary32 b (most-fits h m) (box-fits (readIn g) b h) (most-greatest m) (greatest (readIn g) b)
 
   -- an empty box: the code's 0.0
   pub is-none : empty x y z ≡ true → ((c : Coord) → T (fits binary32 (readIn g c)))
       → ofBits binary32 0 ≡ boxMaximum (readIn g) (between lx ly lz hx hy hz)
-  is-none o h =
-      is-maximum (subst (λ (r : Float). T (fits binary32 r)) (sym (zero-literal binary32)) zero-fits) h (none (no-place x y z o))
+  is-none o h = is-maximum h (none (no-place x y z o))
+
+-- ---- what is read for the box
+
+-- a biased number, biased again
+biased-back : (n : ℕ) → biased (back 2147483648 n) ≡ n
+biased-back n =
+    split-lt n 2147483648
+    (λ l. ap biased (back-low 2147483648 n l) ∙ omega arith)
+    (λ l. ap biased (back-high 2147483648 n l) ∙ omega arith)
+
+module _ {lx ly lz hx hy hz : ℤ} {x y z : Span} (spans : Spans lx ly lz hx hy hz x y z) where
+  low-number : {lo hi : ℤ} {s : Span} → Ends lo hi s → biased lo ≡ s .lo
+  low-number {s = s} e = ap biased (e .low) ∙ biased-back (s .lo)
+
+  high-number : {lo hi : ℤ} {s : Span} → Ends lo hi s → biased hi + 1 ≡ s .hi
+  high-number {s = s} e = let h = ap biased (e .high) ∙ biased-back (s .hi - 1) in omega (arith, e .some)
+
+  -- the zone of the box
+  pub zone-is : zoneOf (between lx ly lz hx hy hz) ≡ zoneIn x y z
+  zone-is = λ i. record {
+    x0 = low-number (spans .along-x) i;
+    x1 = high-number (spans .along-x) i;
+    y0 = low-number (spans .along-y) i;
+    y1 = high-number (spans .along-y) i;
+    z0 = low-number (spans .along-z) i;
+    z1 = high-number (spans .along-z) i;
+  }
+
+  module _ (g : Grid) where
+    none-read : (p : Price) → empty x y z ≡ true → 0 ≡ steps p g (zoneOf (between lx ly lz hx hy hz))
+    none-read p h =
+        sym (ap (steps p g) zone-is
+        ∙ empty-steps p g (zoneIn x y z) (lacking x y z h (λ k. inl k) (λ k. inr (inl k)) (λ k. inr (inr k))))
+
+    -- an empty box: zeros
+    pub read-none : empty x y z ≡ true → ofBits binary32 0 ≡ boxMaximum (readIn g) (between lx ly lz hx hy hz)
+        → unread ≡ readFor g (between lx ly lz hx hy hz)
+    read-none h e = λ i. record {
+      maximum = (sym (zero-literal binary32) ∙ e) i;
+      roots = none-read rootsOnly h i;
+      uppers = none-read uppersOnly h i;
+      lowers = none-read lowersOnly h i;
+      leaves = none-read leavesOnly h i;
+    }
+
+    all-read : (p : Price) → stepsTo p g (zoneIn x y z) (length (g .rootLinks)) ≡ steps p g (zoneOf (between lx ly lz hx hy hz))
+    all-read p = all-to p g (zoneIn x y z) ∙ ap (steps p g) (sym zone-is)
+
+    -- the counts of all roots are those of the box
+    pub read-all : (r : Counted) → r .maximum ≡ boxMaximum (readIn g) (between lx ly lz hx hy hz)
+        → CountedTo g (length (g .rootLinks)) (zoneIn x y z) (r .roots) (r .upper) (r .lower) (r .high) (r .low)
+        → asRead r ≡ readFor g (between lx ly lz hx hy hz)
+    read-all r e c = λ i. record {
+      maximum = e i;
+      roots = (c .roots-are ∙ all-read rootsOnly) i;
+      uppers = (c .uppers-are ∙ all-read uppersOnly) i;
+      lowers = (c .lowers-are ∙ all-read lowersOnly) i;
+      leaves = (c .leaves-are ∙ all-read leavesOnly) i;
+    }
 
 -- the ends as a callee is handed them
 pub seen-ends : {lo hi : ℤ} (s : Span) → SFits w32 lo → SFits w32 hi → Ends (toZ w32 (ofZ w32 lo)) (toZ w32 (ofZ w32 hi)) s → Ends lo hi s

@@ -1,6 +1,7 @@
 pub mod RootsMet
 pub mod Corners
 pub mod Signs
+pub mod Turns
 pub mod RootStep
 pub mod Refused
 pub mod Listing

@@ -318,10 +318,11 @@ module _ {g : Grid} {x y z : Span} {m : Float} {k a b c : ℕ} (o : Ended g x y 
   as-many : a * (b * c) ≡ blocksIn (x .lo) (x .hi) (y .lo) (y .hi) (z .lo) (z .hi)
   as-many = rw (o .along-x, o .along-y, o .along-z)
 
-  pub ends-whole : a * (b * c) ≤ k → Most (readAt g) (Within x y z) m
-  ends-whole h =
-      whole g (x .lo) (x .hi) (y .lo) (y .hi) (z .lo) (z .hi) (length (g .rootLinks))
-      (let e = o .all .count in let f = as-many in omega arith) (o .all .most)
+  pub ends-whole : {r : Float} → a * (b * c) ≤ k → r ≡ m → Most (readAt g) (Within x y z) r
+  ends-whole h e =
+      subst (λ (q : Float). Most (readAt g) (Within x y z) q) (sym e)
+      (whole g (x .lo) (x .hi) (y .lo) (y .hi) (z .lo) (z .hi) (length (g .rootLinks))
+      (let e = o .all .count in let f = as-many in omega arith) (o .all .most))
 
   pub ends-gap : {r : Float} → k < a * (b * c) → r ≡ greater m (g .background) → Most (readAt g) (Within x y z) r
   ends-gap h e =

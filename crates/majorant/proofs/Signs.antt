@@ -1,6 +1,6 @@
--- What stands for a block in range, and what a callee is handed of a block or of the ends of a box. Assumes nothing.
-use Prim.Native.Nat.{_+_, _-_, _^_, _<_}
-use mathlib.Core.Path.{_≡_, sym, ap, _∙_}
+-- What a callee is handed of a block in range, or of the ends of a box. Assumes nothing.
+use Prim.Native.Nat.{_^_, _<_}
+use mathlib.Core.Path.{_≡_}
 use mathlib.Core.Bool.{true}
 use native.Mathlib.Omega.{arith}
 use lib.IntN.{ℤ, pos, negsuc}
@@ -8,20 +8,8 @@ use lib.Signed.{mag, leZ}
 use mir.Syntax.{w32}
 use mir.Val.{SFits, toZ, ofZ}
 use Rattle.sparse_grid.specs.Validate.{blockIn}
-use Rattle.sparse_grid.specs.Biased.{back, raised}
-use Rattle.sparse_grid.specs.BiasedLaws.{back-low, back-high, raised-pos, raised-neg}
 use Rattle.sparse_grid.specs.Signs.{low, high, both, seen}
 use Rattle.boxes.specs.Boxes.{Box, between}
-
-pub back-raised : (z : ℤ) → blockIn z ≡ true → z ≡ back 524288 (raised z)
-back-raised (pos k) h =
-    let l = high k (both true (leZ (pos k) (pos 524287)) h .1) in
-    let e : 524288 + k - 524288 ≡ k = omega arith in
-    sym (ap (back 524288) (raised-pos k l) ∙ back-high 524288 (524288 + k) (omega arith) ∙ ap pos e)
-back-raised (negsuc k) h =
-    let l = low k (both (leZ (negsuc 524287) (negsuc k)) true h .0) in
-    let e : 524288 - (524288 - (k + 1) + 1) ≡ k = omega arith in
-    sym (ap (back 524288) (raised-neg k l) ∙ back-low 524288 (524288 - (k + 1)) (omega arith) ∙ ap negsuc e)
 
 pub block-fits : (z : ℤ) → blockIn z ≡ true → SFits w32 z
 block-fits (pos k) h = record { sfits = let l = high k (both true (leZ (pos k) (pos 524287)) h .1) in omega arith }

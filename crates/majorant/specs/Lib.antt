@@ -2,6 +2,7 @@
 pub mod Figures
 pub mod Build
 pub mod Maxima
+pub mod Counted
 -- Definitions of laws over what the public contracts say.
 pub mod Zones
 -- Definitions that only contracts within the crate cite.
@@ -18,3 +19,4 @@ pub mod RowLaws
 pub mod Accepted
 pub mod Bounded
 pub mod ZoneLaws
+pub mod Dearest

@@ -8,6 +8,7 @@ ghost use Rattle.float.specs.Zero.{+0};
 ghost use Rattle.medium.specs.Record.{asMedium};
 ghost use Rattle.majorant.specs.Build.{publicMaximum, buildInto};
 ghost use Rattle.majorant.specs.Maxima.{maximaInto, greatestInto};
+ghost use Rattle.majorant.specs.Counted.{unread, publicCounted, countedAnswer};
 ghost use Rattle.boxes.specs.Boxes.{between};
 
 mod build;
@@ -22,8 +23,25 @@ use maxima::maxima_each;
 use maxima::maxima_fault;
 use medium::Medium;
 use range_max::range_max;
+use range_max::range_max_counted;
 use sparse_grid::Answer;
 use sparse_grid::validate;
+
+// The maximum of a box, and how many root entries, upper entries, lower entries and leaf values (in two words) were read for it.
+pub struct Counted {
+    pub maximum: f32,
+    pub roots: u64,
+    pub upper: u64,
+    pub lower: u64,
+    pub high: u64,
+    pub low: u64,
+}
+
+// The maximum of a box with its counts, or the number of the refusal.
+pub enum CountedAnswer {
+    Value(Counted),
+    Refused(u32),
+}
 
 // The greatest of +0.0 and the voxels from the low corner to the high one, ends included. The grid is validated first.
 pub fn box_maximum(
@@ -81,6 +99,64 @@ pub fn box_maximum(
         hz,
     );
     Answer::Value(maximum)
+}
+
+// The box maximum, by the same walk, and what it read after `validate`: root entries, upper entries, lower entries and leaf values.
+pub fn box_maximum_counted(
+    background: f32,
+    blocks: &[i32],
+    root_links: &[u32],
+    root_values: &[f32],
+    upper_links: &[u32],
+    upper_values: &[f32],
+    lower_links: &[u32],
+    lower_values: &[f32],
+    leaf_values: &[f32],
+    lx: i32,
+    ly: i32,
+    lz: i32,
+    hx: i32,
+    hy: i32,
+    hz: i32,
+) -> CountedAnswer
+    ensures { λ r.
+        let g = gridOf background (now (blocks .entry)) (now («root_links» .entry)) (now («root_values» .entry))
+        (now («upper_links» .entry)) (now («upper_values» .entry)) (now («lower_links» .entry)) (now («lower_values» .entry))
+        (now («leaf_values» .entry)) in
+        ⌜ countedAnswer r ≡ said unread (publicCounted g (between lx ly lz hx hy hz)) ⌝ }
+{
+    let invalid = validate(
+        background,
+        blocks,
+        root_links,
+        root_values,
+        upper_links,
+        upper_values,
+        lower_links,
+        lower_values,
+        leaf_values,
+    );
+    if invalid != 0 {
+        return CountedAnswer::Refused(invalid);
+    }
+    let found = range_max_counted(
+        background,
+        blocks,
+        root_links,
+        root_values,
+        upper_links,
+        upper_values,
+        lower_links,
+        lower_values,
+        leaf_values,
+        lx,
+        ly,
+        lz,
+        hx,
+        hy,
+        hz,
+    );
+    CountedAnswer::Value(found)
 }
 
 // A maximum for each box of a list, six numbers a box, minima first, and the greatest of them. The grid is validated once. After a refusal its number,

@@ -3,3 +3,4 @@ pub mod Left
 pub mod Taken
 pub mod Windows
 pub mod Rayed
+pub mod Counting

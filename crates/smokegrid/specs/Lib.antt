@@ -1,5 +1,6 @@
 -- Definitions that the contracts cite.
 pub mod Flat
+pub mod FlatCounted
 pub mod FlatRay
 pub mod FlatTables
 pub mod Promises

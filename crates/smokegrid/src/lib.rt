@@ -13,13 +13,15 @@ ghost use Rattle.smokegrid.specs.Flat.{Arrays};
 ghost use Rattle.smokegrid.specs.FlatRay.{beam};
 ghost use Rattle.smokegrid.specs.FlatTables.{windowArrays};
 ghost use Rattle.smokegrid.specs.Promises.{Decodes, GetsValue, GetsReading, BoxMaximum, BoxMaxima, WorldToIndex, Builds, GivesPart};
-ghost use Rattle.smokegrid.specs.Promises.{OpensRay, NextPiece, PrintsLayer, OpensWindow, PushesTable};
+ghost use Rattle.smokegrid.specs.Promises.{CountsBox, OpensRay, NextPiece, PrintsLayer, OpensWindow, PushesTable};
 
+mod counted;
 mod flat;
 mod ray;
 mod tables;
 
 use contents::Picked;
+use counted::put_read;
 use flat::flat_fault;
 use flat::medium_from;
 use flat::put_corners;
@@ -27,8 +29,11 @@ use flat::put_counts;
 use flat::put_medium;
 use flat::put_three;
 use index::world_to_index_f;
+use lent::zero_u64;
+use majorant::CountedAnswer;
 use majorant::box_maxima;
 use majorant::box_maximum;
+use majorant::box_maximum_counted;
 use majorant::build_majorant;
 use ray::one_if;
 use ray::put_numbers;
@@ -375,6 +380,65 @@ pub extern "C" fn smokegrid_box_maximum(
         hz,
     );
     give(found, value)
+}
+
+// The box maximum, by the same walk, through `value`, what it read after `validate` into `counts` (root entries, upper entries, lower entries, and the
+// high and the low word of the leaf values), and 0; or the number of the refusal, and zeros: 18 first, for counts of another length than five.
+#[no_mangle]
+pub extern "C" fn smokegrid_box_maximum_counted(
+    background: f32,
+    blocks: &[i32],
+    root_links: &[u32],
+    root_values: &[f32],
+    upper_links: &[u32],
+    upper_values: &[f32],
+    lower_links: &[u32],
+    lower_values: &[f32],
+    leaf_values: &[f32],
+    lx: i32,
+    ly: i32,
+    lz: i32,
+    hx: i32,
+    hy: i32,
+    hz: i32,
+    value: &mut f32,
+    counts: &mut [u64],
+) -> u32
+    ensures { λ r.
+        let g = gridOf background
+        (now (blocks .entry)) (now («root_links» .entry)) (now («root_values» .entry)) (now («upper_links» .entry))
+        (now («upper_values» .entry)) (now («lower_links» .entry)) (now («lower_values» .entry)) (now («leaf_values» .entry)) in
+        ⌜ CountsBox g (between lx ly lz hx hy hz) (length (now (counts .entry))) r (now (value .exit)) (now (counts .exit)) ⌝ }
+{
+    *value = 0.0f32;
+    zero_u64(counts);
+    if counts.len() != 5 {
+        return refusals::TABLES;
+    }
+    match box_maximum_counted(
+        background,
+        blocks,
+        root_links,
+        root_values,
+        upper_links,
+        upper_values,
+        lower_links,
+        lower_values,
+        leaf_values,
+        lx,
+        ly,
+        lz,
+        hx,
+        hy,
+        hz,
+    ) {
+        CountedAnswer::Value(c) => {
+            *value = c.maximum;
+            put_read(counts, c);
+            0
+        }
+        CountedAnswer::Refused(number) => number,
+    }
 }
 
 // The greatest of +0.0 and the values of each box of a list (six numbers a box, minima first) into `maxima`, the greatest of the list through `greatest`,

@@ -4,6 +4,7 @@ pub mod FileThroughC
 pub mod RaysThroughC
 -- Laws.
 pub mod Passed
+pub mod Loads
 pub mod Back
 pub mod Theorem
 pub mod FileTheorem

@@ -34,6 +34,7 @@ use Rattle.smokegrid.specs.Flat.{floatsOf, mediumFrom, indexFlat, buildFlat}
 use Rattle.smokegrid.specs.Promises.{Left}
 use Rattle.smokegrid_claim.specs.ThroughC.{used, Fits, KeepsC, ThroughC}
 use Rattle.smokegrid_claim.specs.Passed.{passed}
+use Rattle.smokegrid_claim.specs.Loads.{load}
 use Rattle.smokegrid_claim.specs.Back.{flat, left-is, used-back, fits-back, medium-alike}
 
 -- ---- a build and an index position from flat arrays
@@ -75,6 +76,10 @@ module _ (b : List ℕ) (bytes : Bytes b) (l : Lent) (t : Accepted) (e : decodeI
         let (v, greatest) = holds .maxima x lo hi in
         let is = M .value-is ∙ ap (valueOr +0) v in
         (M .number-is ∙ ap numberOf v, is, subst (Greatest (voxel b) x) (sym is) greatest);
+    loads = λ x lo hi number value counts C.
+        let (v, greatest) = holds .maxima x lo hi in
+        let L = load (t .grid) x v number value counts C in
+        (L .number-is, L .value-is, subst (Greatest (voxel b) x) (sym (L .value-is)) greatest, L .read-is, L .no-dearer);
     lists = λ boxes n long signed number maxima greatest M.
         let all = listed b t holds boxes n long signed in
         let is = M .greatest-is ∙ ap (valueOr +0) (listed-greatest b t holds boxes n long signed) in (

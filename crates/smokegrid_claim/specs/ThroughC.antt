@@ -1,6 +1,6 @@
 -- The one claim over what the contracts of the C interface say: what a decode leaves is handed on as it is, and every answer is
 -- held to the bytes. On the left stand the promises of `smokegrid_*` by name, on the right the bytes.
-use Prim.Native.Nat.{ℕ, _*_, _≤_}
+use Prim.Native.Nat.{ℕ, _+_, _*_, _≤_}
 use mathlib.Core.Path.{_≡_}
 use mathlib.Core.List.{List}
 use lib.IntN.{ℤ}
@@ -16,11 +16,13 @@ use Rattle.medium.specs.Medium.{Point}
 use Rattle.medium.specs.Record.{cellsOf}
 use Rattle.nanovdb.specs.Lent.{Lent}
 use Rattle.boxes.specs.Boxes.{Box, InSome, GreatestOver, Greatest, boxMaximum}
+use Rattle.walk.specs.Walk.{CubeBox}
 use Rattle.majorant.specs.Maxima.{boxAt, maximaOf}
+use Rattle.majorant.specs.Counted.{Read, readFor, NoDearer}
 use Rattle.claim.specs.Claim.{Inside, Bounds}
 use Rattle.claim.specs.Contracts.{SignedBoxes, indexOf}
 use Rattle.smokegrid.specs.Flat.{Arrays}
-use Rattle.smokegrid.specs.Promises.{Left, Decodes, GetsValue, GetsReading, BoxMaximum, BoxMaxima, WorldToIndex, Builds}
+use Rattle.smokegrid.specs.Promises.{Left, Decodes, GetsValue, GetsReading, BoxMaximum, CountsBox, BoxMaxima, WorldToIndex, Builds}
 
 -- the used parts: three numbers of `blocks` a root, and 32,768, 4,096 and 512 places an upper, lower and leaf node, as counted
 abbrev pub used : Left → Grid
@@ -50,6 +52,16 @@ pub record Fits (l : Left) : Type 0 where
   pub lowerValues : 4096 * getD (l .counts) 2 0 ≤ length (l .tables .lowerValues)
   pub leafValues : 512 * getD (l .counts) 3 0 ≤ length (l .tables .leafValues)
 
+-- what five numbers say: root entries, upper entries, lower entries, and leaf values in a high and a low word
+abbrev pub readOf : Float → List ℕ → Read
+readOf v l = record {
+  maximum = v;
+  roots = getD l 0 0;
+  uppers = getD l 1 0;
+  lowers = getD l 2 0;
+  leaves = getD l 3 0 * 18446744073709551616 + getD l 4 0;
+}
+
 -- What holds of a grid and a medium of 18 numbers that the functions are handed.
 pub record KeepsC (b : List ℕ) (g : Grid) (medium : List Float) : Type 0 where
   -- a lookup is not refused, and answers the 32 bits that the walk reads
@@ -61,6 +73,10 @@ pub record KeepsC (b : List ℕ) (g : Grid) (medium : List Float) : Type 0 where
   -- a box maximum is not refused, and is the greatest of zero and the voxels of the box
   pub maxima : (x : Box) → Signed32 (x .lo) → Signed32 (x .hi) → (number : ℕ) (value : Float) → BoxMaximum g x number value
       → (number ≡ 0) × (value ≡ boxMaximum (voxel b) x) × Greatest (voxel b) x value
+  -- a counted one has the same maximum, its counts are what the walk of the tables reads, and for a cube they are no more than R^3 + U^3 + L^3 + n^3
+  pub loads : (x : Box) → Signed32 (x .lo) → Signed32 (x .hi) → (number : ℕ) (value : Float) (counts : List ℕ) → CountsBox g x 5 number value counts
+      → (number ≡ 0) × (value ≡ boxMaximum (voxel b) x) × Greatest (voxel b) x value × (readOf value counts ≡ readFor g x)
+      × ((n : ℕ) → CubeBox n x → NoDearer n (readOf value counts))
   -- a list of boxes six to a place is not refused: each maximum is that of its box, and the greatest that of the boxes together
   pub lists : (boxes : List ℤ) (n : ℕ) → length boxes ≡ 6 * n → SignedBoxes boxes n → (number : ℕ) (maxima : List Float) (greatest : Float)
       → BoxMaxima g boxes n number maxima greatest

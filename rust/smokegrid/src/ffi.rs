@@ -79,6 +79,17 @@ pub fn box_maximum(tables: &Tables, low: [i32; 3], high: [i32; 3], value: &mut f
     interface::box_maximum(grid(tables), lx, ly, lz, hx, hy, hz, value)
 }
 
+pub fn box_maximum_counted(
+    tables: &Tables,
+    low: [i32; 3],
+    high: [i32; 3],
+    value: &mut f32,
+    counts: &mut [u64; 5],
+) -> u32 {
+    let ([lx, ly, lz], [hx, hy, hz]) = (low, high);
+    interface::box_maximum_counted(grid(tables), lx, ly, lz, hx, hy, hz, value, counts)
+}
+
 pub fn box_maxima(tables: &Tables, boxes: &[i32], maxima: &mut [f32], greatest: &mut f32) -> u32 {
     interface::box_maxima(grid(tables), boxes, maxima, greatest)
 }

@@ -3,6 +3,7 @@
 use crate::contents::grid_part;
 use crate::ffi::{self, Record};
 use crate::level::{Level, Reading};
+use crate::load::Load;
 use crate::majorant::{table_length, Majorant};
 use crate::ray::{Beam, Pieces};
 use crate::refusal::Refusal;
@@ -136,7 +137,15 @@ impl Grid {
         value(|place| ffi::box_maximum(&self.tables, low, high, place))
     }
 
-    /// The same for each box of a list, from its low voxel to its high one. The grid is validated once, where each single call
+    /// The same, by the same walk, and how much was read for it.
+    pub fn box_maximum_counted(&self, low: [i32; 3], high: [i32; 3]) -> Result<Load, Refusal> {
+        let mut counts = [0; 5];
+        let value =
+            value(|place| ffi::box_maximum_counted(&self.tables, low, high, place, &mut counts))?;
+        Ok(Load::new(value, counts))
+    }
+
+    /// The maximum for each box of a list, from its low voxel to its high one. The grid is validated once, where each single call
     /// validates it anew.
     pub fn box_maxima(&self, boxes: &[([i32; 3], [i32; 3])]) -> Result<Maxima, Refusal> {
         let mut numbers = Vec::with_capacity(6 * boxes.len());

@@ -159,6 +159,34 @@ mod c {
             hz: i32,
             value: *mut f32,
         ) -> u32;
+        pub fn smokegrid_box_maximum_counted(
+            background: f32,
+            blocks: *const i32,
+            blocks_len: usize,
+            root_links: *const u32,
+            root_links_len: usize,
+            root_values: *const f32,
+            root_values_len: usize,
+            upper_links: *const u32,
+            upper_links_len: usize,
+            upper_values: *const f32,
+            upper_values_len: usize,
+            lower_links: *const u32,
+            lower_links_len: usize,
+            lower_values: *const f32,
+            lower_values_len: usize,
+            leaf_values: *const f32,
+            leaf_values_len: usize,
+            lx: i32,
+            ly: i32,
+            lz: i32,
+            hx: i32,
+            hy: i32,
+            hz: i32,
+            value: *mut f32,
+            counts: *mut u64,
+            counts_len: usize,
+        ) -> u32;
         pub fn smokegrid_box_maxima(
             background: f32,
             blocks: *const i32,
@@ -519,6 +547,52 @@ pub fn box_maximum(
             hy,
             hz,
             value,
+        )
+    }
+}
+
+#[inline]
+#[allow(clippy::too_many_arguments)]
+pub fn box_maximum_counted(
+    grid: GridTables,
+    lx: i32,
+    ly: i32,
+    lz: i32,
+    hx: i32,
+    hy: i32,
+    hz: i32,
+    value: &mut f32,
+    counts: &mut [u64],
+) -> u32 {
+    // SAFETY: each pointer is valid for its length, and what is written is borrowed mutably, so it overlaps nothing.
+    unsafe {
+        c::smokegrid_box_maximum_counted(
+            grid.background,
+            grid.blocks.as_ptr(),
+            grid.blocks.len(),
+            grid.root_links.as_ptr(),
+            grid.root_links.len(),
+            grid.root_values.as_ptr(),
+            grid.root_values.len(),
+            grid.upper_links.as_ptr(),
+            grid.upper_links.len(),
+            grid.upper_values.as_ptr(),
+            grid.upper_values.len(),
+            grid.lower_links.as_ptr(),
+            grid.lower_links.len(),
+            grid.lower_values.as_ptr(),
+            grid.lower_values.len(),
+            grid.leaf_values.as_ptr(),
+            grid.leaf_values.len(),
+            lx,
+            ly,
+            lz,
+            hx,
+            hy,
+            hz,
+            value,
+            counts.as_mut_ptr(),
+            counts.len(),
         )
     }
 }

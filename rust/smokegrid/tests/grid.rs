@@ -3,7 +3,7 @@
 mod common;
 
 use common::{chain, put32, put64, put_float, resize, tile, LEAF, LOWER, UPPER};
-use smokegrid::{Counts, Grid, Level, Maxima, Reading};
+use smokegrid::{Counts, Grid, Level, Load, Maxima, Reading};
 
 fn number(bytes: &[u8]) -> u32 {
     Grid::decode(bytes).map_or_else(|refusal| refusal.number(), |_| 0)
@@ -71,6 +71,19 @@ fn a_box_has_its_greatest_density_and_no_less_than_zero() {
     assert_eq!(grid.box_maximum([-4095, 0, 0], [-4090, 7, 7]), Ok(0.0));
     assert_eq!(grid.box_maximum([1, 0, 0], [0, 9, 9]), Ok(0.0));
     assert_eq!(grid.box_maximum([i32::MIN; 3], [i32::MAX; 3]), Ok(0.75));
+}
+
+#[test]
+fn a_box_has_its_load_and_a_cube_the_most_that_it_can_be() {
+    let grid = Grid::decode(&chain()).unwrap();
+    let load = |low, high| grid.box_maximum_counted(low, high).unwrap();
+    let read = |l: Load| (l.maximum, l.roots, l.upper, l.lower, l.leaf);
+    assert_eq!(read(load([-4096, 0, 0], [-4096, 0, 0])), (0.25, 1, 1, 1, 1));
+    assert_eq!(read(load([-4096, 0, 0], [-3969, 127, 127])), (0.75, 1, 1, 4096, 512));
+    assert_eq!(read(load([1, 0, 0], [0, 9, 9])), (0.0, 0, 0, 0, 0));
+    assert_eq!(load([-4096, 0, 0], [-3969, 127, 127]).total(), 1 + 1 + 4096 + 512);
+    let most = [0, 1, 2, 8, 4096].map(Load::most);
+    assert_eq!(most, [0, 4, 32, 8 + 8 + 8 + 512, 8 + 35_937 + 135_005_697 + 68_719_476_736]);
 }
 
 #[test]

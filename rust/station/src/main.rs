@@ -134,7 +134,9 @@ fn answers(arguments: &Arguments, grid: &Grid, cells: Option<&Majorant>) -> Resu
             Question::At(at) => {
                 report::line(&format!("at {}", triple(at)), &report::reading(grid.reading(*at)?))
             }
-            Question::Box(low, high) => report::zone(low, high, grid.box_maximum(*low, *high)?),
+            Question::Box(low, high) => {
+                report::load(low, high, &grid.box_maximum_counted(*low, *high)?)
+            }
             Question::Boxes(boxes) => report::zones(boxes, &grid.box_maxima(boxes)?),
             Question::Cell(_) | Question::Layer(_) => of_cells(question, cells)?,
             Question::Ray(beam) => match cells {

@@ -1,7 +1,7 @@
 //! The lines that are printed.
 
 use crate::boxes::Zone;
-use smokegrid::{Contents, Grid, Listed, Majorant, Maxima, Reading};
+use smokegrid::{Contents, Grid, Listed, Load, Majorant, Maxima, Reading};
 use std::collections::HashMap;
 use std::fmt::Display;
 use std::path::Path;
@@ -73,6 +73,29 @@ pub fn zone(low: &[i32; 3], high: &[i32; 3], maximum: f32) -> String {
     line(&format!("box {} to {}", triple(low), triple(high)), &number(maximum))
 }
 
+/// The coordinates a side of a cube, or none for another box.
+fn cube(low: &[i32; 3], high: &[i32; 3]) -> Option<u32> {
+    let side = |axis: usize| u32::try_from(i64::from(high[axis]) - i64::from(low[axis]) + 1).ok();
+    let (x, y, z) = (side(0)?, side(1)?, side(2)?);
+    (x > 0 && x == y && y == z).then_some(x)
+}
+
+/// A box's maximum, and a line that says what was read for it; for a cube also the most that it could be.
+pub fn load(low: &[i32; 3], high: &[i32; 3], load: &Load) -> String {
+    let read = format!(
+        "{} root, {} upper and {} lower entries, {} leaf values",
+        grouped(load.roots.into()),
+        grouped(load.upper.into()),
+        grouped(load.lower.into()),
+        grouped(load.leaf)
+    );
+    let of = match cube(low, high) {
+        Some(n) => format!("; {} of at most {}", grouped(load.total()), grouped(Load::most(n))),
+        None => format!("; {} together", grouped(load.total())),
+    };
+    zone(low, high, load.maximum) + &line("  read", &(read + &of))
+}
+
 /// A line for each box, and the greatest of them.
 pub fn zones(boxes: &[Zone], maxima: &Maxima) -> String {
     let each = boxes.iter().zip(&maxima.each);
@@ -99,6 +122,10 @@ pub fn number(value: f32) -> String {
 
 /// A count with a comma after each three digits.
 pub fn counted(count: usize) -> String {
+    grouped(count as u128)
+}
+
+fn grouped(count: u128) -> String {
     let digits = count.to_string();
     let mut text = String::new();
     for (i, digit) in digits.chars().enumerate() {

@@ -114,16 +114,18 @@ fn questions_are_answered_in_their_order() {
     all.extend(words.split(' '));
     let output = station(&all);
     let text = out(&output);
-    let answers: Vec<&str> = text.lines().skip(9).take(5).collect();
+    let answers: Vec<&str> = text.lines().skip(9).take(7).collect();
     assert_eq!(output.status.code(), Some(0));
     assert_eq!(
         answers,
         [
             "at (11, 9, 0)    1 (leaf)",
             "box (0, 0, 0) to (23, 23, 23) 1",
+            "  read           1 root, 1 upper and 27 lower entries, 9,728 leaf values; 9,757 of at most 13,904",
             "at (-1, 0, 0)    0 (background)",
             "cell (26, 21, 0) 1",
             "box (9, 0, 0) to (8, 0, 0) 0",
+            "  read           0 root, 0 upper and 0 lower entries, 0 leaf values; 0 together",
         ]
     );
 }

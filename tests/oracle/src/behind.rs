@@ -3,6 +3,9 @@
 
 #[path = "../../tables/reference.rs"]
 mod reference;
+#[path = "../../walks/reference.rs"]
+#[allow(dead_code)]
+mod walks;
 
 use oracle::file::Part;
 use oracle::loader::{Answer, Lent, Loader, Rust, Tables};
@@ -81,6 +84,38 @@ pub fn box_maximum(
     value: &mut f32,
 ) -> u32 {
     given(value, Rust.box_maxima(grid, &[[lx, ly, lz, hx, hy, hz]])[0])
+}
+
+#[allow(clippy::too_many_arguments)]
+pub fn box_maximum_counted(
+    grid: Tables,
+    lx: i32,
+    ly: i32,
+    lz: i32,
+    hx: i32,
+    hy: i32,
+    hz: i32,
+    value: &mut f32,
+    counts: &mut [u64],
+) -> u32 {
+    *value = 0.0;
+    counts.fill(0);
+    if counts.len() != 5 {
+        return 18;
+    }
+    let number = box_maximum(grid, lx, ly, lz, hx, hy, hz, value);
+    if number == 0 {
+        let links = walks::Links {
+            blocks: grid.blocks,
+            root: grid.root_links,
+            upper: grid.upper_links,
+            lower: grid.lower_links,
+        };
+        let [roots, upper, lower, leaf] = walks::counts(links, [lx, ly, lz], [hx, hy, hz]);
+        let words = [roots as u64, upper as u64, lower as u64, (leaf >> 64) as u64, leaf as u64];
+        counts.copy_from_slice(&words);
+    }
+    number
 }
 
 pub fn box_maxima(grid: Tables, boxes: &[i32], maxima: &mut [f32], greatest: &mut f32) -> u32 {
