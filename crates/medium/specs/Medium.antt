@@ -1,7 +1,7 @@
--- The medium record: world box, index box, inverse map, translation and numbers of cells, and its checks (4, 14, 13; 23 is `cells`' own).
+-- The medium record: world box, index box, inverse map, translation, numbers of cells and temperature, and its checks (4, 14, 13; 23 is `cells`' own).
 use Prim.Native.Nat.{ℕ, _+_}
 use mathlib.Core.List.{List}
-use mathlib.Core.Bool.{Bool, _&&_}
+use mathlib.Core.Bool.{Bool, false, _&&_}
 use lib.IntN.{ℤ}
 use lib.Signed.{leZ}
 use lib.ListN.{getD}
@@ -17,6 +17,15 @@ pub record Point : Type 0 where
   pub y : Float
   pub z : Float
 
+-- whether a temperature grid stands beside the density grid, and how its values are read: (value - offset) * scale
+pub record Temperature : Type 0 where
+  pub present : Bool
+  pub offset : Float
+  pub scale : Float
+
+abbrev pub noTemperature : Temperature
+noTemperature = record { present = false; offset = +0; scale = +0 }
+
 -- `low` and `high` are the corners of the world box; `map` has nine places, row after row; `cells` says how the world box is cut
 pub record Medium : Type 0 where
   pub low : Point
@@ -26,8 +35,9 @@ pub record Medium : Type 0 where
   pub map : List Float
   pub translation : Point
   pub cells : Cells
+  pub temperature : Temperature
 
--- a medium from its parts: media are made by this, so that a further field is added in one place
+-- a medium from its parts, without a temperature: media are made by this, so that a further field is added in one place
 abbrev pub makeMedium : Point → Point → Coord → Coord → List Float → Point → Cells → Medium
 makeMedium low high indexLow indexHigh map translation cells = record {
   low = low;
@@ -37,6 +47,20 @@ makeMedium low high indexLow indexHigh map translation cells = record {
   map = map;
   translation = translation;
   cells = cells;
+  temperature = noTemperature;
+}
+
+-- the same medium with this temperature
+abbrev pub withTemperature : Temperature → Medium → Medium
+withTemperature t m = record {
+  low = m .low;
+  high = m .high;
+  indexLow = m .indexLow;
+  indexHigh = m .indexHigh;
+  map = m .map;
+  translation = m .translation;
+  cells = m .cells;
+  temperature = t;
 }
 
 -- the three axes

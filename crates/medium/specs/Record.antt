@@ -6,8 +6,9 @@ use lib.ListN.{getD}
 use lib.Ieee.{Float, nan}
 use Rattle.layout.specs.Coordinates.{Coord}
 use Rattle.cells.specs.Cells.{Cells, cells}
-use Rattle.medium.specs.Medium.{Point, Medium, makeMedium}
+use Rattle.medium.specs.Medium.{Point, Temperature, Medium, makeMedium, withTemperature}
 use Rattle.medium.specs.declared.Medium as Code
+use Rattle.medium.specs.declared.Temperature as Heat
 
 abbrev pub pointOf : List Float → Point
 pointOf l = record { x = getD l 0 nan; y = getD l 1 nan; z = getD l 2 nan }
@@ -21,7 +22,11 @@ cellsOf l = cells (getD l 0 0) (getD l 1 0) (getD l 2 0)
 abbrev pub nineOf : List Float → List Float
 nineOf l = getD l 0 nan ∷ getD l 1 nan ∷ getD l 2 nan ∷ getD l 3 nan ∷ getD l 4 nan ∷ getD l 5 nan ∷ getD l 6 nan ∷ getD l 7 nan ∷ getD l 8 nan ∷ []
 
+abbrev pub asTemperature : Heat.Temperature → Temperature
+asTemperature t = record { present = t .present; offset = t .offset; scale = t .scale }
+
 abbrev pub asMedium : Code.Medium → Medium
 asMedium m =
-    makeMedium (pointOf (m .low)) (pointOf (m .high)) (coordOf (m .«index_low»)) (coordOf (m .«index_high»)) (nineOf (m .map))
-    (pointOf (m .translation)) (cellsOf (m .cells))
+    withTemperature (asTemperature (m .temperature))
+    (makeMedium (pointOf (m .low)) (pointOf (m .high)) (coordOf (m .«index_low»)) (coordOf (m .«index_high»)) (nineOf (m .map))
+    (pointOf (m .translation)) (cellsOf (m .cells)))

@@ -1,16 +1,23 @@
 // The medium record: the corners of the world box, the corners of the index box, the inverse map row after row, the
-// translation, and how many cells a build cuts the world box into on each axis. Its checks are the decode's and the build's:
-// each answers its number, or 0 where the record passes.
+// translation, how many cells a build cuts the world box into on each axis, and whether a temperature grid stands beside the
+// density grid. Its checks are the decode's and the build's: each answers its number, or 0 where the record passes.
 ghost use mathlib.Core.Path.{_≡_};
 ghost use mathlib.Core.Bool.{_&&_};
 ghost use lib.Signed.{leZ};
 ghost use lib.Ieee.{binary32, sub, lt};
 ghost use lib.Ieee.Scale.{finite};
 ghost use Rattle.refusals.specs.Faults.{unless};
-ghost use Rattle.medium.specs.Medium.{makeMedium, boundsFault, indexFault, mapFault, mediumFault, each, diagonal, zeroes};
-ghost use Rattle.medium.specs.Record.{pointOf, coordOf, nineOf, cellsOf, asMedium};
+ghost use Rattle.medium.specs.Medium.{makeMedium, noTemperature, withTemperature, boundsFault, indexFault, mapFault, mediumFault, each, diagonal, zeroes};
+ghost use Rattle.medium.specs.Record.{pointOf, coordOf, nineOf, cellsOf, asTemperature, asMedium};
 use refusals::both;
 use refusals::first_fault;
+
+// Whether there is a temperature grid, and what a value of it is read by: (value - offset) * scale. Its tables stand beside.
+pub struct Temperature {
+    pub present: bool,
+    pub offset: f32,
+    pub scale: f32,
+}
 
 pub struct Medium {
     pub low: [f32; 3],
@@ -20,9 +27,21 @@ pub struct Medium {
     pub map: [f32; 9],
     pub translation: [f32; 3],
     pub cells: [u32; 3],
+    pub temperature: Temperature,
 }
 
-// Every medium is made here, so that a further field is written in one place.
+// No temperature grid, and 0 for both numbers.
+fn no_temperature() -> Temperature
+    ensures { λ r. ⌜ asTemperature r ≡ noTemperature ⌝ }
+{
+    Temperature {
+        present: false,
+        offset: 0.0,
+        scale: 0.0,
+    }
+}
+
+// Every medium is made here, without a temperature, so that a further field is written in one place.
 pub fn make_medium(
     low: [f32; 3],
     high: [f32; 3],
@@ -44,7 +63,17 @@ pub fn make_medium(
         map: map,
         translation: translation,
         cells: cells,
+        temperature: no_temperature(),
     }
+}
+
+// The same medium with this temperature.
+pub fn with_temperature(m: Medium, temperature: Temperature) -> Medium
+    ensures { λ r. ⌜ asMedium r ≡ withTemperature (asTemperature temperature) (asMedium m) ⌝ }
+{
+    let mut n = m;
+    n.temperature = temperature;
+    n
 }
 
 // One axis of the world box.

@@ -25,10 +25,10 @@ use Rattle.sparse_grid.specs.Lookup.{Found, value, refused, leafAt, lowerEntry,
 use Rattle.medium.specs.Medium.{each}
 use Rattle.nanovdb.specs.Nodes.{entriesOf, maskOf, tableOf, Places}
 use Rattle.nanovdb.specs.Tree.{Root, Roots, field}
-use Rattle.nanovdb.specs.Decode.{linkOf, valueOf, blocksOf, tablesOf, Accepted, decodeDensity}
+use Rattle.nanovdb.specs.Decode.{linkOf, valueOf, blocksOf, tablesOf, Accepted, decodeScalar, decodeDensity}
 use Rattle.nanovdb.specs.Held.{Leaf, Node, Good, in-node}
 use Rattle.nanovdb.specs.Agreement.{ReadsAs}
-use Rattle.nanovdb.specs.Passed.{density-passed}
+use Rattle.nanovdb.specs.Passed.{Passed, scalar-passed, density-passed}
 use Rattle.nanovdb.specs.HeldNodes.{UpperIn, LowerIn}
 use Rattle.nanovdb.specs.HeldTiles.{noRoot, tileAt, Tiled, rootOfBytes, tree-holds}
 use Rattle.nanovdb.specs.Keys.{key-same, slot-leaf, slot-lower, slot-upper, u32-lt, bits-kept}
@@ -248,16 +248,15 @@ found b bytes r c small tiled s =
     (subst (λ (n : ℕ). Agrees (tilesWalk count b root (root + 64) c) (rootsFrom g n 0 c)) (sym isCount)
     (subst (λ (z : ℕ). Agrees (tilesWalk count b root z c) (rootsFrom g count 0 c)) first all))
 
-agrees : (b : List ℕ) → Bytes b → (p : Places) (t : Accepted) → decodeDensity b p ≡ ok t → (c : Coord) → Signed32 c → Agrees (walk b c) (lookup (t .grid) c)
-agrees b bytes p t e c small =
-    let q = density-passed b p t e .0 in
+agrees : (b : List ℕ) → Bytes b → (p : Places) (t : Accepted) → Passed b p t → (c : Coord) → Signed32 c → Agrees (walk b c) (lookup (t .grid) c)
+agrees b bytes p t q c small =
     let r = q .roots in
     subst (λ (g : Grid). Agrees (walk b c) (lookup g c)) (sym (q .grid))
     (found b bytes r c small (tree-holds b p r (q .read)) (sound (tablesOf b r) (subst (λ (g : Grid). validate g ≡ 0) (q .grid) (q .valid))))
 
 -- a lookup in an accepted grid finds the walk's bits, at the walk's level
 pub lookups : (b : List ℕ) → Bytes b → (p : Places) (t : Accepted) → decodeDensity b p ≡ ok t → (c : Coord) → Signed32 c → ReadsAs b c (lookup (t .grid) c)
-lookups b bytes p t e c small = go (lookup (t .grid) c) (agrees b bytes p t e c small)
+lookups b bytes p t e c small = go (lookup (t .grid) c) (agrees b bytes p t (density-passed b p t e .0) c small)
   where
     go : (f : Found) → Agrees (walk b c) f → ReadsAs b c f
     go (value v l) a = (
@@ -267,10 +266,19 @@ lookups b bytes p t e c small = go (lookup (t .grid) c) (agrees b bytes p t e c 
     go (refused n) a = a
 
 -- the same as an equation, and that the number is finite
-pub reads : (b : List ℕ) → Bytes b → (p : Places) (t : Accepted) → decodeDensity b p ≡ ok t → (c : Coord) → Signed32 c
+passed-reads : (b : List ℕ) → Bytes b → (p : Places) (t : Accepted) → Passed b p t → (c : Coord) → Signed32 c
     → (lookup (t .grid) c ≡ value (voxel b c) (walk b c .level)) × T (finite (voxel b c))
-reads b bytes p t e c small = go (lookup (t .grid) c) (agrees b bytes p t e c small)
+passed-reads b bytes p t q c small = go (lookup (t .grid) c) (agrees b bytes p t q c small)
   where
     go : (f : Found) → Agrees (walk b c) f → (f ≡ value (voxel b c) (walk b c .level)) × T (finite (voxel b c))
     go (value v l) a = ((λ i. value (a .number i) (a .level i)), subst (λ (z : Float). T (finite z)) (a .number) (a .whole))
     go (refused n) a = absurd a
+
+pub reads : (b : List ℕ) → Bytes b → (p : Places) (t : Accepted) → decodeDensity b p ≡ ok t → (c : Coord) → Signed32 c
+    → (lookup (t .grid) c ≡ value (voxel b c) (walk b c .level)) × T (finite (voxel b c))
+reads b bytes p t e = passed-reads b bytes p t (density-passed b p t e .0)
+
+-- and of a scalar grid
+pub scalar-reads : (b : List ℕ) → Bytes b → (p : Places) (t : Accepted) → decodeScalar b p ≡ ok t → (c : Coord) → Signed32 c
+    → (lookup (t .grid) c ≡ value (voxel b c) (walk b c .level)) × T (finite (voxel b c))
+scalar-reads b bytes p t e = passed-reads b bytes p t (scalar-passed b p t e)

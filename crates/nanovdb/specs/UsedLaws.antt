@@ -7,7 +7,7 @@ use native.Mathlib.Omega.{arith}
 use lib.Dec.{T, eqb, ltb, eqb→eq}
 use lib.IntN.{pos}
 use lib.ListN.{length, take, replicate, length-append}
-use Rattle.refusals.specs.Results.{ok}
+use Rattle.refusals.specs.Results.{Result, ok}
 use Rattle.refusals.specs.FaultLaws.{unless-zero, passing-ok}
 use Rattle.refusals.specs.TestLaws.{and-l, and-r}
 use Rattle.float.specs.Zero.{+0}
@@ -16,9 +16,10 @@ use Rattle.lent.specs.PaddedLaws.{padded-take}
 use Rattle.sparse_grid.specs.Tables.{Grid, gridOf}
 use Rattle.sparse_grid.specs.Validate.{shapeFault, validate}
 use Rattle.sparse_grid.specs.Sound.{Sound, sound, shaped}
-use Rattle.nanovdb.specs.Decode.{Accepted, decodeDensity}
+use Rattle.nanovdb.specs.Nodes.{Places}
+use Rattle.nanovdb.specs.Decode.{Accepted, decodeScalar, decodeDensity}
 use Rattle.nanovdb.specs.Lent.{Lent, lentFault, placesOf, decodeInto, answerOf, filled, Used, usedOf}
-use Rattle.nanovdb.specs.Passed.{density-passed}
+use Rattle.nanovdb.specs.Passed.{scalar-passed, density-passed}
 
 -- the first n places of a table that holds n things are those, and there are n
 part : {A : Type 0} (places : ℕ) (z : A) (l : List A) (n : ℕ) → length l ≡ n → take n (padded places z l) ≡ l
@@ -92,9 +93,16 @@ module _ (l : Lent) (t : Accepted) (valid : validate (t .grid) ≡ 0) where
   }
 
 -- a decode into lent tables that accepts is one into their places
-pub accepts : (b : List ℕ) (l : Lent) (t : Accepted) → decodeInto decodeDensity b l ≡ ok t → decodeDensity b (placesOf l) ≡ ok t
+accepts-by : (decode : List ℕ → Places → Result Accepted) (b : List ℕ) (l : Lent) (t : Accepted) → decodeInto decode b l ≡ ok t
+    → decode b (placesOf l) ≡ ok t
 unfolding decodeInto
-accepts b l t e = passing-ok (lentFault l) (decodeDensity b (placesOf l)) e .1
+accepts-by decode b l t e = passing-ok (lentFault l) (decode b (placesOf l)) e .1
+
+pub accepts : (b : List ℕ) (l : Lent) (t : Accepted) → decodeInto decodeDensity b l ≡ ok t → decodeDensity b (placesOf l) ≡ ok t
+accepts = accepts-by decodeDensity
+
+pub scalar-accepts : (b : List ℕ) (l : Lent) (t : Accepted) → decodeInto decodeScalar b l ≡ ok t → decodeScalar b (placesOf l) ≡ ok t
+scalar-accepts = accepts-by decodeScalar
 
 module _ (b : List ℕ) (l : Lent) (t : Accepted) (e : decodeInto decodeDensity b l ≡ ok t) where
   valid-grid : validate (t .grid) ≡ 0
@@ -107,3 +115,14 @@ module _ (b : List ℕ) (l : Lent) (t : Accepted) (e : decodeInto decodeDensity 
   -- and they lie within the tables
   pub used-room : Used (answerOf (ok t)) (filled l (t .grid))
   used-room = used-fits l t valid-grid
+
+-- the same of a scalar grid
+module _ (b : List ℕ) (l : Lent) (t : Accepted) (e : decodeInto decodeScalar b l ≡ ok t) where
+  valid-scalar : validate (t .grid) ≡ 0
+  valid-scalar = scalar-passed b (placesOf l) t (scalar-accepts b l t e) .valid
+
+  pub scalar-parts : usedOf (answerOf (ok t)) (filled l (t .grid)) ≡ t .grid
+  scalar-parts = used-is l t valid-scalar
+
+  pub scalar-room : Used (answerOf (ok t)) (filled l (t .grid))
+  scalar-room = used-fits l t valid-scalar

@@ -51,6 +51,8 @@ pub const CELLS: u32 = 23;
 
 pub const WINDOW: u32 = 26;
 
+pub const TEMPERATURE: u32 = 27;
+
 pub const LAYER: u32 = 28;
 
 // The first of two faults, of which 0 is none.

@@ -43,11 +43,11 @@ sized a e =
 
 -- ---- from the decode's answer
 
-number-is : (r : Result Accepted) → answerOf r .number ≡ numberOf r
+pub number-is : (r : Result Accepted) → answerOf r .number ≡ numberOf r
 number-is (ok t) = refl
 number-is (refused n) = refl
 
-counts-of : (n : ℕ) (r : Result Accepted) → n ≡ 4 → countsOf (answerOf r) ≡ countsLeft n r
+pub counts-of : (n : ℕ) (r : Result Accepted) → n ≡ 4 → countsOf (answerOf r) ≡ countsLeft n r
 counts-of n (ok t) e = refl
 counts-of n (refused k) e = ap (λ (x : ℕ). countsLeft x (refused k)) (sym e)
 

@@ -1,5 +1,6 @@
 pub mod Stores
 pub mod Left
+pub mod Heated
 pub mod Taken
 pub mod Windows
 pub mod Rayed

@@ -1,6 +1,7 @@
 -- Definitions that the contracts cite.
 pub mod Flat
 pub mod FlatCounted
+pub mod FlatHeat
 pub mod FlatRay
 pub mod FlatTables
 pub mod Promises

@@ -27,14 +27,22 @@ pub(crate) fn flat_fault(counts: usize, medium: usize, corners: usize, cells: us
     if cells != 3 { refusals::TABLES } else { 0 }
 }
 
+// Roots, upper, lower and leaf nodes used.
+pub(crate) fn put_four(counts: &mut [u64], roots: usize, upper: usize, lower: usize, leaf: usize)
+    requires { ⌜ now counts ≡ replicate 4 0 ⌝ }
+    ensures { λ _. ⌜ now (counts .exit) ≡ (roots ∷ upper ∷ lower ∷ leaf ∷ []) ⌝ }
+{
+    counts[0] = roots as u64;
+    counts[1] = upper as u64;
+    counts[2] = lower as u64;
+    counts[3] = leaf as u64;
+}
+
 pub(crate) fn put_counts(counts: &mut [u64], d: Decoded)
     requires { ⌜ now counts ≡ replicate 4 0 ⌝ }
     ensures { λ _. ⌜ now (counts .exit) ≡ countsOf (answer d) ⌝ }
 {
-    counts[0] = d.roots as u64;
-    counts[1] = d.upper as u64;
-    counts[2] = d.lower as u64;
-    counts[3] = d.leaf as u64;
+    put_four(counts, d.roots, d.upper, d.lower, d.leaf);
 }
 
 // Three numbers from `at` on.

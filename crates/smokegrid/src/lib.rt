@@ -13,7 +13,8 @@ ghost use Rattle.smokegrid.specs.Flat.{Arrays};
 ghost use Rattle.smokegrid.specs.FlatRay.{beam};
 ghost use Rattle.smokegrid.specs.FlatTables.{windowArrays};
 ghost use Rattle.smokegrid.specs.Promises.{Decodes, GetsValue, GetsReading, BoxMaximum, BoxMaxima, WorldToIndex, Builds, GivesPart};
-ghost use Rattle.smokegrid.specs.Promises.{CountsBox, OpensRay, NextPiece, PrintsLayer, OpensWindow, PushesTable};
+ghost use Rattle.smokegrid.specs.Promises.{CountsBox, LoadsTemperature, GetsTemperature};
+ghost use Rattle.smokegrid.specs.Promises.{OpensRay, NextPiece, PrintsLayer, OpensWindow, PushesTable};
 
 mod counted;
 mod flat;
@@ -26,6 +27,7 @@ use flat::flat_fault;
 use flat::medium_from;
 use flat::put_corners;
 use flat::put_counts;
+use flat::put_four;
 use flat::put_medium;
 use flat::put_three;
 use index::world_to_index_f;
@@ -35,6 +37,7 @@ use majorant::box_maxima;
 use majorant::box_maximum;
 use majorant::box_maximum_counted;
 use majorant::build_majorant;
+use medium::Temperature;
 use ray::one_if;
 use ray::put_numbers;
 use ray::put_times;
@@ -53,6 +56,8 @@ use sparse_grid::validate;
 use sparse_grid::validate_density;
 use tables::put_window;
 use tables::window_from;
+use temperature::load_temperature;
+use temperature::temperature_at;
 use window::open;
 use window::push;
 
@@ -334,6 +339,125 @@ pub extern "C" fn smokegrid_get_reading(
         z,
     );
     give_reading(found, value, level)
+}
+
+// Loads a temperature grid into the lent tables: 0, or the number of the refusal. Counts and background are written through their pointers.
+#[no_mangle]
+pub extern "C" fn smokegrid_load_temperature(
+    bytes: &[u8],
+    offset: f32,
+    scale: f32,
+    blocks: &mut [i32],
+    root_links: &mut [u32],
+    root_values: &mut [f32],
+    upper_links: &mut [u32],
+    upper_values: &mut [f32],
+    lower_links: &mut [u32],
+    lower_values: &mut [f32],
+    leaf_values: &mut [f32],
+    work: &mut [u64],
+    counts: &mut [u64],
+    background: &mut f32,
+) -> u32
+    ensures { λ r.
+        let lent = lengths (tables
+        (now (blocks .entry)) (now («root_links» .entry)) (now («root_values» .entry)) (now («upper_links» .entry))
+        (now («upper_values» .entry)) (now («lower_links» .entry)) (now («lower_values» .entry)) (now («leaf_values» .entry))
+        (now (work .entry))) in
+        let left = tables
+        (now (blocks .exit)) (now («root_links» .exit)) (now («root_values» .exit)) (now («upper_links» .exit))
+        (now («upper_values» .exit)) (now («lower_links» .exit)) (now («lower_values» .exit)) (now («leaf_values» .exit))
+        (now (work .exit)) in
+        ⌜ LoadsTemperature (now (bytes .entry)) offset scale lent (length (now (counts .entry))) r (record {
+          tables = left;
+          counts = now (counts .exit);
+          background = now (background .exit);
+        }) ⌝ }
+{
+    lent::zero_u64(counts);
+    if counts.len() != 4 {
+        *background = 0.0f32;
+        decode::clear(
+            blocks,
+            root_links,
+            root_values,
+            upper_links,
+            upper_values,
+            lower_links,
+            lower_values,
+            leaf_values,
+            work,
+        );
+        return refusals::TABLES;
+    }
+    let a = load_temperature(
+        bytes,
+        offset,
+        scale,
+        blocks,
+        root_links,
+        root_values,
+        upper_links,
+        upper_values,
+        lower_links,
+        lower_values,
+        leaf_values,
+        work,
+    );
+    *background = a.background;
+    put_four(counts, a.roots, a.upper, a.lower, a.leaf);
+    a.number
+}
+
+// The bits of the temperature at a coordinate, through `value_bits`, and 0, also where `present` is 0 and there is no grid; or the number of the
+// refusal, and 0 for the bits.
+#[no_mangle]
+pub extern "C" fn smokegrid_get_temperature(
+    present: u32,
+    background: f32,
+    blocks: &[i32],
+    root_links: &[u32],
+    root_values: &[f32],
+    upper_links: &[u32],
+    upper_values: &[f32],
+    lower_links: &[u32],
+    lower_values: &[f32],
+    leaf_values: &[f32],
+    offset: f32,
+    scale: f32,
+    x: i32,
+    y: i32,
+    z: i32,
+    value_bits: &mut u32,
+) -> u32
+    ensures { λ r.
+        let g = gridOf background
+        (now (blocks .entry)) (now («root_links» .entry)) (now («root_values» .entry)) (now («upper_links» .entry))
+        (now («upper_values» .entry)) (now («lower_links» .entry)) (now («lower_values» .entry)) (now («leaf_values» .entry)) in
+        ⌜ GetsTemperature present g offset scale (at x y z) r (now («value_bits» .exit)) ⌝ }
+{
+    let t = Temperature {
+        present: present != 0,
+        offset: offset,
+        scale: scale,
+    };
+    let h = temperature_at(
+        t,
+        background,
+        blocks,
+        root_links,
+        root_values,
+        upper_links,
+        upper_values,
+        lower_links,
+        lower_values,
+        leaf_values,
+        x,
+        y,
+        z,
+    );
+    *value_bits = h.bits;
+    h.number
 }
 
 // The greatest of +0.0 and the values of a box, ends included, through `value`, and 0; or the number of the refusal, and +0.0. The grid is validated first.

@@ -2,6 +2,7 @@
 pub mod ThroughC
 pub mod FileThroughC
 pub mod RaysThroughC
+pub mod TemperatureThroughC
 -- Laws.
 pub mod Passed
 pub mod Loads
@@ -9,5 +10,6 @@ pub mod Back
 pub mod Theorem
 pub mod FileTheorem
 pub mod RaysTheorem
+pub mod TemperatureTheorem
 -- Worked examples.
 pub mod Examples

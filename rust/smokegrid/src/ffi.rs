@@ -74,6 +74,43 @@ pub fn get_reading(tables: &Tables, [x, y, z]: [i32; 3], value: &mut f32, level:
     interface::get_reading(grid(tables), x, y, z, value, level)
 }
 
+pub fn load_temperature(
+    bytes: &[u8],
+    offset: f32,
+    scale: f32,
+    lent: &mut Tables,
+    work: &mut [u64],
+    counts: &mut [u64; 4],
+) -> u32 {
+    interface::load_temperature(
+        bytes,
+        offset,
+        scale,
+        &mut lent.blocks,
+        &mut lent.root_links,
+        &mut lent.root_values,
+        &mut lent.upper_links,
+        &mut lent.upper_values,
+        &mut lent.lower_links,
+        &mut lent.lower_values,
+        &mut lent.leaf_values,
+        work,
+        counts,
+        &mut lent.background,
+    )
+}
+
+pub fn get_temperature(
+    present: u32,
+    tables: &Tables,
+    offset: f32,
+    scale: f32,
+    [x, y, z]: [i32; 3],
+    bits: &mut u32,
+) -> u32 {
+    interface::get_temperature(present, grid(tables), offset, scale, x, y, z, bits)
+}
+
 pub fn box_maximum(tables: &Tables, low: [i32; 3], high: [i32; 3], value: &mut f32) -> u32 {
     let ([lx, ly, lz], [hx, hy, hz]) = (low, high);
     interface::box_maximum(grid(tables), lx, ly, lz, hx, hy, hz, value)

@@ -8,6 +8,7 @@ use crate::majorant::{table_length, Majorant};
 use crate::ray::{Beam, Pieces};
 use crate::refusal::Refusal;
 use crate::tables::{Places, Tables};
+use crate::temperature::{self, Temperature};
 
 /// A grid that the library accepted. It owns its tables and keeps nothing of the bytes.
 #[derive(Clone, Debug)]
@@ -17,6 +18,7 @@ pub struct Grid {
     medium: [f32; 18],
     corners: [i32; 6],
     cells: [u32; 3],
+    temperature: Option<Temperature>,
 }
 
 /// How many roots and nodes a grid has.
@@ -62,24 +64,29 @@ impl Grid {
     /// tables for the node counts that they state, and where those are wrong, for the most nodes
     /// that they can hold.
     pub fn decode(bytes: &[u8]) -> Result<Grid, Refusal> {
-        let stated = Places::stated(bytes);
-        if stated.table_bytes() > LENT_AT_ONCE {
-            // With no table but two spans, only a grid with tiles, whose header and root pass, is 9.
-            match decode_into(bytes, Places::default()) {
-                Err(refusal) if refusal.number() == NO_PLACE => (),
-                answer => return answer,
-            }
-        }
-        match decode_into(bytes, stated) {
-            Err(refusal) if refusal.number() == NO_PLACE => decode_into(bytes, Places::most(bytes)),
-            answer => answer,
-        }
+        lend(bytes, |places| decode_into(bytes, places))
     }
 
     /// Decodes grid n of a whole .nvdb file, counted from 0 through all its segments: the file's refusal (19, 20, 21), or what
     /// `decode` answers for the bytes of that grid alone.
     pub fn from_file(file: &[u8], n: u64) -> Result<Grid, Refusal> {
         Grid::decode(grid_part(file, n)?)
+    }
+
+    /// With a second grid for temperature beside it, one raw grid of any box and map: a reading is (value - offset) * scale. The density
+    /// grid, its record and every figure stay as they are. A refusal of the second grid drops this one too.
+    pub fn with_temperature(
+        mut self,
+        bytes: &[u8],
+        offset: f32,
+        scale: f32,
+    ) -> Result<Grid, Refusal> {
+        self.temperature = Some(Temperature::load(bytes, offset, scale)?);
+        Ok(self)
+    }
+
+    pub fn has_temperature(&self) -> bool {
+        self.temperature.is_some()
     }
 
     pub fn counts(&self) -> Counts {
@@ -130,6 +137,14 @@ impl Grid {
         let mut level = 0;
         let value = value(|place| ffi::get_reading(&self.tables, coordinate, place, &mut level))?;
         Ok(Reading { value, level: Level::of(level) })
+    }
+
+    /// The temperature at a voxel of the temperature grid, and 0 where there is none.
+    pub fn temperature(&self, coordinate: [i32; 3]) -> Result<f32, Refusal> {
+        match &self.temperature {
+            Some(temperature) => temperature.at(coordinate),
+            None => temperature::none(&self.tables, coordinate),
+        }
     }
 
     /// The greatest of zero and the densities from `low` to `high`, ends included.
@@ -184,6 +199,25 @@ impl Grid {
     }
 }
 
+/// Lends places for what the bytes state, and where that is wrong, for the most that they can hold.
+pub(crate) fn lend<T>(
+    bytes: &[u8],
+    load: impl Fn(Places) -> Result<T, Refusal>,
+) -> Result<T, Refusal> {
+    let stated = Places::stated(bytes);
+    if stated.table_bytes() > LENT_AT_ONCE {
+        // With no table but two spans, only a grid with tiles, whose header and root pass, is 9.
+        match load(Places::default()) {
+            Err(refusal) if refusal.number() == NO_PLACE => (),
+            answer => return answer,
+        }
+    }
+    match load(stated) {
+        Err(refusal) if refusal.number() == NO_PLACE => load(Places::most(bytes)),
+        answer => answer,
+    }
+}
+
 #[inline]
 fn value(call: impl FnOnce(&mut f32) -> u32) -> Result<f32, Refusal> {
     let mut value = 0.0;
@@ -200,5 +234,5 @@ fn decode_into(bytes: &[u8], places: Places) -> Result<Grid, Refusal> {
     let used = Places { roots, nodes: [upper, lower, leaf] };
     tables.truncate(used);
     let Record { medium, corners, cells, .. } = record;
-    Ok(Grid { tables, used, medium, corners, cells })
+    Ok(Grid { tables, used, medium, corners, cells, temperature: None })
 }

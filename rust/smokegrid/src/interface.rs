@@ -247,6 +247,59 @@ mod c {
             majorants: *mut f32,
             majorants_len: usize,
         ) -> u32;
+        pub fn smokegrid_load_temperature(
+            bytes: *const u8,
+            bytes_len: usize,
+            offset: f32,
+            scale: f32,
+            blocks: *mut i32,
+            blocks_len: usize,
+            root_links: *mut u32,
+            root_links_len: usize,
+            root_values: *mut f32,
+            root_values_len: usize,
+            upper_links: *mut u32,
+            upper_links_len: usize,
+            upper_values: *mut f32,
+            upper_values_len: usize,
+            lower_links: *mut u32,
+            lower_links_len: usize,
+            lower_values: *mut f32,
+            lower_values_len: usize,
+            leaf_values: *mut f32,
+            leaf_values_len: usize,
+            work: *mut u64,
+            work_len: usize,
+            counts: *mut u64,
+            counts_len: usize,
+            background: *mut f32,
+        ) -> u32;
+        pub fn smokegrid_get_temperature(
+            present: u32,
+            background: f32,
+            blocks: *const i32,
+            blocks_len: usize,
+            root_links: *const u32,
+            root_links_len: usize,
+            root_values: *const f32,
+            root_values_len: usize,
+            upper_links: *const u32,
+            upper_links_len: usize,
+            upper_values: *const f32,
+            upper_values_len: usize,
+            lower_links: *const u32,
+            lower_links_len: usize,
+            lower_values: *const f32,
+            lower_values_len: usize,
+            leaf_values: *const f32,
+            leaf_values_len: usize,
+            offset: f32,
+            scale: f32,
+            x: i32,
+            y: i32,
+            z: i32,
+            value_bits: *mut u32,
+        ) -> u32;
         pub fn smokegrid_grid_part(
             file: *const u8,
             file_len: usize,
@@ -683,6 +736,99 @@ pub fn build_majorant(
             cells.len(),
             majorants.as_mut_ptr(),
             majorants.len(),
+        )
+    }
+}
+
+#[inline]
+#[allow(clippy::too_many_arguments)]
+pub fn load_temperature(
+    bytes: &[u8],
+    offset: f32,
+    scale: f32,
+    blocks: &mut [i32],
+    root_links: &mut [u32],
+    root_values: &mut [f32],
+    upper_links: &mut [u32],
+    upper_values: &mut [f32],
+    lower_links: &mut [u32],
+    lower_values: &mut [f32],
+    leaf_values: &mut [f32],
+    work: &mut [u64],
+    counts: &mut [u64],
+    background: &mut f32,
+) -> u32 {
+    // SAFETY: each pointer is valid for its length, and what is written is borrowed mutably, so it overlaps nothing.
+    unsafe {
+        c::smokegrid_load_temperature(
+            bytes.as_ptr(),
+            bytes.len(),
+            offset,
+            scale,
+            blocks.as_mut_ptr(),
+            blocks.len(),
+            root_links.as_mut_ptr(),
+            root_links.len(),
+            root_values.as_mut_ptr(),
+            root_values.len(),
+            upper_links.as_mut_ptr(),
+            upper_links.len(),
+            upper_values.as_mut_ptr(),
+            upper_values.len(),
+            lower_links.as_mut_ptr(),
+            lower_links.len(),
+            lower_values.as_mut_ptr(),
+            lower_values.len(),
+            leaf_values.as_mut_ptr(),
+            leaf_values.len(),
+            work.as_mut_ptr(),
+            work.len(),
+            counts.as_mut_ptr(),
+            counts.len(),
+            background,
+        )
+    }
+}
+
+#[inline]
+#[allow(clippy::too_many_arguments)]
+pub fn get_temperature(
+    present: u32,
+    grid: GridTables,
+    offset: f32,
+    scale: f32,
+    x: i32,
+    y: i32,
+    z: i32,
+    value_bits: &mut u32,
+) -> u32 {
+    // SAFETY: each pointer is valid for its length, and what is written is borrowed mutably, so it overlaps nothing.
+    unsafe {
+        c::smokegrid_get_temperature(
+            present,
+            grid.background,
+            grid.blocks.as_ptr(),
+            grid.blocks.len(),
+            grid.root_links.as_ptr(),
+            grid.root_links.len(),
+            grid.root_values.as_ptr(),
+            grid.root_values.len(),
+            grid.upper_links.as_ptr(),
+            grid.upper_links.len(),
+            grid.upper_values.as_ptr(),
+            grid.upper_values.len(),
+            grid.lower_links.as_ptr(),
+            grid.lower_links.len(),
+            grid.lower_values.as_ptr(),
+            grid.lower_values.len(),
+            grid.leaf_values.as_ptr(),
+            grid.leaf_values.len(),
+            offset,
+            scale,
+            x,
+            y,
+            z,
+            value_bits,
         )
     }
 }

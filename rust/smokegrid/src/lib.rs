@@ -10,6 +10,8 @@
 //! # Ok::<(), Box<dyn std::error::Error>>(())
 //! ```
 //!
+//! A second grid for temperature stands beside it by `Grid::with_temperature`; `Grid::temperature` reads it.
+//!
 //! Of a whole .nvdb file `Contents::of` lists the grids, and `Grid::from_file` loads one of them.
 
 mod contents;
@@ -23,6 +25,7 @@ mod majorant;
 mod ray;
 mod refusal;
 mod tables;
+mod temperature;
 mod window;
 
 pub use contents::{grid_name, grid_part, Contents, Listed};

@@ -163,6 +163,13 @@ const WORDS: &[Words] = &[
         "Ask for a window of 1 to 16 tables, and build all of them with the same cells.",
     ),
     words(
+        27,
+        "TEMPERATURE",
+        "an offset or a scale of the temperature that is not finite",
+        "Name an offset and a scale that are plain numbers: a reading is the value less the offset, times the \
+         scale.",
+    ),
+    words(
         28,
         "LAYER",
         "a layer past the last",

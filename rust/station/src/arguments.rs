@@ -8,13 +8,17 @@ use std::fmt::Display;
 use std::path::PathBuf;
 use std::str::FromStr;
 
-pub const USAGE: &str = "usage: station FILE [--grid GRID | --list] [--cells X Y Z] [QUESTION...]
+pub const USAGE: &str = "usage: station FILE [--grid GRID | --list] [--cells X Y Z]
+                    [--temperature FILE OFFSET SCALE] [QUESTION...]
        station --window W FILE... [--grid GRID] [--cells X Y Z] [QUESTION...]
 Decodes one NanoVDB density grid (ABI 32), builds its cells, prints what it holds. The file is an .nvdb
 file, not compressed, or one raw grid.
   --grid GRID                which grid of an .nvdb file: a number from 0, or a name
   --list                     the grids of an .nvdb file, and no more
   --cells X Y Z              so many cells on each axis, 1 to 128; 64 x 64 x 64 where none are named
+  --temperature FILE OFFSET SCALE
+                             a second grid, whose readings are (value - OFFSET) * SCALE; --at then
+                             shows the temperature at the same voxel of that grid beside the density
   --window W                 files in a row, and for each cell the greatest figure over the last W, 1
                              to 16, that were built; a file that is refused is named and passed over.
                              The questions of cells are then of that.
@@ -49,7 +53,16 @@ pub struct Arguments {
     pub grid: Option<Choice>,
     pub list: bool,
     pub cells: [u32; 3],
+    pub temperature: Option<Heat>,
     pub questions: Vec<Question>,
+}
+
+/// A temperature grid, and how it is read.
+#[derive(Debug, PartialEq)]
+pub struct Heat {
+    pub file: PathBuf,
+    pub offset: f32,
+    pub scale: f32,
 }
 
 #[derive(Debug, PartialEq)]
@@ -69,6 +82,7 @@ pub fn parse(words: impl Iterator<Item = OsString>) -> Result<Request, String> {
     let mut window = None;
     let (mut grid, mut list) = (None, false);
     let mut cells = [64; 3];
+    let mut temperature = None;
     let mut questions = Vec::new();
     while let Some(word) = words.next() {
         match word.to_str() {
@@ -92,6 +106,7 @@ pub fn parse(words: impl Iterator<Item = OsString>) -> Result<Request, String> {
             Some("--cell") => questions.push(Question::Cell(three("--cell", &mut words)?)),
             Some("--ray") => questions.push(Question::Ray(ray(&mut words)?)),
             Some("--cells") => cells = three("--cells", &mut words)?,
+            Some("--temperature") => temperature = Some(heat(&mut words)?),
             Some("--layer") => questions.push(Question::Layer(one("--layer", &mut words)?)),
             Some("--window") => window = Some(one("--window", &mut words)?),
             Some(option) if option.starts_with('-') => {
@@ -105,19 +120,23 @@ pub fn parse(words: impl Iterator<Item = OsString>) -> Result<Request, String> {
         ([_, second, ..], None) => return Err(format!("{} is a second file", second.display())),
         _ => {}
     }
-    if list && (grid.is_some() || window.is_some() || !questions.is_empty()) {
+    let alone = grid.is_none() && window.is_none() && temperature.is_none();
+    if list && !(alone && questions.is_empty()) {
         return Err("--list stands by itself".to_string());
     }
     let of_cells = |question: &Question| matches!(question, Question::Cell(_) | Question::Layer(_));
     if window.is_some() && !questions.iter().all(of_cells) {
         return Err("--window answers --cell and --layer alone".to_string());
     }
+    if window.is_some() && temperature.is_some() {
+        return Err("--window takes no --temperature".to_string());
+    }
     for question in &questions {
         if let Question::Cell(cell) = question {
             check_cell(cell, &cells)?;
         }
     }
-    Ok(Request::Show(Arguments { files, window, grid, list, cells, questions }))
+    Ok(Request::Show(Arguments { files, window, grid, list, cells, temperature, questions }))
 }
 
 fn one<T: FromStr>(option: &str, words: &mut impl Iterator<Item = OsString>) -> Result<T, String>
@@ -144,6 +163,12 @@ fn ray(words: &mut impl Iterator<Item = OsString>) -> Result<Beam, String> {
     Ok(Beam { origin, direction, t_min: one("--ray", words)?, t_max: one("--ray", words)? })
 }
 
+/// Any number that Rust reads as a float: the library, not this, refuses one that is not finite.
+fn heat(words: &mut impl Iterator<Item = OsString>) -> Result<Heat, String> {
+    let file = PathBuf::from(words.next().ok_or("--temperature lacks a file")?);
+    Ok(Heat { file, offset: one("--temperature", words)?, scale: one("--temperature", words)? })
+}
+
 fn check_cell(cell: &[usize; 3], cells: &[u32; 3]) -> Result<(), String> {
     match cell.iter().zip(cells).find(|(number, all)| **number >= **all as usize) {
         Some((number, all)) => Err(format!("--cell {number}: there are {all} cells, from 0 on")),
@@ -162,7 +187,15 @@ mod tests {
     /// The files with nothing else named.
     fn of(files: &[&str], questions: Vec<Question>) -> Arguments {
         let files = files.iter().map(PathBuf::from).collect();
-        Arguments { files, window: None, grid: None, list: false, cells: [64; 3], questions }
+        Arguments {
+            files,
+            window: None,
+            grid: None,
+            list: false,
+            cells: [64; 3],
+            temperature: None,
+            questions,
+        }
     }
 
     #[test]
@@ -199,6 +232,13 @@ mod tests {
     }
 
     #[test]
+    fn a_temperature_has_a_file_an_offset_and_a_scale() {
+        let heat = Heat { file: PathBuf::from("b"), offset: -273.15, scale: f32::INFINITY };
+        let wanted = Arguments { temperature: Some(heat), ..of(&["a"], vec![]) };
+        assert_eq!(parsed("a --temperature b -273.15 inf"), Ok(Request::Show(wanted)));
+    }
+
+    #[test]
     fn a_grid_is_chosen_by_its_number_or_its_name() {
         let chosen = |words: &str| match parsed(words) {
             Ok(Request::Show(arguments)) => arguments.grid,
@@ -232,6 +272,11 @@ mod tests {
             ("a --cell 1 2 -1", "--cell -1: invalid digit found in string"),
             ("a --layer", "--layer lacks a number"),
             ("a --layer -1", "--layer -1: invalid digit found in string"),
+            ("a --temperature", "--temperature lacks a file"),
+            ("a --temperature b 1", "--temperature lacks a number"),
+            ("a --temperature b 1 x", "--temperature x: invalid float literal"),
+            ("a --list --temperature b 1 2", "--list stands by itself"),
+            ("--window 2 a --temperature b 1 2", "--window takes no --temperature"),
             ("a b --window", "--window lacks a number"),
             ("--window 2", "no file is named"),
             ("--window 2 a --at 1 2 3", "--window answers --cell and --layer alone"),

@@ -8,11 +8,11 @@ mod source;
 mod steps;
 mod window;
 
-use arguments::{Arguments, Question, Request, USAGE};
+use arguments::{Arguments, Heat, Question, Request, USAGE};
 use report::{counted, number, triple};
 use smokegrid::{Contents, Grid, Majorant, Refusal};
 use std::io::{self, Write};
-use std::path::Path;
+use std::path::{Path, PathBuf};
 use std::process::ExitCode;
 use steps::Steps;
 
@@ -25,6 +25,8 @@ enum Stop {
     Unreadable(io::Error),
     /// No one grid of the file is chosen.
     Choice(String),
+    /// The temperature's file has stopped it.
+    Beside(PathBuf, Box<Stop>),
     /// Standard output was closed.
     Unwritten,
 }
@@ -73,20 +75,26 @@ fn told(file: &Path, stop: &Stop) -> ExitCode {
             eprintln!("station: {name}: {fault}");
             ExitCode::from(BAD_USAGE)
         }
+        Stop::Beside(file, stop) => told(file, stop),
         Stop::Unwritten => ExitCode::from(BAD_USAGE),
     }
 }
 
 /// What is known is printed before the next step begins, so that a refusal hides nothing.
 fn show(file: &Path, arguments: &Arguments) -> Result<(), Stop> {
-    let mut steps = Steps::new(3);
+    let mut steps = Steps::new(3 + usize::from(arguments.temperature.is_some()));
     let bytes = read(file, &mut steps)?;
     if arguments.list {
         return say(&report::contents(&Contents::of(&bytes)?));
     }
-    let grid = decode(&bytes, arguments, &mut steps)?;
+    let mut grid = decode(&bytes, arguments, &mut steps)?;
     drop(bytes);
     say(&report::grid(&grid))?;
+    if let Some(heat) = &arguments.temperature {
+        let heated = with_temperature(grid, heat, &mut steps);
+        grid = heated.map_err(|stop| Stop::Beside(heat.file.clone(), Box::new(stop)))?;
+        say(&report::temperature(&heat.file, heat.offset, heat.scale))?;
+    }
     let built = build(&grid, arguments, &mut steps);
     if let Ok(cells) = &built {
         say(&report::cells(cells))?;
@@ -116,6 +124,13 @@ fn decode(bytes: &[u8], arguments: &Arguments, steps: &mut Steps) -> Result<Grid
     Ok(grid)
 }
 
+fn with_temperature(grid: Grid, heat: &Heat, steps: &mut Steps) -> Result<Grid, Stop> {
+    let doing = "loading the temperature";
+    steps.run("heat", doing, || {
+        source::heat(grid, &source::read(&heat.file)?, heat.offset, heat.scale)
+    })
+}
+
 fn build(grid: &Grid, arguments: &Arguments, steps: &mut Steps) -> Result<Majorant, Refusal> {
     let [x, y, z] = arguments.cells;
     let doing = format!("building {x} x {y} x {z} cells");
@@ -132,7 +147,12 @@ fn answers(arguments: &Arguments, grid: &Grid, cells: Option<&Majorant>) -> Resu
     for question in &arguments.questions {
         lines += &match question {
             Question::At(at) => {
-                report::line(&format!("at {}", triple(at)), &report::reading(grid.reading(*at)?))
+                let reading = grid.reading(*at)?;
+                let text = match &arguments.temperature {
+                    Some(_) => report::heated(reading, grid.temperature(*at)?),
+                    None => report::reading(reading),
+                };
+                report::line(&format!("at {}", triple(at)), &text)
             }
             Question::Box(low, high) => {
                 report::load(low, high, &grid.box_maximum_counted(*low, *high)?)

@@ -57,6 +57,12 @@ pub fn grid(grid: &Grid) -> String {
         + &line("background", &number(grid.background()))
 }
 
+/// Whose values are read as temperatures, and how.
+pub fn temperature(path: &Path, offset: f32, scale: f32) -> String {
+    let read = format!("(value - {}) * {}", number(offset), number(scale));
+    line("temperature", &format!("{}, {read}", path.display()))
+}
+
 pub fn greatest(cells: &Majorant) -> String {
     let (greatest, cell) = cells.greatest();
     line("greatest figure", &format!("{} in cell {}", number(greatest), triple(&cell)))
@@ -106,6 +112,11 @@ pub fn zones(boxes: &[Zone], maxima: &Maxima) -> String {
 /// A density with the level that it was read at, in words.
 pub fn reading(reading: Reading) -> String {
     format!("{} ({})", number(reading.value), reading.level)
+}
+
+/// The same, and the temperature beside it.
+pub fn heated(of: Reading, temperature: f32) -> String {
+    format!("{}, temperature {}", reading(of), number(temperature))
 }
 
 pub fn triple<T: Display>([x, y, z]: &[T; 3]) -> String {

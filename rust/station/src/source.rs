@@ -87,6 +87,15 @@ pub fn load(bytes: &[u8], picked: Option<&Listed>) -> Result<Grid, Refusal> {
     }
 }
 
+/// The grid with a temperature grid beside it: the only one of a file, or the bytes as a raw grid.
+pub fn heat(grid: Grid, bytes: &[u8], offset: f32, scale: f32) -> Result<Grid, Stop> {
+    let part = match pick(bytes, None)? {
+        Some(picked) => grid_part(bytes, picked.index as u64)?,
+        None => bytes,
+    };
+    Ok(grid.with_temperature(part, offset, scale)?)
+}
+
 fn begins_as_file(bytes: &[u8]) -> bool {
     match bytes {
         [b'N', b'a', b'n', b'o', b'V', b'D', b'B', b'0' | b'2', a, b, c, d, _, _, _, _, ..] => {

@@ -360,6 +360,53 @@ fn a_file_that_does_not_pass_is_refused_by_its_own_number() {
 }
 
 /// The sheet as it is: a heading, and 64 lines of 64 characters, the highest y first.
+/// The sample as its own temperature grid, with values below zero and another world box.
+#[test]
+fn a_temperature_stands_beside_the_density() {
+    let heat = edited("heat.grid", |bytes| {
+        let root = 672 + u64::from_le_bytes(bytes[696..704].try_into().unwrap()) as usize;
+        bytes[root + 28..root + 32].copy_from_slice(&(-5.0f32).to_le_bytes());
+        bytes[560..568].copy_from_slice(&(-100.0f64).to_le_bytes());
+    });
+    let heat = heat.to_str().unwrap();
+    let at = ["--at", "9000", "0", "0", "--at", "9", "7", "0"];
+    let words = |more: &[&str]| station(&[&[SAMPLE], more, &at[..]].concat());
+    let output = words(&["--temperature", heat, "20", "2"]);
+    assert_eq!((output.status.code(), err(&output).as_str()), (Some(0), ""));
+    let text = out(&output);
+    assert!(text.contains(&format!("temperature      {heat}, (value - 20) * 2\n")), "{text}");
+    assert!(text.contains("at (9000, 0, 0)  0 (background), temperature -50\n"), "{text}");
+    assert!(text.contains("world box        (0, 0, 0) to (6, 6, 6)\n"), "{text}");
+    let density = out(&words(&[]));
+    let of = |text: &str| {
+        text.lines().find(|line| line.starts_with("at (9, 7, 0)")).unwrap().to_string()
+    };
+    assert!(of(&text).starts_with(&format!("{}, temperature ", of(&density))), "{text}");
+    for line in
+        density.lines().filter(|line| line.starts_with("greatest") || line.starts_with("clear"))
+    {
+        assert!(text.contains(line), "{line}: {text}");
+    }
+}
+
+/// A refusal names the temperature's file; what is known of the density stays shown.
+#[test]
+fn a_temperature_is_refused_by_its_own_number() {
+    let cut = edited("cold.grid", |bytes| bytes.truncate(671));
+    for (file, offset, number) in
+        [(SAMPLE, "NaN", 27), (SAMPLE, "-inf", 27), (cut.to_str().unwrap(), "NaN", 2)]
+    {
+        let output = station(&[SAMPLE, "--temperature", file, offset, "1"]);
+        let err = err(&output);
+        assert_eq!(output.status.code(), Some(1), "{err}");
+        assert!(err.starts_with(&format!("station: {file}: refused {number}: ")), "{err}");
+        assert!(out(&output).contains("background       0\n"), "{}", out(&output));
+    }
+    let output = station(&[SAMPLE, "--temperature", "no/such", "0", "1"]);
+    assert_eq!(output.status.code(), Some(2));
+    assert!(err(&output).starts_with("station: no/such: "), "{}", err(&output));
+}
+
 #[test]
 fn a_layer_is_printed_as_it_is() {
     let text = out(&station(&[SAMPLE, "--layer", "0"]));

@@ -8,6 +8,7 @@ mod reference;
 mod walks;
 
 use oracle::file::Part;
+use oracle::heat::Heater;
 use oracle::loader::{Answer, Lent, Loader, Rust, Tables};
 /// What the Rust modules do not have is the reference's.
 pub use reference::{print_layer, window_open, window_push};
@@ -70,6 +71,58 @@ pub fn get_reading(grid: Tables, x: i32, y: i32, z: i32, value: &mut f32, level:
     let (number, bits, spoke) = Rust.get_readings(grid, &[[x, y, z]])[0];
     *level = spoke;
     given(value, (number, bits))
+}
+
+#[allow(clippy::too_many_arguments)]
+pub fn load_temperature(
+    bytes: &[u8],
+    offset: f32,
+    scale: f32,
+    blocks: &mut [i32],
+    root_links: &mut [u32],
+    root_values: &mut [f32],
+    upper_links: &mut [u32],
+    upper_values: &mut [f32],
+    lower_links: &mut [u32],
+    lower_values: &mut [f32],
+    leaf_values: &mut [f32],
+    work: &mut [u64],
+    counts: &mut [u64],
+    background: &mut f32,
+) -> u32 {
+    let lent = Lent {
+        blocks,
+        root_links,
+        root_values,
+        upper_links,
+        upper_values,
+        lower_links,
+        lower_values,
+        leaf_values,
+        work,
+        counts,
+        background,
+        medium: &mut [],
+        corners: &mut [],
+        cells: &mut [],
+    };
+    Rust.load_temperature(bytes, offset, scale, lent)
+}
+
+#[allow(clippy::too_many_arguments)]
+pub fn get_temperature(
+    present: u32,
+    grid: Tables,
+    offset: f32,
+    scale: f32,
+    x: i32,
+    y: i32,
+    z: i32,
+    value_bits: &mut u32,
+) -> u32 {
+    let (number, bits) = Rust.get_temperature(present, grid, offset, scale, [x, y, z]);
+    *value_bits = bits;
+    number
 }
 
 #[allow(clippy::too_many_arguments)]

@@ -430,6 +430,97 @@ pub unsafe extern "C" fn smokegrid_build_majorant(
 /// # Safety
 /// Each pointer is valid for its length, and no buffer that is written overlaps another.
 #[no_mangle]
+pub unsafe extern "C" fn smokegrid_load_temperature(
+    bytes: *const u8,
+    bytes_len: usize,
+    offset: f32,
+    scale: f32,
+    blocks: *mut i32,
+    blocks_len: usize,
+    root_links: *mut u32,
+    root_links_len: usize,
+    root_values: *mut f32,
+    root_values_len: usize,
+    upper_links: *mut u32,
+    upper_links_len: usize,
+    upper_values: *mut f32,
+    upper_values_len: usize,
+    lower_links: *mut u32,
+    lower_links_len: usize,
+    lower_values: *mut f32,
+    lower_values_len: usize,
+    leaf_values: *mut f32,
+    leaf_values_len: usize,
+    work: *mut u64,
+    work_len: usize,
+    counts: *mut u64,
+    counts_len: usize,
+    background: *mut f32,
+) -> u32 {
+    behind::load_temperature(
+        from_raw_parts(bytes, bytes_len),
+        offset,
+        scale,
+        from_raw_parts_mut(blocks, blocks_len),
+        from_raw_parts_mut(root_links, root_links_len),
+        from_raw_parts_mut(root_values, root_values_len),
+        from_raw_parts_mut(upper_links, upper_links_len),
+        from_raw_parts_mut(upper_values, upper_values_len),
+        from_raw_parts_mut(lower_links, lower_links_len),
+        from_raw_parts_mut(lower_values, lower_values_len),
+        from_raw_parts_mut(leaf_values, leaf_values_len),
+        from_raw_parts_mut(work, work_len),
+        from_raw_parts_mut(counts, counts_len),
+        &mut *background,
+    )
+}
+
+/// # Safety
+/// Each pointer is valid for its length, and no buffer that is written overlaps another.
+#[no_mangle]
+pub unsafe extern "C" fn smokegrid_get_temperature(
+    present: u32,
+    background: f32,
+    blocks: *const i32,
+    blocks_len: usize,
+    root_links: *const u32,
+    root_links_len: usize,
+    root_values: *const f32,
+    root_values_len: usize,
+    upper_links: *const u32,
+    upper_links_len: usize,
+    upper_values: *const f32,
+    upper_values_len: usize,
+    lower_links: *const u32,
+    lower_links_len: usize,
+    lower_values: *const f32,
+    lower_values_len: usize,
+    leaf_values: *const f32,
+    leaf_values_len: usize,
+    offset: f32,
+    scale: f32,
+    x: i32,
+    y: i32,
+    z: i32,
+    value_bits: *mut u32,
+) -> u32 {
+    let grid = Tables {
+        background,
+        blocks: from_raw_parts(blocks, blocks_len),
+        root_links: from_raw_parts(root_links, root_links_len),
+        root_values: from_raw_parts(root_values, root_values_len),
+        upper_links: from_raw_parts(upper_links, upper_links_len),
+        upper_values: from_raw_parts(upper_values, upper_values_len),
+        lower_links: from_raw_parts(lower_links, lower_links_len),
+        lower_values: from_raw_parts(lower_values, lower_values_len),
+        leaf_values: from_raw_parts(leaf_values, leaf_values_len),
+    };
+    behind::get_temperature(present, grid, offset, scale, x, y, z, &mut *value_bits)
+}
+
+/// # Safety
+/// Each pointer is valid for its length, and no buffer that is written overlaps another.
+#[no_mangle]
 pub unsafe extern "C" fn smokegrid_grid_part(
     file: *const u8,
     file_len: usize,

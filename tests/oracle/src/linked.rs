@@ -6,6 +6,7 @@
 mod interface;
 
 use crate::file::Part;
+use crate::heat::Heater;
 use crate::loader::{Answer, Lent, Loader, Reading, Tables};
 use interface::GridTables;
 
@@ -116,5 +117,40 @@ impl Loader for Linked {
 
     fn grid_name(&self, file: &[u8], n: u64) -> Part {
         part(|start, length| interface::grid_name(file, n, start, length))
+    }
+}
+
+impl Heater for Linked {
+    fn load_temperature(&self, bytes: &[u8], offset: f32, scale: f32, lent: Lent) -> u32 {
+        interface::load_temperature(
+            bytes,
+            offset,
+            scale,
+            lent.blocks,
+            lent.root_links,
+            lent.root_values,
+            lent.upper_links,
+            lent.upper_values,
+            lent.lower_links,
+            lent.lower_values,
+            lent.leaf_values,
+            lent.work,
+            lent.counts,
+            lent.background,
+        )
+    }
+
+    fn get_temperature(
+        &self,
+        present: u32,
+        grid: Tables,
+        offset: f32,
+        scale: f32,
+        [x, y, z]: [i32; 3],
+    ) -> Answer {
+        let mut bits = 0x5a5a5a5a;
+        let number =
+            interface::get_temperature(present, tables(grid), offset, scale, x, y, z, &mut bits);
+        (number, bits)
     }
 }

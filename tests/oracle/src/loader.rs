@@ -203,7 +203,7 @@ impl Loader for Rust {
 }
 
 /// A NaN that is worked out has one pattern; the source leaves it open.
-fn one_nan(value: f32) -> u32 {
+pub fn one_nan(value: f32) -> u32 {
     if value.is_nan() {
         0x7fc00000
     } else {
@@ -222,13 +222,23 @@ fn answer(result: Result<f32, u32>) -> Answer {
 /// 18, 1, and 9 where the lent places run out before another fault is met. The header's faults (2,
 /// 3 and 4) come before any place is used.
 fn decode(bytes: &[u8], lent: &Lent) -> Result<NanoVDBMedium, u32> {
-    if !lent.passes() {
+    decoded_into(bytes, lent.passes(), lent, source::decode_density_grid)
+}
+
+/// The same of any decode of the source, once it is known whether the lengths pass.
+pub fn decoded_into<T>(
+    bytes: &[u8],
+    passes: bool,
+    lent: &Lent,
+    decode: impl FnOnce(&[u8]) -> Result<T, u32>,
+) -> Result<T, u32> {
+    if !passes {
         return Err(18);
     }
     if bytes.len() > u32::MAX as usize {
         return Err(1);
     }
-    let result = source::decode_density_grid(bytes);
+    let result = decode(bytes);
     if matches!(result, Err(2..=4)) {
         return result;
     }
@@ -299,11 +309,15 @@ impl Tables<'_> {
 }
 
 impl Lent<'_> {
-    fn passes(&self) -> bool {
+    pub fn paired(&self) -> bool {
         self.root_links.len() == self.root_values.len()
             && self.upper_links.len() == self.upper_values.len()
             && self.lower_links.len() == self.lower_values.len()
             && self.blocks.len() == 3 * self.root_links.len()
+    }
+
+    fn passes(&self) -> bool {
+        self.paired()
             && self.counts.len() == 4
             && self.medium.len() == 18
             && self.corners.len() == 6
@@ -323,7 +337,7 @@ impl Lent<'_> {
         }
     }
 
-    fn clear(&mut self) {
+    pub fn clear(&mut self) {
         self.blocks.fill(0);
         self.root_links.fill(0);
         self.root_values.fill(0.0);
@@ -340,8 +354,8 @@ impl Lent<'_> {
         self.cells.fill(0);
     }
 
-    fn fill(&mut self, medium: &NanoVDBMedium) {
-        let grid = &medium.density;
+    /// Tables, counts and background.
+    pub fn fill_grid(&mut self, grid: &SparseScalarGrid) {
         let blocks = grid.roots.iter().flat_map(|root| root.block);
         self.blocks.iter_mut().zip(blocks).for_each(|(place, number)| *place = number);
         let roots = grid.roots.iter().map(|root| &root.entry);
@@ -358,6 +372,10 @@ impl Lent<'_> {
             nodes(grid.leaf_values.len(), 0),
         ]);
         *self.background = grid.background;
+    }
+
+    fn fill(&mut self, medium: &NanoVDBMedium) {
+        self.fill_grid(&medium.density);
         self.medium[..3].copy_from_slice(&medium.bounds_min);
         self.medium[3..6].copy_from_slice(&medium.bounds_max);
         self.medium[6..15].copy_from_slice(medium.inverse_map_f.as_flattened());

@@ -6,6 +6,7 @@
 pub mod cells;
 pub mod file;
 pub mod generate;
+pub mod heat;
 pub mod level;
 #[cfg(linked)]
 pub mod linked;

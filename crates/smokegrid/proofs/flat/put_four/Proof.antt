@@ -1,10 +1,10 @@
--- `smokegrid::flat::put_counts` meets its contract: four stores to an array of four zeros. Assumes nothing.
+-- `smokegrid::flat::put_four` meets its contract: four stores to an array of four zeros. Assumes nothing.
 use native.Mathlib.Omega.{arith}
 use lib.ListN.{length-set}
 use Rattle.smokegrid.proofs.Stores.{size, four}
 use borrow.Author.Needs.{needs}
-use Rattle.smokegrid.proofs.flat.put_counts.Statement.{statement}
-use Rattle.smokegrid.proofs.flat.put_counts.Tie as tie
+use Rattle.smokegrid.proofs.flat.put_four.Statement.{statement}
+use Rattle.smokegrid.proofs.flat.put_four.Tie as tie
 
 slice-write-counts : tie.Need-slice-write-counts
 slice-write-counts c = omega (arith, size _ 4 0 (c .pre))
@@ -21,8 +21,8 @@ slice-write-counts-4 c = simp length-set (omega (arith, size _ 4 0 (c .pre)))
 returns : tie.Need-returns
 returns c = four _ 0 _ _ _ _ (c .pre)
 
-pub put-counts-spec : {M : Type 1} → statement M
-put-counts-spec =
+pub put-four-spec : {M : Type 1} → statement M
+put-four-spec =
     tie.close
     (tie.spec
     slice-write-counts
