@@ -1,6 +1,7 @@
 -- Definitions that the public contracts cite, and the claim.
 pub mod Claim
 pub mod Contracts
+pub mod Mixed
 pub mod Load
 pub mod Ask
 pub mod Answered
@@ -12,4 +13,5 @@ pub mod Points
 pub mod Theorem
 pub mod Lists
 pub mod ContractLaws
+pub mod MixTheorem
 pub mod Bench

@@ -51,7 +51,7 @@ cell-alike m n A c k o = λ i. record {
 }
 
 -- the test on `Encloses`, both ways
-encloses-alike : (m n : Medium) → Alike m n → (c : Cells) (k : ℕ) (p : Point) → EnclosesIn n c k p ≡ EnclosesIn m c k p
+pub encloses-alike : (m n : Medium) → Alike m n → (c : Cells) (k : ℕ) (p : Point) → EnclosesIn n c k p ≡ EnclosesIn m c k p
 encloses-alike m n A c k p = λ i. Between (cell-alike m n A c k 0 i) (cell-alike m n A c k 1 i) p
 
 around-alike : (m n : Medium) → Alike m n → (p : Point) (c : Coord) → AroundIn n p c ≡ AroundIn m p c

@@ -7,6 +7,7 @@ pub mod Saturated
 pub mod Answers
 pub mod Integer
 pub mod Fields
+pub mod Units
 -- Definitions that only contracts within the crate cite.
 pub mod Shifts
 -- Worked examples.
@@ -27,3 +28,9 @@ pub mod Middle
 pub mod Blend
 pub mod Floors
 pub mod SaturatedLaws
+pub mod Parts
+pub mod Taken
+-- Laws of rounding error.
+pub mod Rounded
+pub mod Steps
+pub mod Sizes

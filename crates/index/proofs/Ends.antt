@@ -21,6 +21,7 @@ use Rattle.float.specs.Answers.{coordinateOf, coordinateSaid}
 use Rattle.float.specs.declared.Coordinate.{Coordinate}
 use Rattle.index.specs.Cells.{Ends, maxZ, minZ, one}
 use Rattle.index.specs.Axes.{Line, Both, firstLow, firstHigh, secondLow, secondHigh, indexOn, majorantOn, firstOn, secondOn, endsOn}
+use Rattle.index.specs.Sides.{sidesOf}
 use Rattle.index.specs.Answers.{positionOf, endsOf, axisEndsOf}
 use Rattle.index.specs.declared.Position.{Position}
 use Rattle.index.specs.declared.Range.{Range}
@@ -111,6 +112,23 @@ module _ (l : Line) (p q : Float) where
       → ok (record { lo = a; hi = b }) ≡ secondOn l p q
   unfolding secondOn plain
   second-taken r s = both-taken (secondLow (indexOn l p)) (secondHigh (indexOn l q)) plain r s
+
+-- the voxels on either side of a position
+module _ (v : Float) where
+  sided : ℤ → ℤ → Ends
+  sided a b = record { lo = a; hi = b }
+
+  pub sides-low-stopped : {n : ℕ} → refused n ≡ secondLow v → passing n (ok zeros) ≡ sidesOf v
+  unfolding sidesOf sided
+  sides-low-stopped {n} r = low-stopped (secondLow v) (secondHigh v) sided n r (only-second-low v)
+
+  pub sides-high-stopped : {a : ℤ} {n : ℕ} → ok a ≡ secondLow v → refused n ≡ secondHigh v → passing n (ok zeros) ≡ sidesOf v
+  unfolding sidesOf sided
+  sides-high-stopped {n = n} r s = high-stopped (secondLow v) (secondHigh v) sided n r s (only-second-high v)
+
+  pub sides-taken : {a b : ℤ} → ok a ≡ secondLow v → ok b ≡ secondHigh v → ok (record { lo = a; hi = b }) ≡ sidesOf v
+  unfolding sidesOf sided
+  sides-taken r s = both-taken (secondLow v) (secondHigh v) sided r s
 
 -- ---- signed numbers, which locals hold as bits
 pub seen : (a : ℤ) → mag a < 2 ^ 31 → toZ w32 (ofZ w32 a) ≡ a

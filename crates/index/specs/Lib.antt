@@ -3,6 +3,7 @@ pub mod Index
 pub mod Cells
 pub mod Axes
 pub mod Found
+pub mod Sides
 pub mod Answers
 -- Worked examples.
 pub mod Examples
@@ -14,3 +15,4 @@ pub mod Middle
 pub mod SameEnds
 pub mod Sixteen
 pub mod Alone
+pub mod SideLaws

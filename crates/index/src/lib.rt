@@ -10,6 +10,7 @@ ghost use Rattle.medium.specs.Record.{asMedium};
 ghost use Rattle.index.specs.Cells.{maxZ, minZ};
 ghost use Rattle.index.specs.Axes.{cornerOn, indexOn, majorantOn, firstLow, firstHigh, secondLow, secondHigh, firstOn, secondOn, axisEnds, lineOf};
 ghost use Rattle.index.specs.Found.{holdsOn, axisCell};
+ghost use Rattle.index.specs.Sides.{sidesOf};
 ghost use Rattle.index.specs.Answers.{indexBits, positionOf, asLine, endsOf, axisEndsOf};
 use float::Coordinate;
 use float::bits_of;
@@ -196,6 +197,31 @@ fn second_range(l: Line, p: f32, q: f32) -> Range
             hi: 0,
         },
         Coordinate::At(a) => match second_high(index_on(l, q)) {
+            Coordinate::Refused(n) => Range {
+                fault: n,
+                lo: 0,
+                hi: 0,
+            },
+            Coordinate::At(b) => Range {
+                fault: 0,
+                lo: a,
+                hi: b,
+            },
+        },
+    }
+}
+
+// The voxels on either side of an index position: its floor, and the next; 16 where one lies outside i32.
+pub fn sides(v: f32) -> Range
+    ensures { λ r. ⌜ endsOf r ≡ sidesOf v ⌝ }
+{
+    match second_low(v) {
+        Coordinate::Refused(n) => Range {
+            fault: n,
+            lo: 0,
+            hi: 0,
+        },
+        Coordinate::At(a) => match second_high(v) {
             Coordinate::Refused(n) => Range {
                 fault: n,
                 lo: 0,

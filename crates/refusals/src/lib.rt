@@ -49,6 +49,8 @@ pub const RAY: u32 = 22;
 
 pub const CELLS: u32 = 23;
 
+pub const OUTSIDE: u32 = 24;
+
 pub const WINDOW: u32 = 26;
 
 pub const TEMPERATURE: u32 = 27;

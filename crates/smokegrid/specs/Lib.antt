@@ -4,6 +4,7 @@ pub mod FlatCounted
 pub mod FlatHeat
 pub mod FlatRay
 pub mod FlatTables
+pub mod FlatMix
 pub mod Promises
 -- Laws.
 pub mod Back

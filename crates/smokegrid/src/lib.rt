@@ -12,7 +12,7 @@ ghost use Rattle.contents.specs.Contents.{pick, pickName};
 ghost use Rattle.smokegrid.specs.Flat.{Arrays};
 ghost use Rattle.smokegrid.specs.FlatRay.{beam};
 ghost use Rattle.smokegrid.specs.FlatTables.{windowArrays};
-ghost use Rattle.smokegrid.specs.Promises.{Decodes, GetsValue, GetsReading, BoxMaximum, BoxMaxima, WorldToIndex, Builds, GivesPart};
+ghost use Rattle.smokegrid.specs.Promises.{Decodes, GetsValue, GetsReading, BoxMaximum, BoxMaxima, WorldToIndex, MixesAt, Builds, GivesPart};
 ghost use Rattle.smokegrid.specs.Promises.{CountsBox, LoadsTemperature, GetsTemperature};
 ghost use Rattle.smokegrid.specs.Promises.{OpensRay, NextPiece, PrintsLayer, OpensWindow, PushesTable};
 
@@ -38,6 +38,7 @@ use majorant::box_maximum;
 use majorant::box_maximum_counted;
 use majorant::build_majorant;
 use medium::Temperature;
+use mix::mix;
 use ray::one_if;
 use ray::put_numbers;
 use ray::put_times;
@@ -630,6 +631,53 @@ pub extern "C" fn smokegrid_world_to_index_f(
     let bits = p.bits;
     put_three(index_bits, bits);
     p.number
+}
+
+// The density at a world point, mixed from the eight voxels around it, through `value`, and 0; or the number of the refusal, and +0.0.
+#[no_mangle]
+pub extern "C" fn smokegrid_mix(
+    background: f32,
+    blocks: &[i32],
+    root_links: &[u32],
+    root_values: &[f32],
+    upper_links: &[u32],
+    upper_values: &[f32],
+    lower_links: &[u32],
+    lower_values: &[f32],
+    leaf_values: &[f32],
+    medium: &[f32],
+    x: f32,
+    y: f32,
+    z: f32,
+    value: &mut f32,
+) -> u32
+    ensures { λ r.
+        let g = gridOf background
+        (now (blocks .entry)) (now («root_links» .entry)) (now («root_values» .entry)) (now («upper_links» .entry))
+        (now («upper_values» .entry)) (now («lower_links» .entry)) (now («lower_values» .entry)) (now («leaf_values» .entry)) in
+        ⌜ MixesAt g (now (medium .entry)) (record { x = x; y = y; z = z }) r (now (value .exit)) ⌝ }
+{
+    if medium.len() != 18 {
+        return give(Answer::Refused(refusals::TABLES), value);
+    }
+    let corners = [0i32; 6];
+    let cells = [0u32; 3];
+    let found = mix(
+        background,
+        blocks,
+        root_links,
+        root_values,
+        upper_links,
+        upper_values,
+        lower_links,
+        lower_values,
+        leaf_values,
+        medium_from(medium, &corners, &cells),
+        x,
+        y,
+        z,
+    );
+    give(found, value)
 }
 
 // The figures of the cells, and 0; or the number of the refusal, and a table of zeros.

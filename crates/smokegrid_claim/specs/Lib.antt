@@ -3,6 +3,7 @@ pub mod ThroughC
 pub mod FileThroughC
 pub mod RaysThroughC
 pub mod TemperatureThroughC
+pub mod MixThroughC
 -- Laws.
 pub mod Passed
 pub mod Loads
@@ -11,5 +12,6 @@ pub mod Theorem
 pub mod FileTheorem
 pub mod RaysTheorem
 pub mod TemperatureTheorem
+pub mod MixTheorem
 -- Worked examples.
 pub mod Examples

@@ -39,7 +39,7 @@ use Rattle.smokegrid_claim.specs.Back.{flat, left-is, used-back, fits-ba
 
 -- ---- a build and an index position from flat arrays
 
-flat-build : (g : Grid) (m : List Float) (c : List ℤ) (n : List ℕ) (places : ℕ) → numberOf (buildFlat g m c n places) ≡ 0
+pub flat-build : (g : Grid) (m : List Float) (c : List ℤ) (n : List ℕ) (places : ℕ) → numberOf (buildFlat g m c n places) ≡ 0
     → buildFlat g m c n places ≡ buildInto g (mediumFrom m c n) places
 unfolding buildFlat
 flat-build g m c n places z =

@@ -8,6 +8,7 @@ pub mod BiasedLaws
 pub mod TableLaws
 pub mod Signs
 pub mod Sound
+pub mod Values
 pub mod Roots
 pub mod Reorder
 pub mod Permuted

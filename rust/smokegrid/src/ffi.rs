@@ -135,6 +135,10 @@ pub fn world_to_index_f(medium: &[f32; 18], [x, y, z]: [f32; 3], index_bits: &mu
     interface::world_to_index_f(medium, x, y, z, index_bits)
 }
 
+pub fn mix(tables: &Tables, medium: &[f32; 18], [x, y, z]: [f32; 3], value: &mut f32) -> u32 {
+    interface::mix(grid(tables), medium, x, y, z, value)
+}
+
 pub fn build_majorant(
     tables: &Tables,
     medium: &[f32; 18],

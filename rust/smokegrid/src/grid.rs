@@ -180,6 +180,11 @@ impl Grid {
         Ok(bits.map(f32::from_bits))
     }
 
+    /// The density between voxels at a world point: the eight voxels around it, mixed along z, then y, then x.
+    pub fn mix(&self, point: [f32; 3]) -> Result<f32, Refusal> {
+        value(|place| ffi::mix(&self.tables, &self.medium, point, place))
+    }
+
     /// The figures of the cells of the world box, as many as stand in the record: 64 on each axis.
     pub fn build_majorant(&self) -> Result<Majorant, Refusal> {
         self.build_majorant_with(self.cells)

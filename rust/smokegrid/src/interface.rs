@@ -220,6 +220,31 @@ mod c {
             index_bits: *mut u32,
             index_bits_len: usize,
         ) -> u32;
+        pub fn smokegrid_mix(
+            background: f32,
+            blocks: *const i32,
+            blocks_len: usize,
+            root_links: *const u32,
+            root_links_len: usize,
+            root_values: *const f32,
+            root_values_len: usize,
+            upper_links: *const u32,
+            upper_links_len: usize,
+            upper_values: *const f32,
+            upper_values_len: usize,
+            lower_links: *const u32,
+            lower_links_len: usize,
+            lower_values: *const f32,
+            lower_values_len: usize,
+            leaf_values: *const f32,
+            leaf_values_len: usize,
+            medium: *const f32,
+            medium_len: usize,
+            x: f32,
+            y: f32,
+            z: f32,
+            value: *mut f32,
+        ) -> u32;
         pub fn smokegrid_build_majorant(
             background: f32,
             blocks: *const i32,
@@ -695,6 +720,39 @@ pub fn world_to_index_f(medium: &[f32], x: f32, y: f32, z: f32, index_bits: &mut
             z,
             index_bits.as_mut_ptr(),
             index_bits.len(),
+        )
+    }
+}
+
+#[inline]
+#[allow(clippy::too_many_arguments)]
+pub fn mix(grid: GridTables, medium: &[f32], x: f32, y: f32, z: f32, value: &mut f32) -> u32 {
+    // SAFETY: each pointer is valid for its length, and what is written is borrowed mutably, so it overlaps nothing.
+    unsafe {
+        c::smokegrid_mix(
+            grid.background,
+            grid.blocks.as_ptr(),
+            grid.blocks.len(),
+            grid.root_links.as_ptr(),
+            grid.root_links.len(),
+            grid.root_values.as_ptr(),
+            grid.root_values.len(),
+            grid.upper_links.as_ptr(),
+            grid.upper_links.len(),
+            grid.upper_values.as_ptr(),
+            grid.upper_values.len(),
+            grid.lower_links.as_ptr(),
+            grid.lower_links.len(),
+            grid.lower_values.as_ptr(),
+            grid.lower_values.len(),
+            grid.leaf_values.as_ptr(),
+            grid.leaf_values.len(),
+            medium.as_ptr(),
+            medium.len(),
+            x,
+            y,
+            z,
+            value,
         )
     }
 }

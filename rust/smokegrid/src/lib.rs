@@ -15,6 +15,7 @@
 //! Of a whole .nvdb file `Contents::of` lists the grids, and `Grid::from_file` loads one of them.
 
 mod contents;
+mod enclosing;
 mod ffi;
 mod grid;
 mod interface;

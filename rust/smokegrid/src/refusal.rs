@@ -119,7 +119,7 @@ const WORDS: &[Words] = &[
         18,
         "TABLES",
         "paired tables of unequal length, blocks that are not three a root, a table that is not of \
-         whole nodes, boxes that are not six to a maximum, a table of cells, an answer or a window's \
+         whole nodes, boxes that are not six to a maximum, points that are not three to a density, a table of cells, an answer or a window's \
          memory of another length, a window that claims over w tables or a place past them, a ray's cell outside the table or \
          step other than 1 and -1",
         "The program lent tables that do not belong together: a fault of the program, not of the \
@@ -155,6 +155,12 @@ const WORDS: &[Words] = &[
         "CELLS",
         "a number of cells on an axis that is not 1 to 128",
         "Ask for 1 to 128 cells on each axis; where none are asked for, 64 are built.",
+    ),
+    words(
+        24,
+        "OUTSIDE",
+        "a point outside the world box, or one that is not a number",
+        "Ask for a point inside or on the world box that the grid's first lines show.",
     ),
     words(
         26,

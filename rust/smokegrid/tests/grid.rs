@@ -290,3 +290,25 @@ fn the_sample_reads_as_its_bytes_do() {
     assert_eq!(cells.greatest().0, greatest);
     assert!(cells.clear() > 0);
 }
+
+/// The tile of 0.5 fills block (-1, 0, 0): from voxel -1 to voxel 0 on x the density falls to nothing.
+#[test]
+fn densities_between_voxels_are_mixed() {
+    let grid = Grid::decode(&tile()).unwrap();
+    let (medium, cells) = (grid.medium(), grid.build_majorant().unwrap());
+    let at = |x: f32| [x, 4.0, 4.0];
+    for x in [-8.0, -4.5, -1.0] {
+        assert_eq!(grid.mix(at(x)), Ok(0.5), "{x}");
+    }
+    let position = grid.world_to_index_f(at(-0.001)).unwrap()[0];
+    let t = position - position.floor();
+    assert_eq!(grid.mix(at(-0.001)), Ok((1.0 - t) * 0.5 + t * 0.0));
+    for point in [medium.world_min, medium.world_max, at(-0.3)] {
+        let cell = cells.enclosing(&medium, point).unwrap();
+        assert!(grid.mix(point).unwrap() <= cells.figure(cell).unwrap() * (1.0 + 1e-6));
+    }
+    for outside in [at(0.5), at(-8.5), at(f32::NAN), at(f32::INFINITY)] {
+        assert_eq!(grid.mix(outside).unwrap_err().number(), 24);
+        assert_eq!(cells.enclosing(&medium, outside), None);
+    }
+}

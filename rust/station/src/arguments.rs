@@ -27,6 +27,8 @@ Questions, as many as there are:
   --box LX LY LZ HX HY HZ    the greatest density from the low voxel to the high one, ends included
   --boxes FILE               the same for each box of a file, and the greatest of them: a box a line,
                              six numbers as above; # begins a comment
+  --point X Y Z              the density at a world point, mixed from the eight voxels around it,
+                             which are shown, and the figure of the cell that it is in
   --cell X Y Z               the figure of a cell, each number from 0 on
   --ray OX OY OZ DX DY DZ T0 T1
                              the pieces of a ray from the world point O along D, from T0 to T1, how
@@ -70,6 +72,7 @@ pub enum Question {
     At([i32; 3]),
     Box([i32; 3], [i32; 3]),
     Boxes(Vec<Zone>),
+    Point([f32; 3]),
     Cell([usize; 3]),
     Ray(Beam),
     Layer(u32),
@@ -103,6 +106,7 @@ pub fn parse(words: impl Iterator<Item = OsString>) -> Result<Request, String> {
                 let path = words.next().ok_or("--boxes lacks a file")?;
                 questions.push(Question::Boxes(boxes::read(&PathBuf::from(path))?));
             }
+            Some("--point") => questions.push(Question::Point(three("--point", &mut words)?)),
             Some("--cell") => questions.push(Question::Cell(three("--cell", &mut words)?)),
             Some("--ray") => questions.push(Question::Ray(ray(&mut words)?)),
             Some("--cells") => cells = three("--cells", &mut words)?,
@@ -203,6 +207,7 @@ mod tests {
         let questions = vec![
             Question::Box([-1, -2, -3], [4, 5, 6]),
             Question::At([i32::MIN, 0, i32::MAX]),
+            Question::Point([-0.5, 1e-3, 2.0]),
             Question::Cell([0, 63, 5]),
             Question::Ray(Beam {
                 origin: [-1.0, 0.5, 2.0],
@@ -212,7 +217,7 @@ mod tests {
             }),
             Question::Layer(7),
         ];
-        let words = "--box -1 -2 -3 4 5 6 hall.grid --at -2147483648 0 2147483647 --cell 0 63 5 \
+        let words = "--box -1 -2 -3 4 5 6 hall.grid --at -2147483648 0 2147483647 --point -0.5 1e-3 2 --cell 0 63 5 \
                      --ray -1 0.5 2 1 0 -5e-1 0 10 --layer 7";
         assert_eq!(parsed(words), Ok(Request::Show(of(&["hall.grid"], questions))));
     }
@@ -270,6 +275,7 @@ mod tests {
             ("a --cells 1 2", "--cells lacks a number"),
             ("a --cells 1 2 -3", "--cells -3: invalid digit found in string"),
             ("a --cell 1 2 -1", "--cell -1: invalid digit found in string"),
+            ("a --point 1 2", "--point lacks a number"),
             ("a --layer", "--layer lacks a number"),
             ("a --layer -1", "--layer -1: invalid digit found in string"),
             ("a --temperature", "--temperature lacks a file"),

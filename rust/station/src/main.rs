@@ -2,6 +2,7 @@
 
 mod arguments;
 mod boxes;
+mod points;
 mod rays;
 mod report;
 mod source;
@@ -158,6 +159,7 @@ fn answers(arguments: &Arguments, grid: &Grid, cells: Option<&Majorant>) -> Resu
                 report::load(low, high, &grid.box_maximum_counted(*low, *high)?)
             }
             Question::Boxes(boxes) => report::zones(boxes, &grid.box_maxima(boxes)?),
+            Question::Point(point) => points::shown(grid, cells, *point)?,
             Question::Cell(_) | Question::Layer(_) => of_cells(question, cells)?,
             Question::Ray(beam) => match cells {
                 Some(cells) => rays::shown(beam, grid.ray(cells, beam)?),

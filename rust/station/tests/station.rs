@@ -258,6 +258,7 @@ fn help_is_printed() {
         "--at X Y Z",
         "--box LX LY LZ HX HY HZ",
         "--cell X Y Z",
+        "--point X Y Z",
         "--layer Z",
         "--window W",
     ] {
@@ -447,4 +448,25 @@ fn a_window_keeps_the_last_files() {
     assert_eq!(figure(&text), figure(&one));
     let wide = station(&["--window", "17", SAMPLE]);
     assert_eq!((wide.status.code(), err(&wide).contains("refused 26: ")), (Some(1), true));
+}
+
+#[test]
+fn a_point_is_shown_with_its_cell_and_its_voxels() {
+    let text = out(&station(&[SAMPLE, "--point", "2.5", "2", "0.1"]));
+    let lines: Vec<&str> = text.lines().skip_while(|line| !line.starts_with("point")).collect();
+    assert!(lines[0].starts_with("point (2.5, 2, 0.1) "), "{text}");
+    assert!(lines[1].starts_with("  figure ") && lines[1].contains(" in cell ("), "{text}");
+    assert!(lines[2].starts_with("  position "), "{text}");
+    assert_eq!(
+        lines[3..].iter().take_while(|line| line.starts_with("  voxel (")).count(),
+        8,
+        "{text}"
+    );
+    let outside = station(&[SAMPLE, "--point", "7", "1", "1"]);
+    assert_eq!(outside.status.code(), Some(1));
+    assert!(
+        err(&outside).contains("refused 24: a point outside the world box"),
+        "{}",
+        err(&outside)
+    );
 }

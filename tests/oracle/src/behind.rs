@@ -202,6 +202,12 @@ pub fn grid_name(file: &[u8], n: u64, start: &mut u64, length: &mut u64) -> u32 
     handed(start, length, Rust.grid_name(file, n))
 }
 
+/// Densities between voxels are set beside a reference by tests/mix: here they are refused.
+pub fn mix(_grid: Tables, _medium: &[f32], _x: f32, _y: f32, _z: f32, value: &mut f32) -> u32 {
+    *value = 0.0;
+    18
+}
+
 /// Rays are set beside their source by tests/rays: here they are refused.
 #[allow(clippy::too_many_arguments)]
 pub fn ray_open(
