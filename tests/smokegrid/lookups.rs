@@ -3,12 +3,12 @@
 
 use oracle::loader::{self, decode_into, Answer, Grid, Lengths, Loader, Rust};
 use oracle::random::Random;
-use oracle::{file, generate, samples, spoil, walk};
+use oracle::{file, generate, heat, samples, spoil, walk};
 use std::collections::BTreeMap;
 use std::process::exit;
 
 /// Compiled here, so that the functions that are not asked need not be in the library. It finds the
-/// trait as `crate::loader`, and the parts of a file as `crate::file`.
+/// traits as `crate::loader` and `crate::heat`, and the parts of a file as `crate::file`.
 #[path = "../oracle/src/linked.rs"]
 mod linked;
 

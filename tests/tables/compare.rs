@@ -8,39 +8,11 @@ mod interface;
 #[allow(dead_code)]
 mod random;
 mod reference;
+#[path = "../tally.rs"]
+mod tally;
 
 use random::Random;
-use std::collections::BTreeMap;
-
-#[derive(Default)]
-struct Tally {
-    kinds: BTreeMap<String, u64>,
-    failed: u64,
-    passed: u64,
-}
-
-impl Tally {
-    fn expect(&mut self, kinds: &[&str]) {
-        for kind in kinds {
-            self.kinds.entry(kind.to_string()).or_default();
-        }
-    }
-
-    fn saw(&mut self, kind: &str) {
-        *self.kinds.entry(kind.to_string()).or_default() += 1;
-    }
-
-    fn check(&mut self, same: bool, what: impl FnOnce() -> String) {
-        if same {
-            self.passed += 1;
-        } else {
-            self.failed += 1;
-            if self.failed <= 10 {
-                println!("FAILED {}", what());
-            }
-        }
-    }
-}
+use tally::Tally;
 
 fn bits(list: &[f32]) -> Vec<u32> {
     list.iter().map(|v| v.to_bits()).collect()
@@ -583,15 +555,5 @@ fn main() {
     let mut tally = Tally::default();
     layers(seed, cases, &mut tally);
     windows(seed, runs, &mut tally);
-    for (kind, count) in &tally.kinds {
-        println!("{count:>9} {kind}");
-    }
-    let missing: Vec<&String> =
-        tally.kinds.iter().filter(|(_, count)| **count == 0).map(|(kind, _)| kind).collect();
-    for kind in &missing {
-        println!("FAILED {kind}: it did not come up");
-    }
-    let failed = tally.failed + missing.len() as u64;
-    println!("{} passed, {failed} failed", tally.passed);
-    std::process::exit(i32::from(failed > 0));
+    tally.end();
 }

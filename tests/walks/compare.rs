@@ -1,8 +1,10 @@
-//! The static library beside reference.rs: what the counted box maximum reads. usage: compare SEED GRIDS SIDE
+//! The static library beside reference.rs and classes.rs: what the counted box maximum reads, and the coordinates of a box by class.
+//! usage: compare SEED GRIDS SIDE
 //! Random grids with shared children, blocks of both signs and boxes of every shape; then the dearest cubes: every side from 1 to SIDE,
 //! and sides up to 4,096 where the lower entries are tiles. Prints how often each kind came up; a kind that did not is a failure.
 //! The last line is 'N passed, M failed'.
 
+mod classes;
 #[path = "../../rust/smokegrid/src/interface.rs"]
 #[allow(dead_code)]
 mod interface;
@@ -10,41 +12,13 @@ mod interface;
 #[allow(dead_code)]
 mod random;
 mod reference;
+#[path = "../tally.rs"]
+mod tally;
 
 use interface::GridTables;
 use random::Random;
 use reference::{Counts, Links};
-use std::collections::BTreeMap;
-
-#[derive(Default)]
-struct Tally {
-    kinds: BTreeMap<String, u64>,
-    failed: u64,
-    passed: u64,
-}
-
-impl Tally {
-    fn expect(&mut self, kinds: &[&str]) {
-        for kind in kinds {
-            self.kinds.entry(kind.to_string()).or_default();
-        }
-    }
-
-    fn saw(&mut self, kind: &str) {
-        *self.kinds.entry(kind.to_string()).or_default() += 1;
-    }
-
-    fn check(&mut self, same: bool, what: impl FnOnce() -> String) {
-        if same {
-            self.passed += 1;
-        } else {
-            self.failed += 1;
-            if self.failed <= 10 {
-                println!("FAILED {}", what());
-            }
-        }
-    }
-}
+use tally::Tally;
 
 // ---- grids
 
@@ -269,6 +243,101 @@ fn other_lengths(random: &mut Random, grid: &Grid, tally: &mut Tally) {
     tally.saw("counts of another length");
 }
 
+// ---- classes
+
+/// Limits that pass, often at stored values, which are eighths; or that do not, and why.
+fn limits(random: &mut Random) -> (Vec<f32>, &'static str) {
+    let mut eighths: Vec<i64> = (-8..=8).collect();
+    for i in (1..eighths.len()).rev() {
+        eighths.swap(i, random.below(i + 1));
+    }
+    let count = random.pick(&[1, 2, 2, 3, 16]);
+    let mut list: Vec<i64> = eighths[..count].to_vec();
+    list.sort_unstable();
+    let mut limits: Vec<f32> = list.iter().map(|v| *v as f32 / 8.0).collect();
+    let place = random.below(limits.len());
+    match random.below(16) {
+        0 => return (vec![], "limits: none"),
+        1 => return ((0..17).map(|v| v as f32).collect(), "limits: 17"),
+        2 => limits[place] = f32::NAN,
+        3 => limits[place] = f32::INFINITY,
+        4 => return (vec![-0.0, 0.0], "limits: not rising"),
+        5 => limits[place] += 0.0625,
+        6 => limits = vec![-0.0],
+        _ => {}
+    }
+    let name = match (limits.len(), classes::limits_pass(&limits)) {
+        (_, false) => "limits: not finite",
+        (16, true) => "limits: 16",
+        _ => "limits: some",
+    };
+    (limits, name)
+}
+
+fn classed(grid: &Grid, limits: &[f32], low: [i32; 3], high: [i32; 3], places: usize) -> Said {
+    let mut counts = vec![0x5a5a_5a5a_5a5a_5a5a; places];
+    let tables = grid.tables();
+    let [lx, ly, lz] = low;
+    let [hx, hy, hz] = high;
+    let number = interface::count_classes(tables, limits, lx, ly, lz, hx, hy, hz, &mut counts);
+    Said { number, bits: 0, counts }
+}
+
+/// A box of every shape; or one with a side at the longest, or one above it.
+fn class_zone(random: &mut Random, longest: usize) -> ([i32; 3], [i32; 3], &'static str) {
+    let (mut low, mut high, name) = zone(random, longest);
+    let axis = random.below(3);
+    let (more, name) = match random.below(8) {
+        0 => (classes::LONGEST, "side: the longest"),
+        1 => (classes::LONGEST + 1, "side: one more"),
+        _ => return (low, high, name),
+    };
+    low[axis] = low[axis].min(0);
+    high[axis] = (i64::from(low[axis]) + more - 1) as i32;
+    (low, high, name)
+}
+
+fn class_of_box(random: &mut Random, grid: &Grid, longest: usize, tally: &mut Tally) {
+    let (low, high, shape) = class_zone(random, longest);
+    let (limits, of_limits) = limits(random);
+    let places = if random.below(12) == 0 { random.pick(&[0, 16, 18]) } else { 17 };
+    let said = classed(grid, &limits, low, high, places);
+    let sides = classes::sides(low, high);
+    let invalid = interface::validate(grid.tables());
+    let short = sides.iter().all(|side| *side <= classes::LONGEST);
+    let number = match (places, invalid, classes::limits_pass(&limits) && short) {
+        (17, 0, true) => 0,
+        (17, 0, false) => 25,
+        (17, fault, _) => fault,
+        _ => 18,
+    };
+    let mut want = vec![0; places];
+    if number == 0 {
+        let few = sides.iter().map(|side| *side as u128).product::<u128>() <= 20_000;
+        let of = if few { classes::by_coordinates } else { classes::by_entries };
+        want = of(&grid.tables(), &limits, low, high);
+        tally.saw(if few { "classes: by coordinates" } else { "classes: by entries" });
+        tally.saw(&format!("classes of {shape}"));
+        let all: u128 = said.counts.iter().map(|count| u128::from(*count)).sum();
+        tally.check(all == sides.iter().map(|side| *side as u128).product(), || {
+            format!("classes of {low:?} to {high:?}: {all} in all")
+        });
+    } else {
+        tally.saw(&format!("classes refused {number}"));
+        if number == 25 && sides.contains(&0) {
+            tally.saw("classes refused 25 of an empty box");
+        }
+    }
+    tally.saw(of_limits);
+    let same = said.counts.iter().map(|count| u128::from(*count)).eq(want.iter().copied());
+    tally.check(said.number == number && same, || {
+        format!(
+            "classes of {low:?} to {high:?} by {limits:?}: {} {:?} beside {number} {want:?}",
+            said.number, said.counts
+        )
+    });
+}
+
 // ---- the dearest cubes
 
 /// Eight roots around the origin that share one upper, one lower and one leaf node, all children; or lower entries that are tiles.
@@ -327,6 +396,26 @@ fn main() {
     ]);
     tally.expect(&["grid: blocks of both signs", "grid: roots that share a child"]);
     tally.expect(&["refused 11", "refused 12", "refused 18"]);
+    tally.expect(&[
+        "limits: none",
+        "limits: 17",
+        "limits: not rising",
+        "limits: not finite",
+        "limits: 16",
+        "limits: some",
+    ]);
+    tally.expect(&[
+        "classes: by coordinates",
+        "classes: by entries",
+        "classes of side: the longest",
+    ]);
+    tally.expect(&[
+        "classes refused 11",
+        "classes refused 12",
+        "classes refused 18",
+        "classes refused 25",
+    ]);
+    tally.expect(&["classes refused 25 of an empty box"]);
     for case in 0..grids {
         let random = &mut Random::new(seed, case);
         let (children, longest) = random.pick(&[(FEW, 6000), (300, 60), (FULL, 40)]);
@@ -334,9 +423,13 @@ fn main() {
         for _ in 0..10 {
             one(random, &grid, longest, &mut tally);
         }
+        for _ in 0..10 {
+            class_of_box(random, &grid, longest, &mut tally);
+        }
         other_lengths(random, &grid, &mut tally);
         spoil(random, &mut grid);
         one(random, &grid, 20, &mut tally);
+        class_of_box(random, &grid, 20, &mut tally);
         other_lengths(random, &grid, &mut tally);
     }
     let (full, tiles) = (shared(true), shared(false));
@@ -349,15 +442,5 @@ fn main() {
     for n in sides {
         dearest(n, false, &tiles, &mut tally);
     }
-    for (kind, count) in &tally.kinds {
-        println!("{count:>9} {kind}");
-    }
-    let missing: Vec<&String> =
-        tally.kinds.iter().filter(|(_, count)| **count == 0).map(|(kind, _)| kind).collect();
-    for kind in &missing {
-        println!("FAILED {kind}: it did not come up");
-    }
-    let failed = tally.failed + missing.len() as u64;
-    println!("{} passed, {failed} failed", tally.passed);
-    std::process::exit(i32::from(failed > 0));
+    tally.end();
 }

@@ -148,13 +148,13 @@ biased-back n =
     (λ l. ap biased (back-low 2147483648 n l) ∙ omega arith)
     (λ l. ap biased (back-high 2147483648 n l) ∙ omega arith)
 
+pub low-number : {lo hi : ℤ} {s : Span} → Ends lo hi s → biased lo ≡ s .lo
+low-number {s = s} e = ap biased (e .low) ∙ biased-back (s .lo)
+
+pub high-number : {lo hi : ℤ} {s : Span} → Ends lo hi s → biased hi + 1 ≡ s .hi
+high-number {s = s} e = let h = ap biased (e .high) ∙ biased-back (s .hi - 1) in omega (arith, e .some)
+
 module _ {lx ly lz hx hy hz : ℤ} {x y z : Span} (spans : Spans lx ly lz hx hy hz x y z) where
-  low-number : {lo hi : ℤ} {s : Span} → Ends lo hi s → biased lo ≡ s .lo
-  low-number {s = s} e = ap biased (e .low) ∙ biased-back (s .lo)
-
-  high-number : {lo hi : ℤ} {s : Span} → Ends lo hi s → biased hi + 1 ≡ s .hi
-  high-number {s = s} e = let h = ap biased (e .high) ∙ biased-back (s .hi - 1) in omega (arith, e .some)
-
   -- the zone of the box
   pub zone-is : zoneOf (between lx ly lz hx hy hz) ≡ zoneIn x y z
   zone-is = λ i. record {

@@ -45,14 +45,14 @@ pub record Rooted (g : Grid) (i : ℕ) : Type 0 where
   pub inside : i < length (g .rootLinks)
 
 -- a number of a block, and whether it is apart from a span, by what a callee is handed
-abbrev blockNumber : ℤ → ℕ
+abbrev pub blockNumber : ℤ → ℕ
 blockNumber z = raised (handedOn z)
 
 abbrev pub apartFrom : ℤ → Span → Bool
 apartFrom z s = apart (blockNumber z) (s .lo) (s .hi)
 
 -- what a lookup reads below an entry of the root table
-abbrev below : Grid → Entry → ℕ → ℕ → ℕ → Float
+abbrev pub below : Grid → Entry → ℕ → ℕ → ℕ → Float
 below g e a b c =
     entryRead e (λ j. upperRead (g .upperLinks) (g .upperValues) (g .lowerLinks) (g .lowerValues) (g .leafValues) j a b c)
 
@@ -96,10 +96,20 @@ module _ {g : Grid} {i : ℕ} (r : Rooted g i) where
       let n = length (g .upperLinks) in
       subst (λ (e : Entry). childIn e n) (sym is) (linked-room (g .rootLinks) (g .rootValues) i n (r .sound .root-linked i))
 
-  here : blockAt g i ≡ corner (blockNumber (blockAt g i .x)) (blockNumber (blockAt g i .y)) (blockNumber (blockAt g i .z))
+  pub here : blockAt g i ≡ corner (blockNumber (blockAt g i .x)) (blockNumber (blockAt g i .y)) (blockNumber (blockAt g i .z))
   here =
       let h = r .sound .ranged i (r .inside) in
       λ k. record { x = held (blockAt g i .x) (h .0) k; y = held (blockAt g i .y) (h .1) k; z = held (blockAt g i .z) (h .2) k }
+
+  -- in the part that the root holds, a lookup reads what its entry has
+  pub reads-below : {x y z cx cy cz : Span} {e : Entry} → Clips (blockAt g i) x y z cx cy cz → IsEntry g i e
+      → (a b c : ℕ) → Within cx cy cz a b c → below g e a b c ≡ readAt g a b c
+  reads-below {x} {y} {z} {cx} {cy} {cz} p is a b c t =
+      let h = blockAt g i in
+      ap (λ (e : Entry). below g e a b c) is
+      ∙ sym (root-read g (r .sound) i (blockNumber (h .x)) (blockNumber (h .y)) (blockNumber (h .z))
+      (x .lo) (x .hi) (y .lo) (y .hi) (z .lo) (z .hi) (cx .lo) (cx .hi) (cy .lo) (cy .hi) (cz .lo) (cz .hi)
+      (r .inside) here (p .x-part) (p .y-part) (p .z-part) a b c t)
 
   module _ {x y z : Span} (full : Full x y z) where
     pub misses : {m : Float} {k : ℕ} →
@@ -118,15 +128,7 @@ module _ {g : Grid} {i : ℕ} (r : Rooted g i) where
         let b = blockAt g i in
         step-meets g (r .sound) i (blockNumber (b .x)) (blockNumber (b .y)) (blockNumber (b .z))
         (x .lo) (x .hi) (y .lo) (y .hi) (z .lo) (z .hi) (cx .lo) (cx .hi) (cy .lo) (cy .hi) (cz .lo) (cz .hi)
-        (r .inside) here (p .x-part) (p .y-part) (p .z-part) (f .x-some) (f .y-some) (f .z-some) v (most-as same w) q
-      where
-        same : (a b c : ℕ) → Within cx cy cz a b c → below g e a b c ≡ readAt g a b c
-        same a b c t =
-            let h = blockAt g i in
-            ap (λ (e : Entry). below g e a b c) is
-            ∙ sym (root-read g (r .sound) i (blockNumber (h .x)) (blockNumber (h .y)) (blockNumber (h .z))
-            (x .lo) (x .hi) (y .lo) (y .hi) (z .lo) (z .hi) (cx .lo) (cx .hi) (cy .lo) (cy .hi) (cz .lo) (cz .hi)
-            (r .inside) here (p .x-part) (p .y-part) (p .z-part) a b c t)
+        (r .inside) here (p .x-part) (p .y-part) (p .z-part) (f .x-some) (f .y-some) (f .z-some) v (most-as (reads-below p is) w) q
 
 -- ---- what is read
 

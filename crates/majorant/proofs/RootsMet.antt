@@ -241,7 +241,7 @@ module _ (g : Grid) (x0 x1 y0 y1 z0 z1 : ℕ) where
 
 -- ---- one root
 
-apart-out : (b lo hi : ℕ) → apart b lo hi ≡ true → (x : ℕ) → lo / 4096 ≤ x → x ≤ (hi - 1) / 4096 → b ≡ x → ⊥
+pub apart-out : (b lo hi : ℕ) → apart b lo hi ≡ true → (x : ℕ) → lo / 4096 ≤ x → x ≤ (hi - 1) / 4096 → b ≡ x → ⊥
 apart-out b lo hi h x p q r = go (ltb b (lo / 4096)) refl h
   where
     go : (t : Bool) → ltb b (lo / 4096) ≡ t → (t || ltb ((hi - 1) / 4096) b) ≡ true → ⊥

@@ -10,20 +10,27 @@ ghost use Rattle.majorant.specs.Build.{publicMaximum, buildInto};
 ghost use Rattle.majorant.specs.Maxima.{maximaInto, greatestInto};
 ghost use Rattle.majorant.specs.Counted.{unread, publicCounted, countedAnswer};
 ghost use Rattle.boxes.specs.Boxes.{between};
+ghost use Rattle.walk.specs.Classes.{publicCounts};
 
 mod build;
+mod class_walk;
+mod classes;
 mod maxima;
+mod node_count;
 mod node_max;
+mod range_count;
 mod range_max;
 
 use build::build_fault;
 use build::cells;
+use classes::box_classes;
+use classes::classes_fault;
 use lent::zero_f32;
 use maxima::maxima_each;
 use maxima::maxima_fault;
 use medium::Medium;
+use range_count::range_max_counted;
 use range_max::range_max;
-use range_max::range_max_counted;
 use sparse_grid::Answer;
 use sparse_grid::validate;
 
@@ -283,4 +290,83 @@ pub fn build_majorant(
         zero_f32(majorants);
     }
     number
+}
+
+// How many coordinates of a box lie in each class, or the number of a refusal and zeros.
+pub struct ClassCounts {
+    pub number: u32,
+    pub counts: [u64; 17],
+}
+
+// How many coordinates from the low corner to the high one, ends included, hold a density below the first limit, between each pair (lower end
+// included), and at or above the last; zero past the last class. The grid is validated first.
+pub fn count_classes(
+    background: f32,
+    blocks: &[i32],
+    root_links: &[u32],
+    root_values: &[f32],
+    upper_links: &[u32],
+    upper_values: &[f32],
+    lower_links: &[u32],
+    lower_values: &[f32],
+    leaf_values: &[f32],
+    limits: &[f32],
+    lx: i32,
+    ly: i32,
+    lz: i32,
+    hx: i32,
+    hy: i32,
+    hz: i32,
+) -> ClassCounts
+    ensures { λ r.
+        let g = gridOf background (now (blocks .entry)) (now («root_links» .entry)) (now («root_values» .entry))
+        (now («upper_links» .entry)) (now («upper_values» .entry)) (now («lower_links» .entry)) (now («lower_values» .entry))
+        (now («leaf_values» .entry)) in
+        let c = publicCounts g (now (limits .entry)) (between lx ly lz hx hy hz) in
+        ⌜ (r .number ≡ numberOf c) × (r .counts ≡ valueOr (replicate 17 0) c) ⌝ }
+{
+    let mut counts: [u64; 17] = [0; 17];
+    let number = classes_fault(
+        limits,
+        background,
+        blocks,
+        root_links,
+        root_values,
+        upper_links,
+        upper_values,
+        lower_links,
+        lower_values,
+        leaf_values,
+        lx,
+        ly,
+        lz,
+        hx,
+        hy,
+        hz,
+    );
+    if number == 0 {
+        box_classes(
+            limits,
+            background,
+            blocks,
+            root_links,
+            root_values,
+            upper_links,
+            upper_values,
+            lower_links,
+            lower_values,
+            leaf_values,
+            lx,
+            ly,
+            lz,
+            hx,
+            hy,
+            hz,
+            &mut counts,
+        );
+    }
+    ClassCounts {
+        number: number,
+        counts: counts,
+    }
 }

@@ -1,4 +1,4 @@
-// The greatest of +0.0 and the voxels of a box, and what is read for it, over the lent tables of a grid that passed validate.
+// The greatest of +0.0 and the voxels of a box, over the lent tables of a grid that passed validate.
 // Coordinates here are biased: a coordinate plus 2^31, so that blocks and slots are plain quotients and remainders.
 ghost use mathlib.Core.Path.{_≡_};
 ghost use Prim.Native.Nat.{ℕ, _+_, _*_, _<_, _≤_};
@@ -11,10 +11,6 @@ ghost use Rattle.sparse_grid.specs.Sound.{Sound};
 ghost use Rattle.boxes.specs.Boxes.{boxMaximum, between};
 ghost use Rattle.boxes.specs.Most.{Most};
 ghost use Rattle.boxes.specs.RangeMax.{Within, Full, Ends, Clip, apart, empty, readAt, wide as wideS, CoveredIn};
-ghost use Rattle.walk.specs.Counts.{zoneIn, wordsOf, CountedTo};
-ghost use Rattle.majorant.specs.Counted.{asRead, readFor, unread};
-use crate::Counted;
-use crate::node_max::cells_along;
 use crate::node_max::greater;
 use crate::node_max::root_max;
 use boxes::Span;
@@ -22,40 +18,14 @@ use sparse_grid::biased;
 use sparse_grid::entry_of;
 use sparse_grid::lifted;
 
-// A count in two words.
-pub struct Words {
-    pub high: u64,
-    pub low: u64,
-}
-
-// What the roots so far hold of a box: its maximum, how many blocks of the box they cover, and what was read below them.
+// What the roots so far hold of a box: its maximum, and how many blocks of the box it covers.
 pub struct Covered {
     pub maximum: f32,
     pub blocks: usize,
-    pub upper: u64,
-    pub lower: u64,
-    pub leaf: Words,
-}
-
-// d more.
-fn add_words(w: Words, d: u64) -> Words
-    requires { ⌜ w .high < 18446744073709551615 ⌝ }
-    ensures { λ r. ⌜ wordsOf (r .high) (r .low) ≡ wordsOf (w .high) (w .low) + d ⌝ }
-{
-    let old = w.low;
-    let low = std::num::wrapping_add_u64(old, d);
-    let mut high = w.high;
-    if low < old {
-        high += 1;
-    }
-    Words {
-        high: high,
-        low: low,
-    }
 }
 
 // The coordinates from lo to hi, ends included.
-fn span_of(lo: i32, hi: i32) -> Span
+pub(crate) fn span_of(lo: i32, hi: i32) -> Span
     ensures { λ r. ⌜ Ends lo hi r ⌝ }
 {
     let a = biased(lo) as usize;
@@ -64,7 +34,7 @@ fn span_of(lo: i32, hi: i32) -> Span
 }
 
 // Whether some axis has no place.
-fn is_empty(x: Span, y: Span, z: Span) -> bool
+pub(crate) fn is_empty(x: Span, y: Span, z: Span) -> bool
     ensures { λ r. ⌜ r ≡ empty x y z ⌝ }
 {
     if x.hi <= x.lo {
@@ -89,7 +59,7 @@ fn lesser(a: usize, b: usize) -> usize
 }
 
 // Whether a span meets no coordinate of a block of 4,096.
-fn is_apart(block: i32, span: Span) -> bool
+pub(crate) fn is_apart(block: i32, span: Span) -> bool
     requires { ⌜ span .lo < span .hi ⌝ }
     ensures { λ r. ⌜ r ≡ apart (raised block) (span .lo) (span .hi) ⌝ }
 {
@@ -101,7 +71,7 @@ fn is_apart(block: i32, span: Span) -> bool
 }
 
 // The part of a span in a block of 4,096 coordinates.
-fn intersect_bounds(block: i32, span: Span) -> Span
+pub(crate) fn intersect_bounds(block: i32, span: Span) -> Span
     ensures { λ r. ⌜ Clip (raised block) (span .lo) (span .hi) (r .lo) (r .hi) ⌝ }
 {
     let start = lifted(block) as usize * 4096;
@@ -129,15 +99,12 @@ fn cover(
 ) -> Covered
     requires { let g = gridOf background (now blocks) (now «root_links») (now «root_values») (now «upper_links») (now «upper_values»)
         (now «lower_links») (now «lower_values») (now «leaf_values») in
-        ⌜ Sound g × (i < length (now «root_links»)) × Full x y z × (length (now «root_links») < 4294967296)
-        × CoveredIn g i x y z (covered .maximum) (covered .blocks)
-        × CountedTo g i (zoneIn x y z) (covered .blocks) (covered .upper) (covered .lower) (covered .leaf .high) (covered .leaf .low) ⌝ }
+        ⌜ Sound g × (i < length (now «root_links»)) × Full x y z × CoveredIn g i x y z (covered .maximum) (covered .blocks) ⌝ }
     ensures { λ r.
         let g = gridOf background (now (blocks .entry)) (now («root_links» .entry)) (now («root_values» .entry))
         (now («upper_links» .entry)) (now («upper_values» .entry)) (now («lower_links» .entry)) (now («lower_values» .entry))
         (now («leaf_values» .entry)) in
-        ⌜ CoveredIn g (i + 1) x y z (r .maximum) (r .blocks)
-        × CountedTo g (i + 1) (zoneIn x y z) (r .blocks) (r .upper) (r .lower) (r .leaf .high) (r .leaf .low) ⌝ }
+        ⌜ CoveredIn g (i + 1) x y z (r .maximum) (r .blocks) ⌝ }
 {
     let bx = blocks[3 * i];
     if is_apart(bx, x) {
@@ -166,37 +133,20 @@ fn cover(
         cy,
         cz,
     );
+    let maximum = greater(covered.maximum, held);
+    let count = covered.blocks + 1;
     Covered {
-        maximum: greater(covered.maximum, held.maximum),
-        blocks: covered.blocks + 1,
-        upper: covered.upper + held.upper,
-        lower: covered.lower + held.lower,
-        leaf: add_words(covered.leaf, held.leaf),
+        maximum: maximum,
+        blocks: count,
     }
 }
 
 // How many blocks a span meets.
-fn blocks_along(span: Span) -> usize
+pub(crate) fn blocks_along(span: Span) -> usize
     requires { ⌜ (span .lo < span .hi) × (span .hi ≤ 4294967296) ⌝ }
     ensures { λ r. ⌜ (r ≡ wideS (span .lo) (span .hi)) × (r ≤ 1048576) ⌝ }
 {
-    cells_along(span, 4096)
-}
-
-// The answer of a box with this maximum.
-fn counted(maximum: f32, covered: Covered) -> Counted
-    ensures { λ r. ⌜ (r .maximum ≡ maximum) × (r .roots ≡ covered .blocks) × (r .upper ≡ covered .upper) × (r .lower ≡ covered .lower)
-        × (r .high ≡ covered .leaf .high) × (r .low ≡ covered .leaf .low) ⌝ }
-{
-    let leaf = covered.leaf;
-    Counted {
-        maximum: maximum,
-        roots: covered.blocks as u64,
-        upper: covered.upper,
-        lower: covered.lower,
-        high: leaf.high,
-        low: leaf.low,
-    }
+    (span.hi - 1) / 4096 - span.lo / 4096 + 1
 }
 
 // The roots in order. Where they cover fewer blocks than the box has, some place of it lies in no root, and the background counts.
@@ -213,23 +163,19 @@ fn roots_max(
     x: Span,
     y: Span,
     z: Span,
-) -> Counted
+) -> f32
     requires { let g = gridOf background (now blocks) (now «root_links») (now «root_values») (now «upper_links») (now «upper_values»)
         (now «lower_links») (now «lower_values») (now «leaf_values») in
-        ⌜ Sound g × Full x y z × (length (now «root_links») < 4294967296) ⌝ }
+        ⌜ Sound g × Full x y z ⌝ }
     ensures { λ r.
         let g = gridOf background (now (blocks .entry)) (now («root_links» .entry)) (now («root_values» .entry))
         (now («upper_links» .entry)) (now («upper_values» .entry)) (now («lower_links» .entry)) (now («lower_values» .entry))
         (now («leaf_values» .entry)) in
-        ⌜ Most (readAt g) (Within x y z) (r .maximum)
-        × CountedTo g (length (now («root_links» .entry))) (zoneIn x y z) (r .roots) (r .upper) (r .lower) (r .high) (r .low) ⌝ }
+        ⌜ Most (readAt g) (Within x y z) r ⌝ }
 {
     let mut covered = Covered {
         maximum: 0.0f32,
         blocks: 0,
-        upper: 0,
-        lower: 0,
-        leaf: Words { high: 0, low: 0 },
     };
     let mut i: usize = 0;
     while i < root_links.len() {
@@ -255,76 +201,12 @@ fn roots_max(
     let count = covered.blocks;
     let total = blocks_along(x) * (blocks_along(y) * blocks_along(z));
     if count < total {
-        return counted(greater(maximum, background), covered);
+        return greater(maximum, background);
     }
-    counted(maximum, covered)
+    maximum
 }
 
-// What is found in an empty box.
-fn nothing() -> Counted
-    ensures { λ r. ⌜ asRead r ≡ unread ⌝ }
-{
-    Counted {
-        maximum: 0.0f32,
-        roots: 0,
-        upper: 0,
-        lower: 0,
-        high: 0,
-        low: 0,
-    }
-}
-
-// The greatest of +0.0 and the voxels from the low corner to the high one, ends included, and what is read for it. Where low is above high on some axis,
-// +0.0 and nothing.
-pub(crate) fn range_max_counted(
-    background: f32,
-    blocks: &[i32],
-    root_links: &[u32],
-    root_values: &[f32],
-    upper_links: &[u32],
-    upper_values: &[f32],
-    lower_links: &[u32],
-    lower_values: &[f32],
-    leaf_values: &[f32],
-    lx: i32,
-    ly: i32,
-    lz: i32,
-    hx: i32,
-    hy: i32,
-    hz: i32,
-) -> Counted
-    requires { let g = gridOf background (now blocks) (now «root_links») (now «root_values») (now «upper_links») (now «upper_values»)
-        (now «lower_links») (now «lower_values») (now «leaf_values») in
-        ⌜ validate g ≡ 0 ⌝ }
-    ensures { λ r.
-        let g = gridOf background (now (blocks .entry)) (now («root_links» .entry)) (now («root_values» .entry))
-        (now («upper_links» .entry)) (now («upper_values» .entry)) (now («lower_links» .entry)) (now («lower_values» .entry))
-        (now («leaf_values» .entry)) in
-        ⌜ asRead r ≡ readFor g (between lx ly lz hx hy hz) ⌝ }
-{
-    let x = span_of(lx, hx);
-    let y = span_of(ly, hy);
-    let z = span_of(lz, hz);
-    if is_empty(x, y, z) {
-        return nothing();
-    }
-    roots_max(
-        background,
-        blocks,
-        root_links,
-        root_values,
-        upper_links,
-        upper_values,
-        lower_links,
-        lower_values,
-        leaf_values,
-        x,
-        y,
-        z,
-    )
-}
-
-// The same, without what is read.
+// The greatest of +0.0 and the voxels from the low corner to the high one, ends included; +0.0 where low is above high on some axis.
 pub(crate) fn range_max(
     background: f32,
     blocks: &[i32],
@@ -351,7 +233,13 @@ pub(crate) fn range_max(
         (now («leaf_values» .entry)) in
         ⌜ r ≡ boxMaximum (readIn g) (between lx ly lz hx hy hz) ⌝ }
 {
-    let found = range_max_counted(
+    let x = span_of(lx, hx);
+    let y = span_of(ly, hy);
+    let z = span_of(lz, hz);
+    if is_empty(x, y, z) {
+        return 0.0f32;
+    }
+    roots_max(
         background,
         blocks,
         root_links,
@@ -361,12 +249,8 @@ pub(crate) fn range_max(
         lower_links,
         lower_values,
         leaf_values,
-        lx,
-        ly,
-        lz,
-        hx,
-        hy,
-        hz,
-    );
-    found.maximum
+        x,
+        y,
+        z,
+    )
 }

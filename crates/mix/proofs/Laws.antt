@@ -3,11 +3,11 @@ use mathlib.Core.Path.{_≡_, refl, sym, ap, _∙_}
 use mathlib.Core.Bool.{Bool, true, false, _&&_}
 use mathlib.Core.List.{List, [], _∷_, _++_}
 use Prim.Native.Nat.{ℕ, zero, suc, _+_, _*_, _^_, _≤_, _<_}
-use native.Mathlib.Nat.{le-of-eq}
+use native.Mathlib.Nat.{le-of-eq, lt-of-le-of-lt}
 use native.Mathlib.Numerals.{add-one}
 use native.Mathlib.Omega.{arith}
 use lib.IntN.{ℤ}
-use lib.Signed.{mag}
+use lib.Signed.{mag, mag-shr, shrZ}
 use lib.Dec.{eqb, eqb→eq}
 use lib.ListN.{length, take, set, replicate, length-set}
 use lib.Seq.{take-suc-set, take-all}
@@ -48,6 +48,10 @@ seen a p = toZ-ofZ {w = w32} {z = a} (record { sfits = p })
 
 abbrev pub held : ℤ → ℤ
 held a = toZ w32 (ofZ w32 a)
+
+-- a number shifted, which is handed on as bits
+pub shifted : (a : ℤ) → mag a < 2 ^ 31 → held (shrZ a 8) ≡ shrZ a 8
+shifted a p = seen (shrZ a 8) (lt-of-le-of-lt (mag-shr a 8) p)
 
 -- what is read at a coordinate that is handed on as bits
 pub read-at : (read : Coord → Float) (x y z : ℤ) → mag x < 2 ^ 31 → mag y < 2 ^ 31 → mag z < 2 ^ 31

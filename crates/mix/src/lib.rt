@@ -8,6 +8,7 @@ ghost use Rattle.sparse_grid.specs.Answers.{answer};
 ghost use Rattle.medium.specs.Record.{asMedium};
 ghost use Rattle.mix.specs.Density.{densityAt, mixFault, densitiesInto};
 
+mod cube;
 mod list;
 mod point;
 

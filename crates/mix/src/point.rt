@@ -12,6 +12,8 @@ ghost use Rattle.index.specs.Sides.{sidesOf};
 ghost use Rattle.mix.specs.Mix.{lerp as lerpS, part as partS};
 ghost use Rattle.mix.specs.Density.{outsideFault, densityBy};
 ghost use Rattle.mix.specs.Inner.{sided, blended, onZ, onY, onX};
+use crate::cube::cube_x;
+use crate::cube::shares;
 use float::float_of;
 use float::narrow;
 use float::widen;
@@ -21,6 +23,7 @@ use medium::Medium;
 use refusals::both;
 use refusals::first_fault;
 use sparse_grid::Answer;
+use sparse_grid::get_spot;
 use sparse_grid::get_value;
 
 // The voxels on either side of a position on one axis, and the part of the way between them; or the fault.
@@ -38,7 +41,7 @@ pub struct Blend {
 }
 
 // (1 - t) * a + t * b.
-fn lerp(a: f32, b: f32, t: f32) -> f32
+pub(crate) fn lerp(a: f32, b: f32, t: f32) -> f32
     ensures { λ r. ⌜ r ≡ lerpS a b t ⌝ }
 {
     (1.0 - t) * a + t * b
@@ -283,6 +286,59 @@ fn along_x(
     lerp(a, b, i.t)
 }
 
+// The mix between three pairs of sides. Voxels in one cube of 8, as most are, share the way down the tables.
+fn mixed_at(
+    background: f32,
+    blocks: &[i32],
+    root_links: &[u32],
+    root_values: &[f32],
+    upper_links: &[u32],
+    upper_values: &[f32],
+    lower_links: &[u32],
+    lower_values: &[f32],
+    leaf_values: &[f32],
+    i: Side,
+    j: Side,
+    k: Side,
+) -> f32
+    ensures { λ r.
+        let g = gridOf background (now (blocks .entry)) (now («root_links» .entry)) (now («root_values» .entry))
+        (now («upper_links» .entry)) (now («upper_values» .entry)) (now («lower_links» .entry)) (now («lower_values» .entry))
+        (now («leaf_values» .entry)) in
+        ⌜ r ≡ onX (readIn g) i j k ⌝ }
+{
+    if both(both(shares(i), shares(j)), shares(k)) {
+        let spot = get_spot(
+            background,
+            blocks,
+            root_links,
+            root_values,
+            upper_links,
+            upper_values,
+            lower_links,
+            lower_values,
+            i.lo,
+            j.lo,
+            k.lo,
+        );
+        return cube_x(leaf_values, spot, i, j, k);
+    }
+    along_x(
+        background,
+        blocks,
+        root_links,
+        root_values,
+        upper_links,
+        upper_values,
+        lower_links,
+        lower_values,
+        leaf_values,
+        i,
+        j,
+        k,
+    )
+}
+
 fn refusal(fault: u32) -> Blend
     ensures { λ r. ⌜ r .fault ≡ fault ⌝ }
 {
@@ -327,7 +383,7 @@ pub(crate) fn density(
     if fault != 0 {
         return refusal(fault);
     }
-    let mixed = along_x(
+    let mixed = mixed_at(
         background,
         blocks,
         root_links,

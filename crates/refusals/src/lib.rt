@@ -51,6 +51,8 @@ pub const CELLS: u32 = 23;
 
 pub const OUTSIDE: u32 = 24;
 
+pub const CLASSES: u32 = 25;
+
 pub const WINDOW: u32 = 26;
 
 pub const TEMPERATURE: u32 = 27;

@@ -1,2 +1,3 @@
 pub mod Fields
+pub mod Counting
 pub mod Whole

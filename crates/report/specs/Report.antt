@@ -98,24 +98,36 @@ unfoldable pub longLine : List ℕ
 unfolding longWord
 longLine = longWord ++ newline
 
--- ---- the whole text
+-- ---- what both programs do with their input
 
--- of an input of n bytes: a refusal prints one line alone
-unfoldable pub textOf : ℕ → Result Accepted → List ℕ
-unfolding gridLine nodesLine boxLine backLine rootLines refusedLine
-textOf n (ok t) =
+-- 999 roots, no nodes and a work table of two spans
+abbrev pub lent : Lent
+lent = record { blocks = 2997; rootLinks = 999; rootValues = 999; upperLinks = 0; upperValues = 0; lowerLinks = 0; lowerValues = 0; leafValues = 0; work = 8 }
+
+-- a grid has its text; a refusal prints one line alone
+unfoldable pub resultText : (ℕ → Accepted → List ℕ) → ℕ → Result Accepted → List ℕ
+unfolding refusedLine
+resultText text n (ok t) = text n t
+resultText text n (refused k) = refusedLine k
+
+-- the text of an input, where a grid of n bytes has the text that is given; more than 32,768 bytes are not read
+unfoldable pub printedOf : (ℕ → Accepted → List ℕ) → List ℕ → List ℕ
+unfolding resultText decodeInto decodeDensity longLine
+printedOf text b = cond (leb (length b) 32768) (resultText text (length b) (decodeInto decodeDensity b lent)) longLine
+
+-- ---- the report
+
+-- of a grid of n bytes
+unfoldable pub gridText : ℕ → Accepted → List ℕ
+unfolding gridLine nodesLine boxLine backLine rootLines
+gridText n t =
     let g = t .grid in
     gridLine n
     ++ (nodesLine (length (g .rootLinks)) (length (g .upperLinks) / 32768) (length (g .lowerLinks) / 4096) (length (g .leafValues) / 512)
     ++ (boxLine (t .medium)
     ++ (backLine (g .background)
     ++ rootLines g (length (g .rootLinks)))))
-textOf n (refused k) = refusedLine k
-
--- 999 roots, no nodes and a work table of two spans
-abbrev pub lent : Lent
-lent = record { blocks = 2997; rootLinks = 999; rootValues = 999; upperLinks = 0; upperValues = 0; lowerLinks = 0; lowerValues = 0; leafValues = 0; work = 8 }
 
 unfoldable pub reportOf : List ℕ → List ℕ
-unfolding textOf decodeInto decodeDensity longLine
-reportOf b = cond (leb (length b) 32768) (textOf (length b) (decodeInto decodeDensity b lent)) longLine
+unfolding printedOf gridText
+reportOf b = printedOf gridText b

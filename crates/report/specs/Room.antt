@@ -26,7 +26,7 @@ use Rattle.nanovdb.specs.Passed.{density-passed}
 use Rattle.nanovdb.specs.Lent.{lentFault, placesOf, Answer, answerOf, decodeInto}
 use Rattle.text.specs.Lengths.{decimal-length, signed-length, sixteens-length}
 use Rattle.report.specs.Report.{gridWord, nodesWord, boxWord, backWord, rootWord, refusedWord, newline, number, coordinate, triple, bits}
-use Rattle.report.specs.Report.{gridLine, nodesLine, boxLine, backLine, rootLine, rootLines, refusedLine, longLine, textOf, lent, reportOf}
+use Rattle.report.specs.Report.{gridLine, nodesLine, boxLine, backLine, rootLine, rootLines, refusedLine, longLine, lent, gridText}
 
 -- the counts and the number of an answer that the code holds are u64
 pub record Counted (a : Answer) : Type 0 where
@@ -39,19 +39,19 @@ pub record Counted (a : Answer) : Type 0 where
 pub record Within (l : List ℕ) (n : ℕ) : Type 0 where
   pub most : length l ≤ n
 
-within : (l : List ℕ) (n : ℕ) → length l ≤ n → Within l n
+pub within : (l : List ℕ) (n : ℕ) → length l ≤ n → Within l n
 within l n h = record { most = h }
 
 -- two texts, one after the other
-both : {xs ys : List ℕ} {m n : ℕ} → Within xs m → Within ys n → Within (xs ++ ys) (m + n)
+pub both : {xs ys : List ℕ} {m n : ℕ} → Within xs m → Within ys n → Within (xs ++ ys) (m + n)
 both {xs} {ys} h k = record { most = omega (arith, h .most, k .most, length-append xs ys) }
 
-end : Within newline 1
+pub end : Within newline 1
 end = within newline 1 (omega arith)
 
 -- ---- the parts of a line
 
-number-room : (n : ℕ) → n < 2 ^ 64 → Within (number n) 21
+pub number-room : (n : ℕ) → n < 2 ^ 64 → Within (number n) 21
 unfolding number
 number-room n h = within (number n) 21 (omega (arith, decimal-length 20 n (omega arith) (omega arith)))
 
@@ -102,7 +102,7 @@ roots-room g (suc n) h =
       root-room (blockAt g n) (getD (g .rootValues) n +0) (h n (omega arith)) .most,
     )
 
-refused-room : (n : ℕ) → n < 2 ^ 64 → Within (refusedLine n) 29
+pub refused-room : (n : ℕ) → n < 2 ^ 64 → Within (refusedLine n) 29
 unfolding refusedLine refusedWord
 refused-room n h = both (within refusedWord 7 (omega arith)) (both (number-room n h) end)
 
@@ -144,13 +144,12 @@ high-corner b h =
       z = signed-mag _ (u32-below b (at + 20) h);
     }
 
--- ---- the text
+-- ---- the text of a grid
 
-text-room : (b : List ℕ) → ((i : ℕ) → getD b i 0 < 256) → length b ≤ 32768
-    → (r : Result Accepted) → decodeInto decodeDensity b lent ≡ r → Counted (answerOf r) → answerOf r .roots ≤ 999
-    → length (textOf (length b) r) ≤ 65536
-unfolding textOf decodeInto
-text-room b bytes size (ok t) e counted few =
+pub grid-text-room : (b : List ℕ) → ((i : ℕ) → getD b i 0 < 256) → length b ≤ 32768 → (t : Accepted) → decodeInto decodeDensity b lent ≡ ok t
+    → Counted (answerOf (ok t)) → answerOf (ok t) .roots ≤ 999 → length (gridText (length b) t) ≤ 65536
+unfolding gridText decodeInto
+grid-text-room b bytes size t e counted few =
     let g = t .grid in
     let q = density-passed b (placesOf lent) t (passing-ok (lentFault lent) (decodeDensity b (placesOf lent)) e .1) .0 in
     let block : (i : ℕ) → i < length (g .rootLinks) → Signed32 (blockAt g i) = λ i l.
@@ -168,13 +167,3 @@ text-room b bytes size (ok t) e counted few =
     (both (box-room (t .medium) low high)
     (both (back-room (g .background)) (within (rootLines g (length (g .rootLinks))) 49950 (omega arith))))) in
     omega (arith, all .most)
-text-room b bytes size (refused k) e counted few = omega (arith, refused-room k (counted .number) .most)
-
--- 65,536 bytes hold the report, where the numbers of the decode's answer are u64
-pub report-room : (b : List ℕ) {a : Answer} → ((i : ℕ) → getD b i 0 < 256) → length b ≤ 32768
-    → a ≡ answerOf (decodeInto decodeDensity b lent) → Counted a → a .roots ≤ 999 → length (reportOf b) ≤ 65536
-unfolding reportOf
-report-room b bytes size d counted few =
-    let read = decodeInto decodeDensity b lent in
-    subst (λ (t : Bool). length (cond t (textOf (length b) read) longLine) ≤ 65536) (sym (le-leb (length b) 32768 size))
-    (text-room b bytes size read refl (subst Counted d counted) (subst (λ (x : Answer). x .roots ≤ 999) d few))

@@ -9,6 +9,7 @@ ghost use Rattle.sparse_grid.specs.Tables.{blockAt};
 ghost use Rattle.text.specs.Page.{page, puts};
 ghost use Rattle.report.specs.Report.{number, coordinate, triple, bits};
 ghost use Rattle.report.specs.Report.{gridLine, nodesLine, boxLine, backLine, rootLine, rootLines, refusedLine, longLine};
+ghost use Rattle.report.specs.ClassReport.{classLine, totalLine};
 ghost use Rattle.report.specs.Inner.{coordOf, rootsIn};
 use medium::Medium;
 
@@ -152,4 +153,22 @@ pub(crate) fn put_long(out: &mut [u8], at: usize) -> usize
 {
     let second = text::put_bytes(out, at, b"long");
     text::put_byte(out, second, NEWLINE)
+}
+
+// Class k, and how many coordinates it has.
+pub(crate) fn put_class(out: &mut [u8], at: usize, k: u64, n: u64) -> usize
+    ensures { λ r. ⌜ page (now (out .exit)) r ≡ puts (page (now (out .entry)) at) (classLine k n) ⌝ }
+{
+    let second = text::put_bytes(out, at, b"class");
+    let third = put_number(out, second, k);
+    let fourth = put_number(out, third, n);
+    text::put_byte(out, fourth, NEWLINE)
+}
+
+pub(crate) fn put_total(out: &mut [u8], at: usize, n: u64) -> usize
+    ensures { λ r. ⌜ page (now (out .exit)) r ≡ puts (page (now (out .entry)) at) (totalLine n) ⌝ }
+{
+    let second = text::put_bytes(out, at, b"total");
+    let third = put_number(out, second, n);
+    text::put_byte(out, third, NEWLINE)
 }

@@ -5,4 +5,5 @@ pub mod Taken
 pub mod Mixing
 pub mod Windows
 pub mod Rayed
+pub mod Classed
 pub mod Counting

@@ -1,5 +1,6 @@
 -- Definitions that the contracts cite.
 pub mod Flat
+pub mod FlatClasses
 pub mod FlatCounted
 pub mod FlatHeat
 pub mod FlatRay

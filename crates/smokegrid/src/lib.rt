@@ -13,14 +13,16 @@ ghost use Rattle.smokegrid.specs.Flat.{Arrays};
 ghost use Rattle.smokegrid.specs.FlatRay.{beam};
 ghost use Rattle.smokegrid.specs.FlatTables.{windowArrays};
 ghost use Rattle.smokegrid.specs.Promises.{Decodes, GetsValue, GetsReading, BoxMaximum, BoxMaxima, WorldToIndex, MixesAt, Builds, GivesPart};
-ghost use Rattle.smokegrid.specs.Promises.{CountsBox, LoadsTemperature, GetsTemperature};
+ghost use Rattle.smokegrid.specs.Promises.{CountsBox, CountsClasses, LoadsTemperature, GetsTemperature};
 ghost use Rattle.smokegrid.specs.Promises.{OpensRay, NextPiece, PrintsLayer, OpensWindow, PushesTable};
 
+mod classes;
 mod counted;
 mod flat;
 mod ray;
 mod tables;
 
+use classes::put_classes;
 use contents::Picked;
 use counted::put_read;
 use flat::flat_fault;
@@ -37,6 +39,7 @@ use majorant::box_maxima;
 use majorant::box_maximum;
 use majorant::box_maximum_counted;
 use majorant::build_majorant;
+use majorant::count_classes;
 use medium::Temperature;
 use mix::mix;
 use ray::one_if;
@@ -564,6 +567,61 @@ pub extern "C" fn smokegrid_box_maximum_counted(
         }
         CountedAnswer::Refused(number) => number,
     }
+}
+
+// How many coordinates from the low corner to the high one lie in each class into `counts` (17, zero past the last class), and 0; or the number of the
+// refusal, and zeros: 18 first, for counts of another length than 17.
+#[no_mangle]
+pub extern "C" fn smokegrid_count_classes(
+    background: f32,
+    blocks: &[i32],
+    root_links: &[u32],
+    root_values: &[f32],
+    upper_links: &[u32],
+    upper_values: &[f32],
+    lower_links: &[u32],
+    lower_values: &[f32],
+    leaf_values: &[f32],
+    limits: &[f32],
+    lx: i32,
+    ly: i32,
+    lz: i32,
+    hx: i32,
+    hy: i32,
+    hz: i32,
+    counts: &mut [u64],
+) -> u32
+    ensures { λ r.
+        let g = gridOf background
+        (now (blocks .entry)) (now («root_links» .entry)) (now («root_values» .entry)) (now («upper_links» .entry))
+        (now («upper_values» .entry)) (now («lower_links» .entry)) (now («lower_values» .entry)) (now («leaf_values» .entry)) in
+        ⌜ CountsClasses g (now (limits .entry)) (between lx ly lz hx hy hz) (length (now (counts .entry))) r (now (counts .exit)) ⌝ }
+{
+    zero_u64(counts);
+    if counts.len() != 17 {
+        return refusals::TABLES;
+    }
+    let r = count_classes(
+        background,
+        blocks,
+        root_links,
+        root_values,
+        upper_links,
+        upper_values,
+        lower_links,
+        lower_values,
+        leaf_values,
+        limits,
+        lx,
+        ly,
+        lz,
+        hx,
+        hy,
+        hz,
+    );
+    let c = r.counts;
+    put_classes(counts, c);
+    r.number
 }
 
 // The greatest of +0.0 and the values of each box of a list (six numbers a box, minima first) into `maxima`, the greatest of the list through `greatest`,

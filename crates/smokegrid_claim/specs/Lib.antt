@@ -7,6 +7,7 @@ pub mod MixThroughC
 -- Laws.
 pub mod Passed
 pub mod Loads
+pub mod ByClass
 pub mod Back
 pub mod Theorem
 pub mod FileTheorem

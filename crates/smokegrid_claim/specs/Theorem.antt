@@ -11,12 +11,15 @@ use Rattle.refusals.specs.Results.{Result, ok, numberOf, valueOr}
 use Rattle.refusals.specs.Faults.{unless, passing}
 use Rattle.float.specs.Zero.{+0}
 use Rattle.layout.specs.Bytes.{Bytes}
+use Rattle.layout.specs.Coordinates.{Coord, Signed32}
 use Rattle.layout.specs.Walk.{voxel}
 use Rattle.sparse_grid.specs.Tables.{Grid}
+use Rattle.sparse_grid.specs.Lookup.{readIn, valueIn}
 use Rattle.sparse_grid.specs.Answers.{Spoken, unspoken, levelNumber}
 use Rattle.medium.specs.Medium.{Medium, Point, mapFault}
 use Rattle.nanovdb.specs.Decode.{Accepted, decodeDensity, mediumOf, mediumAt}
 use Rattle.nanovdb.specs.Lent.{Lent, placesOf, decodeInto}
+use Rattle.nanovdb.specs.Lookups.{reads}
 use Rattle.nanovdb.specs.Passed.{density-passed}
 use Rattle.nanovdb.specs.UsedLaws.{accepts}
 use Rattle.index.specs.Index.{worldToIndex}
@@ -35,6 +38,7 @@ use Rattle.smokegrid.specs.Promises.{Left}
 use Rattle.smokegrid_claim.specs.ThroughC.{used, Fits, KeepsC, ThroughC}
 use Rattle.smokegrid_claim.specs.Passed.{passed}
 use Rattle.smokegrid_claim.specs.Loads.{load}
+use Rattle.smokegrid_claim.specs.ByClass.{classed}
 use Rattle.smokegrid_claim.specs.Back.{flat, left-is, used-back, fits-back, medium-alike}
 
 -- ---- a build and an index position from flat arrays
@@ -61,6 +65,9 @@ module _ (b : List ℕ) (bytes : Bytes b) (l : Lent) (t : Accepted) (e : decodeI
       ap (λ (m : Medium). indexFlat (floatsOf m) p 3) (same-medium b bytes l t e)
       ∙ flat-index b p (density-passed b (placesOf l) t (accepts b l t e) .0 .mapped)
 
+  read : (c : Coord) → Signed32 c → readIn (t .grid) c ≡ voxel b c
+  read c s = ap valueIn (reads b bytes (placesOf l) t (accepts b l t e) c s .0)
+
   keeps : KeepsC b (t .grid) (floatsOf (t .medium))
   keeps = record {
     lookups = λ c s number value G.
@@ -80,6 +87,8 @@ module _ (b : List ℕ) (bytes : Bytes b) (l : Lent) (t : Accepted) (e : decodeI
         let (v, greatest) = holds .maxima x lo hi in
         let L = load (t .grid) x v number value counts C in
         (L .number-is, L .value-is, subst (Greatest (voxel b) x) (sym (L .value-is)) greatest, L .read-is, L .no-dearer);
+    classes = λ limits x lo hi L S number counts C.
+        classed (t .grid) (voxel b) read (density-passed b (placesOf l) t (accepts b l t e) .0 .valid) limits x lo hi L S number counts C;
     lists = λ boxes n long signed number maxima greatest M.
         let all = listed b t holds boxes n long signed in
         let is = M .greatest-is ∙ ap (valueOr +0) (listed-greatest b t holds boxes n long signed) in (

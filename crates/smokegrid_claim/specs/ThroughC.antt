@@ -17,12 +17,13 @@ use Rattle.medium.specs.Record.{cellsOf}
 use Rattle.nanovdb.specs.Lent.{Lent}
 use Rattle.boxes.specs.Boxes.{Box, InSome, GreatestOver, Greatest, boxMaximum}
 use Rattle.walk.specs.Walk.{CubeBox}
+use Rattle.walk.specs.Classes.{classCount, limitsFault, sidesFault, listed}
 use Rattle.majorant.specs.Maxima.{boxAt, maximaOf}
 use Rattle.majorant.specs.Counted.{Read, readFor, NoDearer}
 use Rattle.claim.specs.Claim.{Inside, Bounds}
 use Rattle.claim.specs.Contracts.{SignedBoxes, indexOf}
 use Rattle.smokegrid.specs.Flat.{Arrays}
-use Rattle.smokegrid.specs.Promises.{Left, Decodes, GetsValue, GetsReading, BoxMaximum, CountsBox, BoxMaxima, WorldToIndex, Builds}
+use Rattle.smokegrid.specs.Promises.{Left, Decodes, GetsValue, GetsReading, BoxMaximum, CountsBox, CountsClasses, BoxMaxima, WorldToIndex, Builds}
 
 -- the used parts: three numbers of `blocks` a root, and 32,768, 4,096 and 512 places an upper, lower and leaf node, as counted
 abbrev pub used : Left → Grid
@@ -77,6 +78,10 @@ pub record KeepsC (b : List ℕ) (g : Grid) (medium : List Float) : Type 0 where
   pub loads : (x : Box) → Signed32 (x .lo) → Signed32 (x .hi) → (number : ℕ) (value : Float) (counts : List ℕ) → CountsBox g x 5 number value counts
       → (number ≡ 0) × (value ≡ boxMaximum (voxel b) x) × Greatest (voxel b) x value × (readOf value counts ≡ readFor g x)
       × ((n : ℕ) → CubeBox n x → NoDearer n (readOf value counts))
+  -- a count by classes whose limits and sides pass is not refused, and each of its counts is that of the voxels of the box
+  pub classes : (limits : List Float) (x : Box) → Signed32 (x .lo) → Signed32 (x .hi) → limitsFault limits ≡ 0 → sidesFault x ≡ 0
+      → (number : ℕ) (counts : List ℕ) → CountsClasses g limits x 17 number counts
+      → (number ≡ 0) × (counts ≡ listed 17 0 (classCount (voxel b) limits x))
   -- a list of boxes six to a place is not refused: each maximum is that of its box, and the greatest that of the boxes together
   pub lists : (boxes : List ℤ) (n : ℕ) → length boxes ≡ 6 * n → SignedBoxes boxes n → (number : ℕ) (maxima : List Float) (greatest : Float)
       → BoxMaxima g boxes n number maxima greatest

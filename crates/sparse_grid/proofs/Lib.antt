@@ -5,3 +5,4 @@ pub mod Blocks
 pub mod Whole
 pub mod Nodes
 pub mod Rising
+pub mod Sharing

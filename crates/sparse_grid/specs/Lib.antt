@@ -3,6 +3,8 @@ pub mod Validate
 pub mod Lookup
 pub mod Count
 pub mod Answers
+pub mod Spots
+pub mod SpotLaws
 pub mod Biased
 pub mod BiasedLaws
 pub mod TableLaws

@@ -1,18 +1,22 @@
 // A sparse grid of lent tables: entries, validate, validate_density, get_reading, get_value (sparse_grid.rs).
 // A grid is its background and eight tables side by side, always in this order. A root's block is three numbers of `blocks`.
 ghost use mathlib.Core.Path.{_≡_};
-ghost use mathlib.Core.List.{[]};
+ghost use mathlib.Core.List.{List, []};
+ghost use lib.Ieee.{Float};
+ghost use Rattle.layout.specs.Coordinates.{Coord};
 ghost use Rattle.refusals.specs.Results.{said};
 ghost use Rattle.float.specs.Zero.{+0};
 ghost use Rattle.sparse_grid.specs.Tables.{gridOf, entryOf};
 ghost use Rattle.sparse_grid.specs.Biased.{back, raised};
 ghost use Rattle.sparse_grid.specs.Validate.{validate as validateS, densityFault, validateDensity};
-ghost use Rattle.sparse_grid.specs.Lookup.{lookup as lookupS};
+ghost use Rattle.sparse_grid.specs.Lookup.{lookup as lookupS, readIn};
+ghost use Rattle.sparse_grid.specs.Spots.{leavesOf, readFrom, Cube};
 ghost use Rattle.sparse_grid.specs.Answers.{answer, valueOnly, saying, unspoken, spoken, levelOf, at};
 ghost use Rattle.sparse_grid.specs.Inner.{rootOf, Has, levelAt};
 
 mod faults;
 mod lookup;
+mod shared;
 
 use faults::contents_fault;
 use faults::negative_fault;
@@ -22,6 +26,8 @@ use faults::tables_fault;
 use lookup::below;
 use lookup::place_of;
 use lookup::root_for;
+use shared::in_leaf;
+use shared::root_spot;
 
 // What stands at a slot of a node or beside a root's block: the number of a child, or a value for every coordinate below it.
 pub enum Entry {
@@ -55,6 +61,13 @@ pub enum Level {
 // What a lookup reads and at which level, or the number of its refusal.
 pub enum Reading {
     Value(f32, Level),
+    Refused(u32),
+}
+
+// Where a lookup ends for all coordinates of a cube of 8: in leaf k, or at one value; or the number of its refusal.
+pub enum Spot {
+    InLeaf(u32),
+    Same(f32),
     Refused(u32),
 }
 
@@ -290,6 +303,66 @@ pub fn get_reading(
     }
     let spoke = level_of(level);
     Reading::Value(value, spoke)
+}
+
+// The way of a lookup down to a leaf. What `readFrom` reads from there on is what a lookup reads, at each coordinate of the cube of 8.
+pub fn get_spot(
+    background: f32,
+    blocks: &[i32],
+    root_links: &[u32],
+    root_values: &[f32],
+    upper_links: &[u32],
+    upper_values: &[f32],
+    lower_links: &[u32],
+    lower_values: &[f32],
+    x: i32,
+    y: i32,
+    z: i32,
+) -> Spot
+    ensures { λ r. ⌜ ((leaves : List Float) (c : Coord) → Cube c (at x y z)
+        → let g = gridOf background (now (blocks .entry)) (now («root_links» .entry)) (now («root_values» .entry))
+        (now («upper_links» .entry)) (now («upper_values» .entry)) (now («lower_links» .entry)) (now («lower_values» .entry)) leaves in
+        readFrom g r c ≡ readIn g c) ⌝ }
+{
+    let mut root: usize = 0;
+    let fault = root_for(
+        blocks,
+        root_links,
+        root_values,
+        upper_links,
+        upper_values,
+        lower_links,
+        lower_values,
+        x,
+        y,
+        z,
+        &mut root,
+    );
+    if fault != 0 {
+        return Spot::Refused(fault);
+    }
+    root_spot(
+        background,
+        root_links,
+        root_values,
+        upper_links,
+        upper_values,
+        lower_links,
+        lower_values,
+        root,
+        place_of(x, y, z),
+    )
+}
+
+// What is read at a coordinate from a spot on, and +0.0 after a refusal.
+pub fn read_spot(leaf_values: &[f32], spot: Spot, x: i32, y: i32, z: i32) -> f32
+    ensures { λ r. ⌜ r ≡ readFrom (leavesOf (now («leaf_values» .entry))) spot (at x y z) ⌝ }
+{
+    match spot {
+        Spot::InLeaf(k) => in_leaf(leaf_values, k, place_of(x, y, z)),
+        Spot::Same(v) => v,
+        Spot::Refused(_) => 0.0,
+    }
 }
 
 // `get_reading` without the level.

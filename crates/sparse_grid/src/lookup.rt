@@ -119,7 +119,13 @@ pub(crate) fn root_for(
 
 // Each of these stores the value that it reads and the number of its level and answers 0, or answers the number of its refusal.
 // An enum would be packed into one word and taken apart again at every step.
-fn leaf_at(leaf_values: &[f32], k: u32, place: Place, value: &mut f32, level: &mut u32) -> u32
+pub(crate) fn leaf_at(
+    leaf_values: &[f32],
+    k: u32,
+    place: Place,
+    value: &mut f32,
+    level: &mut u32,
+) -> u32
     ensures { λ r.
         let g = nodesOf [] [] [] [] (now («leaf_values» .entry)) in
         ⌜ told r (now (value .exit)) (now (level .exit)) ≡ leafAt g k (placed place) ⌝ }

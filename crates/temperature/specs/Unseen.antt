@@ -1,4 +1,4 @@
--- Nothing that comes of the density grid sees the temperature: records that differ in it alone give equal tables, rays and positions. Assumes nothing.
+-- Nothing that comes of the density grid sees the temperature: records that differ in it alone give equal tables, rays, positions and mixes. Assumes nothing.
 use Prim.Native.Nat.{ℕ, zero, suc}
 use mathlib.Core.Path.{_≡_, refl, sym, ap, _∙_}
 use mathlib.Core.List.{List, [], _∷_, _++_}
@@ -15,6 +15,7 @@ use Rattle.index.specs.Cells.{corner, Ends, firstEnds, secondEnds}
 use Rattle.index.specs.Answers.{indexBits}
 use Rattle.rays.specs.Ray.{State}
 use Rattle.rays.specs.Open.{Beam, openRay}
+use Rattle.mix.specs.Density.{densityAt, densityBy, mixBetween}
 use Rattle.boxes.specs.Boxes.{Box, boxMaximum}
 use Rattle.majorant.specs.Figures.{boxOf, figure, figures}
 use Rattle.majorant.specs.Build.{build, buildInto}
@@ -75,12 +76,13 @@ unfolding build boundsFault indexFault mapFault
 build-unseen g m =
     ap (passing (validate g then densityFault g then mediumFault m)) (figures-unseen (boxMaximum (readIn g)) (m .cells) (cellCount (m .cells)) m)
 
--- ---- together: a build's number and table, an opened ray, from which every piece comes without the record, and a position
+-- ---- together: a build's number and table, an opened ray, from which every piece comes without the record, a position and a mix
 
 pub record Same (m n : Medium) : Type 1 where
   pub tables : (g : Grid) (places : ℕ) → buildInto g m places ≡ buildInto g n places
   pub rays : (b : Beam) (places : ℕ) → openRay m b places ≡ openRay n b places
   pub positions : (p : Point) → indexBits m p ≡ indexBits n p
+  pub mixes : (g : Grid) (p : Point) → densityAt g m p ≡ densityAt g n p
   pub others : {A : Type 0} (f : Medium → A) → OfTheRest f → f m ≡ f n
 
 into-unseen : (g : Grid) (places : ℕ) → OfTheRest (λ (m : Medium). buildInto g m places)
@@ -91,10 +93,15 @@ ray-unseen : (b : Beam) (places : ℕ) → OfTheRest (λ (m : Medium). openRay m
 unfolding openRay boundsFault
 ray-unseen b places m = refl
 
+mix-unseen : (g : Grid) (p : Point) → OfTheRest (λ (m : Medium). densityAt g m p)
+unfolding densityAt densityBy mixBetween boundsFault mapFault worldToIndex
+mix-unseen g p m = refl
+
 pub temperature-unseen : (m n : Medium) → ButTemperature m n → Same m n
 temperature-unseen m n e = record {
   tables = λ g places. unseen (λ (m : Medium). buildInto g m places) (into-unseen g places) m n e;
   rays = λ b places. unseen (λ (m : Medium). openRay m b places) (ray-unseen b places) m n e;
   positions = λ p. unseen (λ (m : Medium). indexBits m p) (position-unseen p) m n e;
+  mixes = λ g p. unseen (λ (m : Medium). densityAt g m p) (mix-unseen g p) m n e;
   others = λ f rest. unseen f rest m n e;
 }

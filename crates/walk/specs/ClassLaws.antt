@@ -8,13 +8,18 @@ use mathlib.Core.List.{List, [], _∷_}
 use lib.Dec.{eqb}
 use borrow.Author.Tests.{eq-eqb, ne-eqb}
 use lib.IntN.{pos, _+ℤ_}
-use lib.ListN.{length, getD}
+use lib.ListN.{length, getD, replicate, length-replicate}
 use lib.Ieee.{Float, lt}
+use Rattle.refusals.specs.Results.{ok, valueOr}
+use Rattle.refusals.specs.Faults.{_then_, passing}
 use Rattle.float.specs.Zero.{+0}
 use Rattle.layout.specs.Coordinates.{Coord}
+use Rattle.sparse_grid.specs.Tables.{Grid}
+use Rattle.sparse_grid.specs.Validate.{validate}
+use Rattle.sparse_grid.specs.Lookup.{readIn}
 use Rattle.sparse_grid.specs.Count.{sum, bit, sum-same, sum-nil, bit-most}
 use Rattle.boxes.specs.Boxes.{Box, span}
-use Rattle.walk.specs.Classes.{class, boxSum, classCount, boxSize, classTotal}
+use Rattle.walk.specs.Classes.{class, boxSum, classCount, boxSize, classTotal, limitsFault, sidesFault, listed, publicCounts}
 use Rattle.walk.specs.Sums.{sum-le, sum-swap, sum-const, sum-grown}
 
 -- ---- what a class means
@@ -108,3 +113,30 @@ past-last read ls b k h =
 pub class-size : (read : Coord → Float) (ls : List Float) (b : Box) (k : ℕ) → classCount read ls b k ≤ boxSize b
 class-size read ls b k = let h = boxSum-le _ (λ c. 1) b (λ c. bit-most (eqb (class ls (read c)) k)) in let e = boxSum-const 1 b in
     let o = mul-one (boxSize b) in omega arith
+
+-- ---- the 17 counts as a list
+
+-- a list is what stands in its places
+pub listed-is : (l : List ℕ) (i n : ℕ) (f : ℕ → ℕ) → length l ≡ n → ((k : ℕ) → k < n → getD l k 0 ≡ f (i + k)) → l ≡ listed n i f
+unfolding listed
+listed-is [] i zero f e h = refl
+listed-is [] i (suc n) f e h = absurd (omega arith)
+listed-is (a ∷ l) i zero f e h = absurd (omega arith)
+listed-is (a ∷ l) i (suc n) f e h =
+    let first : a ≡ f i = h 0 (omega arith) ∙ ap f (omega arith) in
+    let rest : l ≡ listed n (i + 1) f = listed-is l (i + 1) n f (omega arith) (λ k K. h (suc k) (omega arith) ∙ ap f (omega arith)) in
+    λ t. first t ∷ rest t
+
+pub listed-length : (n i : ℕ) (f : ℕ → ℕ) → length (listed n i f) ≡ n
+unfolding listed
+listed-length zero i f = refl
+listed-length (suc n) i f = ap suc (listed-length n (i + 1) f)
+
+-- there are 17 of them, after a refusal too
+pub counts-long : (g : Grid) (ls : List Float) (b : Box) → length (valueOr (replicate 17 0) (publicCounts g ls b)) ≡ 17
+unfolding publicCounts
+counts-long g ls b = go (validate g then limitsFault ls then sidesFault b)
+  where
+    go : (n : ℕ) → length (valueOr (replicate 17 0) (passing n (ok (listed 17 0 (classCount (readIn g) ls b))))) ≡ 17
+    go zero = listed-length 17 0 (classCount (readIn g) ls b)
+    go (suc n) = length-replicate {A = ℕ} 17 0

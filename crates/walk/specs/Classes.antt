@@ -1,9 +1,9 @@
 -- How many coordinates of a box hold what is read in each class: a sum over the coordinates, one by one, and not a walk of the tables.
 use Prim.Native.Nat.{ℕ, zero, suc, _+_, _-_, _*_}
-use mathlib.Core.Bool.{cond, _&&_}
+use mathlib.Core.Bool.{Bool, cond, _&&_, _||_}
 use mathlib.Core.List.{List, [], _∷_}
 use lib.Dec.{eqb, leb}
-use lib.IntN.{pos, _+ℤ_}
+use lib.IntN.{ℤ, pos, _+ℤ_}
 use lib.ListN.{length, getD}
 use lib.Ieee.{Float, lt}
 use lib.Ieee.Scale.{finite}
@@ -22,16 +22,20 @@ abbrev pub class : List Float → Float → ℕ
 class [] v = 0
 class (l ∷ ls) v = let k = class ls v in cond (lt v l) 0 (suc k)
 
+-- a limit that passes: finite, and above the one before it
+abbrev pub limitPasses : List Float → ℕ → Bool
+limitPasses ls i = finite (getD ls i +0) && (eqb i 0 || lt (getD ls (i - 1) +0) (getD ls i +0))
+
 -- 25 unless there are 1 to 16 limits, all finite, each below the next
 unfoldable pub limitsFault : List Float → ℕ
-limitsFault ls =
-    unless (leb 1 (length ls) && leb (length ls) 16) 25
-    then firstFault (length ls) (λ i. unless (finite (getD ls i +0)) 25)
-    then firstFault (length ls - 1) (λ i. unless (lt (getD ls i +0) (getD ls (i + 1) +0)) 25)
+limitsFault ls = unless (leb 1 (length ls) && leb (length ls) 16) 25 then firstFault (length ls) (λ i. unless (limitPasses ls i) 25)
 
 -- 25 for a side of more than 2^20 coordinates, of an empty box too
+abbrev pub sideFault : ℤ → ℤ → ℕ
+sideFault lo hi = unless (leb (span lo hi) 1048576) 25
+
 abbrev pub sidesFault : Box → ℕ
-sidesFault b = unless (leb (span (b .lo .x) (b .hi .x)) 1048576 && leb (span (b .lo .y) (b .hi .y)) 1048576 && leb (span (b .lo .z) (b .hi .z)) 1048576) 25
+sidesFault b = sideFault (b .lo .x) (b .hi .x) then sideFault (b .lo .y) (b .hi .y) then sideFault (b .lo .z) (b .hi .z)
 
 -- the sum of what f gives for each coordinate of the box
 unfoldable pub boxSum : (Coord → ℕ) → Box → ℕ

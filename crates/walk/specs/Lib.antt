@@ -3,6 +3,7 @@ pub mod Walk
 pub mod Classes
 -- Definitions that only private contracts cite.
 pub mod Counts
+pub mod Tallied
 -- Laws of sums, and of cells on one axis.
 pub mod Sums
 pub mod Cells
@@ -22,6 +23,7 @@ pub mod Gather
 pub mod Local
 pub mod NodeWalk
 pub mod ByRoots
+pub mod TalliedLaws
 pub mod CountLaws
 -- Worked examples.
 pub mod WalkExamples

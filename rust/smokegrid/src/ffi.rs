@@ -127,6 +127,17 @@ pub fn box_maximum_counted(
     interface::box_maximum_counted(grid(tables), lx, ly, lz, hx, hy, hz, value, counts)
 }
 
+pub fn count_classes(
+    tables: &Tables,
+    limits: &[f32],
+    low: [i32; 3],
+    high: [i32; 3],
+    counts: &mut [u64; 17],
+) -> u32 {
+    let ([lx, ly, lz], [hx, hy, hz]) = (low, high);
+    interface::count_classes(grid(tables), limits, lx, ly, lz, hx, hy, hz, counts)
+}
+
 pub fn box_maxima(tables: &Tables, boxes: &[i32], maxima: &mut [f32], greatest: &mut f32) -> u32 {
     interface::box_maxima(grid(tables), boxes, maxima, greatest)
 }

@@ -160,6 +160,19 @@ impl Grid {
         Ok(Load::new(value, counts))
     }
 
+    /// How many coordinates of a box, ends included, lie below the first limit, between each pair (lower end included), and at or
+    /// above the last: one count for each class, so one more than there are limits.
+    pub fn classes(
+        &self,
+        limits: &[f32],
+        low: [i32; 3],
+        high: [i32; 3],
+    ) -> Result<Vec<u64>, Refusal> {
+        let mut counts = [0; 17];
+        Refusal::check(ffi::count_classes(&self.tables, limits, low, high, &mut counts))?;
+        Ok(counts[..=limits.len()].to_vec())
+    }
+
     /// The maximum for each box of a list, from its low voxel to its high one. The grid is validated once, where each single call
     /// validates it anew.
     pub fn box_maxima(&self, boxes: &[([i32; 3], [i32; 3])]) -> Result<Maxima, Refusal> {

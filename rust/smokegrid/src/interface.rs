@@ -187,6 +187,35 @@ mod c {
             counts: *mut u64,
             counts_len: usize,
         ) -> u32;
+        pub fn smokegrid_count_classes(
+            background: f32,
+            blocks: *const i32,
+            blocks_len: usize,
+            root_links: *const u32,
+            root_links_len: usize,
+            root_values: *const f32,
+            root_values_len: usize,
+            upper_links: *const u32,
+            upper_links_len: usize,
+            upper_values: *const f32,
+            upper_values_len: usize,
+            lower_links: *const u32,
+            lower_links_len: usize,
+            lower_values: *const f32,
+            lower_values_len: usize,
+            leaf_values: *const f32,
+            leaf_values_len: usize,
+            limits: *const f32,
+            limits_len: usize,
+            lx: i32,
+            ly: i32,
+            lz: i32,
+            hx: i32,
+            hy: i32,
+            hz: i32,
+            counts: *mut u64,
+            counts_len: usize,
+        ) -> u32;
         pub fn smokegrid_box_maxima(
             background: f32,
             blocks: *const i32,
@@ -669,6 +698,53 @@ pub fn box_maximum_counted(
             hy,
             hz,
             value,
+            counts.as_mut_ptr(),
+            counts.len(),
+        )
+    }
+}
+
+#[inline]
+#[allow(clippy::too_many_arguments)]
+pub fn count_classes(
+    grid: GridTables,
+    limits: &[f32],
+    lx: i32,
+    ly: i32,
+    lz: i32,
+    hx: i32,
+    hy: i32,
+    hz: i32,
+    counts: &mut [u64],
+) -> u32 {
+    // SAFETY: each pointer is valid for its length, and what is written is borrowed mutably, so it overlaps nothing.
+    unsafe {
+        c::smokegrid_count_classes(
+            grid.background,
+            grid.blocks.as_ptr(),
+            grid.blocks.len(),
+            grid.root_links.as_ptr(),
+            grid.root_links.len(),
+            grid.root_values.as_ptr(),
+            grid.root_values.len(),
+            grid.upper_links.as_ptr(),
+            grid.upper_links.len(),
+            grid.upper_values.as_ptr(),
+            grid.upper_values.len(),
+            grid.lower_links.as_ptr(),
+            grid.lower_links.len(),
+            grid.lower_values.as_ptr(),
+            grid.lower_values.len(),
+            grid.leaf_values.as_ptr(),
+            grid.leaf_values.len(),
+            limits.as_ptr(),
+            limits.len(),
+            lx,
+            ly,
+            lz,
+            hx,
+            hy,
+            hz,
             counts.as_mut_ptr(),
             counts.len(),
         )

@@ -163,6 +163,13 @@ const WORDS: &[Words] = &[
         "Ask for a point inside or on the world box that the grid's first lines show.",
     ),
     words(
+        25,
+        "CLASSES",
+        "limits that are not 1 to 16 finite numbers, each below the next, or a box with a side of more than 1,048,576 coordinates",
+        "Name up to 16 limits from the least to the greatest, and a box of at most 1,048,576 \
+         coordinates a side.",
+    ),
+    words(
         26,
         "WINDOW",
         "a window over fewer than 1 or more than 16 tables, or a table of other cells than its window's",

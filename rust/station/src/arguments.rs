@@ -27,6 +27,9 @@ Questions, as many as there are:
   --box LX LY LZ HX HY HZ    the greatest density from the low voxel to the high one, ends included
   --boxes FILE               the same for each box of a file, and the greatest of them: a box a line,
                              six numbers as above; # begins a comment
+  --classes L1,L2,.. LX LY LZ HX HY HZ
+                             how many voxels of the box lie below the first limit, between each pair
+                             (lower end included), and at or above the last; up to 16 limits
   --point X Y Z              the density at a world point, mixed from the eight voxels around it,
                              which are shown, and the figure of the cell that it is in
   --cell X Y Z               the figure of a cell, each number from 0 on
@@ -72,6 +75,7 @@ pub enum Question {
     At([i32; 3]),
     Box([i32; 3], [i32; 3]),
     Boxes(Vec<Zone>),
+    Classes(Vec<f32>, [i32; 3], [i32; 3]),
     Point([f32; 3]),
     Cell([usize; 3]),
     Ray(Beam),
@@ -106,6 +110,7 @@ pub fn parse(words: impl Iterator<Item = OsString>) -> Result<Request, String> {
                 let path = words.next().ok_or("--boxes lacks a file")?;
                 questions.push(Question::Boxes(boxes::read(&PathBuf::from(path))?));
             }
+            Some("--classes") => questions.push(classes(&mut words)?),
             Some("--point") => questions.push(Question::Point(three("--point", &mut words)?)),
             Some("--cell") => questions.push(Question::Cell(three("--cell", &mut words)?)),
             Some("--ray") => questions.push(Question::Ray(ray(&mut words)?)),
@@ -167,6 +172,15 @@ fn ray(words: &mut impl Iterator<Item = OsString>) -> Result<Beam, String> {
     Ok(Beam { origin, direction, t_min: one("--ray", words)?, t_max: one("--ray", words)? })
 }
 
+/// Limits with commas between them, and a box.
+fn classes(words: &mut impl Iterator<Item = OsString>) -> Result<Question, String> {
+    let limits = words.next().ok_or("--classes lacks its limits")?;
+    let limits = limits.to_str().ok_or("--classes: limits that are no text")?;
+    let limit = |word: &str| word.parse().map_err(|fault| format!("--classes {word}: {fault}"));
+    let limits = limits.split(',').map(limit).collect::<Result<_, _>>()?;
+    Ok(Question::Classes(limits, three("--classes", words)?, three("--classes", words)?))
+}
+
 /// Any number that Rust reads as a float: the library, not this, refuses one that is not finite.
 fn heat(words: &mut impl Iterator<Item = OsString>) -> Result<Heat, String> {
     let file = PathBuf::from(words.next().ok_or("--temperature lacks a file")?);
@@ -208,6 +222,7 @@ mod tests {
             Question::Box([-1, -2, -3], [4, 5, 6]),
             Question::At([i32::MIN, 0, i32::MAX]),
             Question::Point([-0.5, 1e-3, 2.0]),
+            Question::Classes(vec![-0.5, 0.25, 1e9], [-1, 0, 1], [7, 8, 9]),
             Question::Cell([0, 63, 5]),
             Question::Ray(Beam {
                 origin: [-1.0, 0.5, 2.0],
@@ -217,7 +232,9 @@ mod tests {
             }),
             Question::Layer(7),
         ];
-        let words = "--box -1 -2 -3 4 5 6 hall.grid --at -2147483648 0 2147483647 --point -0.5 1e-3 2 --cell 0 63 5 \
+        let words =
+            "--box -1 -2 -3 4 5 6 hall.grid --at -2147483648 0 2147483647 --point -0.5 1e-3 2 \
+                     --classes -0.5,0.25,1e9 -1 0 1 7 8 9 --cell 0 63 5 \
                      --ray -1 0.5 2 1 0 -5e-1 0 10 --layer 7";
         assert_eq!(parsed(words), Ok(Request::Show(of(&["hall.grid"], questions))));
     }

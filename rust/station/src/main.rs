@@ -2,6 +2,7 @@
 
 mod arguments;
 mod boxes;
+mod classes;
 mod points;
 mod rays;
 mod report;
@@ -159,6 +160,9 @@ fn answers(arguments: &Arguments, grid: &Grid, cells: Option<&Majorant>) -> Resu
                 report::load(low, high, &grid.box_maximum_counted(*low, *high)?)
             }
             Question::Boxes(boxes) => report::zones(boxes, &grid.box_maxima(boxes)?),
+            Question::Classes(limits, low, high) => {
+                classes::table(limits, low, high, &grid.classes(limits, *low, *high)?)
+            }
             Question::Point(point) => points::shown(grid, cells, *point)?,
             Question::Cell(_) | Question::Layer(_) => of_cells(question, cells)?,
             Question::Ray(beam) => match cells {

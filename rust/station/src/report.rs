@@ -136,7 +136,7 @@ pub fn counted(count: usize) -> String {
     grouped(count as u128)
 }
 
-fn grouped(count: u128) -> String {
+pub fn grouped(count: u128) -> String {
     let digits = count.to_string();
     let mut text = String::new();
     for (i, digit) in digits.chars().enumerate() {

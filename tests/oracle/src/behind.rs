@@ -139,6 +139,27 @@ pub fn box_maximum(
     given(value, Rust.box_maxima(grid, &[[lx, ly, lz, hx, hy, hz]])[0])
 }
 
+/// What no wrong build changes: zeros, or the number of the refusal.
+#[allow(clippy::too_many_arguments)]
+pub fn count_classes(
+    grid: Tables,
+    limits: &[f32],
+    lx: i32,
+    ly: i32,
+    lz: i32,
+    hx: i32,
+    hy: i32,
+    hz: i32,
+    counts: &mut [u64],
+) -> u32 {
+    counts.fill(0);
+    let _ = (limits, [lx, ly, lz, hx, hy, hz]);
+    if counts.len() != 17 {
+        return 18;
+    }
+    Rust.validate(grid)
+}
+
 #[allow(clippy::too_many_arguments)]
 pub fn box_maximum_counted(
     grid: Tables,

@@ -313,6 +313,62 @@ pub unsafe extern "C" fn smokegrid_box_maximum_counted(
 /// # Safety
 /// Each pointer is valid for its length, and no buffer that is written overlaps another.
 #[no_mangle]
+pub unsafe extern "C" fn smokegrid_count_classes(
+    background: f32,
+    blocks: *const i32,
+    blocks_len: usize,
+    root_links: *const u32,
+    root_links_len: usize,
+    root_values: *const f32,
+    root_values_len: usize,
+    upper_links: *const u32,
+    upper_links_len: usize,
+    upper_values: *const f32,
+    upper_values_len: usize,
+    lower_links: *const u32,
+    lower_links_len: usize,
+    lower_values: *const f32,
+    lower_values_len: usize,
+    leaf_values: *const f32,
+    leaf_values_len: usize,
+    limits: *const f32,
+    limits_len: usize,
+    lx: i32,
+    ly: i32,
+    lz: i32,
+    hx: i32,
+    hy: i32,
+    hz: i32,
+    counts: *mut u64,
+    counts_len: usize,
+) -> u32 {
+    let grid = Tables {
+        background,
+        blocks: from_raw_parts(blocks, blocks_len),
+        root_links: from_raw_parts(root_links, root_links_len),
+        root_values: from_raw_parts(root_values, root_values_len),
+        upper_links: from_raw_parts(upper_links, upper_links_len),
+        upper_values: from_raw_parts(upper_values, upper_values_len),
+        lower_links: from_raw_parts(lower_links, lower_links_len),
+        lower_values: from_raw_parts(lower_values, lower_values_len),
+        leaf_values: from_raw_parts(leaf_values, leaf_values_len),
+    };
+    behind::count_classes(
+        grid,
+        from_raw_parts(limits, limits_len),
+        lx,
+        ly,
+        lz,
+        hx,
+        hy,
+        hz,
+        from_raw_parts_mut(counts, counts_len),
+    )
+}
+
+/// # Safety
+/// Each pointer is valid for its length, and no buffer that is written overlaps another.
+#[no_mangle]
 pub unsafe extern "C" fn smokegrid_box_maxima(
     background: f32,
     blocks: *const i32,

@@ -5,7 +5,7 @@
 
 use oracle::file::{self, CODEC, MARKS};
 use oracle::gpu::flat::flatten::nanovdb::reach::validate_file_envelope;
-use oracle::loader::{Loader, Rust};
+use oracle::loader::{ours, Loader, Rust};
 use oracle::random::Random;
 use std::collections::BTreeMap;
 use std::path::PathBuf;
@@ -200,16 +200,6 @@ impl Tally {
         }
         !found
     }
-}
-
-fn ours(words: &[String]) -> &'static dyn Loader {
-    if words.iter().any(|word| word == "rust") {
-        return &Rust;
-    }
-    #[cfg(linked)]
-    return &oracle::linked::Linked;
-    #[cfg(not(linked))]
-    return &Rust;
 }
 
 fn main() {

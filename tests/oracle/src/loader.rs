@@ -8,6 +8,17 @@ use crate::walk::{self, Places};
 /// The cells that a decode writes into the record.
 pub const CELLS: [u32; 3] = [64; 3];
 
+/// The library where it is linked, unless the words ask for the Rust.
+pub fn ours(words: &[String]) -> &'static dyn Loader {
+    if words.iter().any(|word| word == "rust") {
+        return &Rust;
+    }
+    #[cfg(linked)]
+    return &crate::linked::Linked;
+    #[cfg(not(linked))]
+    return &Rust;
+}
+
 /// The figures of so many cells.
 pub fn figures_of(cells: &[u32]) -> usize {
     cells.iter().map(|number| *number as usize).product()

@@ -5,7 +5,7 @@
 
 use oracle::cells::{cell, corners, enclosing, voxels_around};
 use oracle::generate::{self, Case};
-use oracle::loader::{decode_into, figures_of, Grid, Lengths, Loader, Rust};
+use oracle::loader::{decode_into, figures_of, ours, Grid, Lengths, Loader};
 use oracle::random::Random;
 use oracle::samples;
 use oracle::walk::{self, Places};
@@ -63,16 +63,6 @@ impl Counts {
     }
 }
 
-fn loader(words: &[String]) -> &'static dyn Loader {
-    if words.iter().any(|word| word == "rust") {
-        return &Rust;
-    }
-    #[cfg(linked)]
-    return &oracle::linked::Linked;
-    #[cfg(not(linked))]
-    return &Rust;
-}
-
 fn main() {
     let words: Vec<String> = std::env::args().skip(1).collect();
     let numbers: Vec<u64> = words.iter().take(3).filter_map(|word| word.parse().ok()).collect();
@@ -80,7 +70,7 @@ fn main() {
         eprintln!("{USAGE}");
         exit(2)
     };
-    let loader = loader(&words);
+    let loader = ours(&words);
     let mut counts = Counts::default();
     // Most shapes build often; where none does, the run ends all the same.
     while counts.built < grids && counts.tried < 20 * grids + 100 {

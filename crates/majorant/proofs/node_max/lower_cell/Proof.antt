@@ -10,7 +10,6 @@ use Rattle.sparse_grid.specs.Tables.{entryAt}
 use Rattle.sparse_grid.specs.TableLaws.{entry-read}
 use Rattle.boxes.specs.RangeMax.{Within, entryRead, leafRead, lowerRead, lowerSlot}
 use Rattle.boxes.specs.NodeCells.{cell-tile, cell-child, lower-same, child-link}
-use Rattle.walk.specs.CountLaws.{leaves-tile, leaves-child}
 use Rattle.majorant.proofs.node_max.lower_cell.Statement.{statement}
 use Rattle.majorant.proofs.node_max.lower_cell.Tie as tie
 
@@ -57,8 +56,7 @@ same : (c : tie.Start) →
     ≡ entryRead (entryAt (links c) (values c) (slot c)) (λ j. below c j x y z)
 same c =
     let a = c .args in
-    lower-same (a .x) (a .y) (a .z) (a .lower-links .now) (a .lower-values .now) (a .leaf-values .now) (a .k)
-    (c .pre .2 .0) (c .pre .2 .1) (c .pre .2 .2)
+    lower-same (a .x) (a .y) (a .z) (a .lower-links .now) (a .lower-values .now) (a .leaf-values .now) (a .k) (c .pre .2) (c .pre .3) (c .pre .4)
 
 leaf-max-requires : tie.Need-leaf-max-requires
 leaf-max-requires c κs =
@@ -67,29 +65,19 @@ leaf-max-requires c κs =
     let p = b .pre in
     let l = child-link (links b) (values b) (slot b) (entry d ∙ c .before .j .given .1) in
     let h = p .0 .linked (slot b) in
-    (omega arith, p .1, p .2 .2)
+    (omega arith, p .1, p .4)
 
 returns : tie.Need-returns
 returns c =
-    let m = c .before .before .before in
-    let e = m .before .before in
-    let b = start e in
-    let q = entry e ∙ m .j .given .1 in
-    record {
-      most = cell-child (below b) (b .args .x) (b .args .y) (b .args .z) (same b) q (c .before .leaf-max .ensures);
-      leaves-are = c .size-of .ensures ∙ leaves-child (links b) (values b) (b .args .k) (b .pre .1) (b .pre .2) q;
-    }
+    let m = c .before .before in
+    let b = start (m .before .before) in
+    cell-child (below b) (b .args .x) (b .args .y) (b .args .z) (same b) (entry (m .before .before) ∙ m .j .given .1) (c .leaf-max .ensures)
 
 returns-2 : tie.Need-returns-2
 returns-2 c =
     let m = c .before .before in
-    let e = m .before .before in
-    let b = start e in
-    let q = entry e ∙ m .v .given .1 in
-    record {
-      most = cell-tile (below b) (b .args .x) (b .args .y) (b .args .z) (same b) (b .pre .1) q (c .greater .ensures);
-      leaves-are = leaves-tile (links b) (values b) (b .args .k) (b .pre .1) (b .pre .2) q;
-    }
+    let b = start (m .before .before) in
+    cell-tile (below b) (b .args .x) (b .args .y) (b .args .z) (same b) (b .pre .1) (entry (m .before .before) ∙ m .v .given .1) (c .greater .ensures)
 
 pub lower-cell-spec : {M : Type 1} → statement M
 lower-cell-spec =
@@ -106,7 +94,6 @@ lower-cell-spec =
     (λ c. search needs)
     (λ c. omega arith)
     leaf-max-requires
-    (λ c κs. search needs)
     (λ c. search needs)
     (λ c κs. search needs)
     returns

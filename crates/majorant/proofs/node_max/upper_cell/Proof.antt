@@ -1,6 +1,6 @@
 -- `majorant::node_max::upper_cell` meets its contract: every place of a cell goes by the entry of its first one. Assumes nothing.
-use Prim.Native.Nat.{ℕ, _+_, _*_, _≤_, _<_}
-use mathlib.Core.Path.{_≡_, refl, sym, ap, _∙_}
+use Prim.Native.Nat.{ℕ, _+_, _*_, _<_}
+use mathlib.Core.Path.{_≡_, sym, ap, _∙_}
 use mathlib.Core.List.{List}
 use native.Mathlib.Omega.{arith}
 use lib.ListN.{length}
@@ -8,12 +8,8 @@ use lib.Ieee.{Float}
 use borrow.Author.Needs.{needs}
 use Rattle.sparse_grid.specs.Tables.{entryAt}
 use Rattle.sparse_grid.specs.TableLaws.{entry-read}
-use Rattle.boxes.specs.declared.Span.{Span}
-use Rattle.boxes.specs.RangeMax.{Within, InCell, entryRead, lowerRead, upperRead, upperSlot}
+use Rattle.boxes.specs.RangeMax.{Within, entryRead, lowerRead, upperRead, upperSlot}
 use Rattle.boxes.specs.NodeCells.{cell-tile, cell-child, upper-same, child-link}
-use Rattle.walk.specs.Walk.{lowersOnly, leavesOnly}
-use Rattle.walk.specs.Counts.{cellsAlong}
-use Rattle.walk.specs.CountLaws.{tile-count, child-lowers, child-leaves}
 use Rattle.majorant.proofs.node_max.upper_cell.Statement.{statement}
 use Rattle.majorant.proofs.node_max.upper_cell.Tie as tie
 
@@ -25,9 +21,6 @@ begin c = c .before .before .before .before .before .before .before .before .bef
 
 abbrev start : tie.After-entry-of → tie.Start
 start c = begin (at-index c)
-
-abbrev at-entry : tie.After-lower-max → tie.After-entry-of
-at-entry c = c .before .before .before .before
 
 -- the node's two tables, the slot of the first place, and what is read below
 abbrev links : tie.Start → List ℕ
@@ -64,7 +57,7 @@ same : (c : tie.Start) →
 same c =
     let a = c .args in
     upper-same (a .x) (a .y) (a .z) (a .upper-links .now) (a .upper-values .now) (a .lower-links .now) (a .lower-values .now) (a .leaf-values .now)
-    (a .k) (c .pre .2 .0) (c .pre .2 .1) (c .pre .2 .2)
+    (a .k) (c .pre .2) (c .pre .3) (c .pre .4)
 
 lower-max-requires : tie.Need-lower-max-requires
 lower-max-requires c κs =
@@ -73,45 +66,19 @@ lower-max-requires c κs =
     let p = b .pre in
     let l = child-link (links b) (values b) (slot b) (entry d ∙ c .before .j .given .1) in
     let h = p .0 .tables .upper-linked (slot b) in
-    (record { room = omega arith; pair = p .0 .tables .lower; linked = p .0 .tables .lower-linked }, p .1, p .2)
-
--- no more than 16 lower entries along an axis
-cells-in-requires : tie.Need-cells-in-requires
-cells-in-requires c κs =
-    let b = start (at-entry c) in
-    let p = b .pre in
-    (p .1, omega arith, few (b .args .x) (p .1 .x-some) (p .2 .0), few (b .args .y) (p .1 .y-some) (p .2 .1), few (b .args .z) (p .1 .z-some) (p .2 .2))
-  where
-    few : (s : Span) → s .lo < s .hi → InCell 128 s → cellsAlong 8 s ≤ 32
-    few s l h = omega arith
+    (record { room = omega arith; pair = p .0 .tables .lower; linked = p .0 .tables .lower-linked }, p .1)
 
 returns : tie.Need-returns
 returns c =
-    let m = c .before .before .before in
-    let e = m .before .before in
-    let b = start e in
-    let a = b .args in
-    let q = entry e ∙ m .j .given .1 in
-    let h = c .before .lower-max .ensures in
-    record {
-      most = cell-child (below b) (a .x) (a .y) (a .z) (same b) q (h .most);
-      lowers-are = c .cells-in .ensures
-          ∙ child-lowers (links b) (values b) (a .lower-links .now) (a .lower-values .now) (a .k) (b .pre .1) (b .pre .2) q;
-      leaves-are = child-leaves (links b) (values b) (a .lower-links .now) (a .lower-values .now) (a .k) (b .pre .1) (b .pre .2) q (h .leaves-are);
-    }
+    let m = c .before .before in
+    let b = start (m .before .before) in
+    cell-child (below b) (b .args .x) (b .args .y) (b .args .z) (same b) (entry (m .before .before) ∙ m .j .given .1) (c .lower-max .ensures)
 
 returns-2 : tie.Need-returns-2
 returns-2 c =
     let m = c .before .before in
-    let e = m .before .before in
-    let b = start e in
-    let a = b .args in
-    let q = entry e ∙ m .v .given .1 in
-    record {
-      most = cell-tile (below b) (a .x) (a .y) (a .z) (same b) (b .pre .1) q (c .greater .ensures);
-      lowers-are = tile-count (links b) (values b) (a .lower-links .now) (a .lower-values .now) (a .k) (b .pre .1) (b .pre .2) lowersOnly refl q;
-      leaves-are = tile-count (links b) (values b) (a .lower-links .now) (a .lower-values .now) (a .k) (b .pre .1) (b .pre .2) leavesOnly refl q;
-    }
+    let b = start (m .before .before) in
+    cell-tile (below b) (b .args .x) (b .args .y) (b .args .z) (same b) (b .pre .1) (entry (m .before .before) ∙ m .v .given .1) (c .greater .ensures)
 
 pub upper-cell-spec : {M : Type 1} → statement M
 upper-cell-spec =
@@ -128,7 +95,6 @@ upper-cell-spec =
     (λ c. search needs)
     (λ c. omega arith)
     lower-max-requires
-    cells-in-requires
     (λ c. search needs)
     (λ c κs. search needs)
     returns

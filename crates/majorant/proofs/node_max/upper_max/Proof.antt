@@ -1,76 +1,40 @@
--- `majorant::node_max::upper_max` meets its contract.
--- The invariant: the maximum of the cells before `at`, and the lower entries and leaf values read for them. Assumes nothing.
-use Prim.Native.Nat.{_-_}
+-- `majorant::node_max::upper_max` meets its contract. The invariant: the greatest of the planes before `at`. Assumes nothing.
+use Prim.Native.Nat.{_-_, _≤_}
 use native.Mathlib.Omega.{arith}
 use borrow.Author.Needs.{needs}
+use Rattle.boxes.specs.Most.{Most, Inside}
+use Rattle.boxes.specs.RangeMax.{upperRead}
 use Rattle.boxes.specs.NodeCells.{cut-x}
-use Rattle.walk.specs.Counts.{UpperHolds}
-use Rattle.walk.specs.CountLaws.{Going, begun, going}
-use Rattle.majorant.proofs.Turns.{upper-room, upper-none-x, upper-more-x, upper-till-x}
+use Rattle.boxes.specs.MostLaws.{none, join-x, till-x}
 use Rattle.majorant.proofs.node_max.upper_max.Statement.{statement}
 use Rattle.majorant.proofs.node_max.upper_max.Tie as tie
 
 abbrev Inv-loop : tie.InvT-loop
-Inv-loop upper-links upper-values lower-links lower-values leaf-values k y z end maximum₀ lower₀ leaf₀ at₀ maximum lower leaf at =
-    Going 128 at₀ end at × UpperHolds upper-links upper-values lower-links lower-values leaf-values k (record { lo = at₀; hi = at }) y z maximum lower leaf
+Inv-loop upper-links upper-values lower-links lower-values leaf-values k y z end maximum₀ at₀ maximum at =
+    let read = upperRead upper-links upper-values lower-links lower-values leaf-values k in
+    (at₀ ≤ at) × (at ≤ end) × Most read (Inside at₀ at (y .lo) (y .hi) (z .lo) (z .hi)) maximum
 
 abbrev μ-loop : tie.MeasureT-loop
-μ-loop upper-links upper-values lower-links lower-values leaf-values k y z end maximum₀ lower₀ leaf₀ at₀ maximum lower leaf at = end - at
-
--- places: the loop, the cell's end, what the cell holds
-abbrev begin : tie.After-shared-slice-known5 Inv-loop μ-loop → tie.Start Inv-loop μ-loop
-begin c = c .before .before .before .before .before
+μ-loop upper-links upper-values lower-links lower-values leaf-values k y z end maximum₀ at₀ maximum at = end - at
 
 abbrev start : tie.In-loop Inv-loop μ-loop → tie.Start Inv-loop μ-loop
 start c = c .before .before .before .before .before .before .before
-
-abbrev at-held : tie.After-struct-known Inv-loop μ-loop → tie.After-upper-plane Inv-loop μ-loop
-at-held c = c .before .before
-
-abbrev at-cell : tie.After-struct-known Inv-loop μ-loop → tie.After-cell-end Inv-loop μ-loop
-at-cell c = at-held c .before
-
-abbrev at-loop : tie.After-struct-known Inv-loop μ-loop → tie.In-loop Inv-loop μ-loop
-at-loop c = at-cell c .before
-
-loop-holds : tie.Need-loop-holds Inv-loop μ-loop
-loop-holds c = let a = begin c .args in (begun (omega arith), upper-none-x (a .y) (a .z) (a .x .lo))
 
 upper-plane-requires : tie.Need-upper-plane-requires Inv-loop μ-loop
 upper-plane-requires c κs =
     let p = start (c .before) .pre in
     let k = c .cell-end .ensures in
-    (p .0, cut-x (p .1) k, k .cell, p .2 .1, p .2 .2)
-
--- what the part up to the next cell has fits two words
-add-lower : tie.Need-add-lower Inv-loop μ-loop
-add-lower c =
-    let w = at-loop c .before .loop .inv in
-    omega (
-      arith,
-      upper-room (upper-more-x (w .0) (at-cell c .cell-end .ensures) (start (at-loop c) .pre .2 .0) (w .1)
-          (at-held c .upper-plane .ensures) (c .before .greater .ensures)) .0,
-    )
-
-add-leaf : tie.Need-add-leaf Inv-loop μ-loop
-add-leaf c =
-    let w = at-loop (c .before) .before .loop .inv in
-    omega (
-      arith,
-      upper-room (upper-more-x (w .0) (at-cell (c .before) .cell-end .ensures) (start (at-loop (c .before)) .pre .2 .0) (w .1)
-          (at-held (c .before) .upper-plane .ensures) (c .before .before .greater .ensures)) .1,
-    )
+    (p .0, cut-x (p .1) k, k .cell)
 
 loop-again : tie.Need-loop-again Inv-loop μ-loop
 loop-again c =
-    let w = at-loop (c .before) .before .loop .inv in (
-      going (w .0) (at-cell (c .before) .cell-end .ensures),
-      upper-more-x (w .0) (at-cell (c .before) .cell-end .ensures) (start (at-loop (c .before)) .pre .2 .0) (w .1)
-          (at-held (c .before) .upper-plane .ensures) (c .before .before .greater .ensures),
-    )
+    let e = c .before .before in
+    let k = e .cell-end .ensures in
+    let w = e .before .before .loop in
+    (omega arith, k .within, join-x (w .inv .0) (omega arith) (w .inv .2) (c .before .upper-plane .ensures) (c .greater .ensures))
 
 returns : tie.Need-returns Inv-loop μ-loop
-returns c = let w = c .before .loop .inv in upper-till-x (w .0) (c .loop-test .left) (w .1)
+returns c = till-x (c .before .loop .inv .1) (c .loop-test .left) (c .before .loop .inv .2)
 
 pub upper-max-spec : {M : Type 1} → statement M
 upper-max-spec =
@@ -78,12 +42,10 @@ upper-max-spec =
     (tie.spec
     Inv-loop
     μ-loop
-    loop-holds
+    (λ c. (omega arith, omega arith, none (λ a b d s. omega arith)))
     (λ c κs. (omega arith, omega arith, omega arith, omega arith))
     upper-plane-requires
     (λ c κs. search needs)
-    add-lower
-    add-leaf
-    (λ c. let k = at-cell (c .before) .cell-end .ensures in omega arith)
+    (λ c. let k = c .before .before .cell-end .ensures in omega arith)
     loop-again
     returns)

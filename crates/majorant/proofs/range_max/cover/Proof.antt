@@ -1,13 +1,11 @@
 -- `majorant::range_max::cover` meets its contract: a root misses the box, or holds one block of it. Assumes nothing.
-use Prim.Native.Nat.{_≤_, _<_}
 use mathlib.Core.Path.{sym, _∙_}
 use mathlib.Core.Logic.{inl, inr}
 use native.Mathlib.Omega.{arith}
 use borrow.Author.Needs.{needs}
 use Rattle.sparse_grid.specs.Tables.{Grid, gridOf, blockAt}
 use Rattle.sparse_grid.specs.TableLaws.{entry-read}
-use Rattle.majorant.proofs.RootStep.{Rooted, Clips, IsEntry, value-in, child-in, part, part-in, misses, meets}
-use Rattle.majorant.proofs.RootStep.{misses-counts, meets-counts, counted-small, entry-small}
+use Rattle.majorant.proofs.RootStep.{Rooted, Clips, IsEntry, value-in, child-in, part, misses, meets}
 use Rattle.majorant.proofs.range_max.cover.Statement.{statement}
 use Rattle.majorant.proofs.range_max.cover.Tie as tie
 
@@ -45,15 +43,6 @@ start-4 c = start-3 (at-tests c .before)
 abbrev at-entry : tie.After-struct-known → tie.After-entry-of
 at-entry c = c .before .before .before
 
-abbrev at-root : tie.After-struct-known → tie.After-root-max
-at-root c = c .before .before
-
-abbrev at-first : tie.After-struct-known3 → tie.After-struct-known
-at-first c = c .before .before
-
-abbrev at-third : tie.After-struct-known5 → tie.After-struct-known3
-at-third c = c .before .before
-
 -- the grid, and the root
 abbrev grid : tie.Start → Grid
 grid c =
@@ -87,29 +76,20 @@ entry-is c =
     let b = start-4 (at-clips c) in
     c .entry-of .ensures ∙ entry-read (b .args .root-links .now) (b .args .root-values .now) (b .args .i) (value-in (rooted b))
 
--- the counts of the roots before
-roots-fit : (c : tie.After-struct-known) →
-    let v = start-4 (at-clips (at-entry c)) .args .covered in
-    (v .upper ≤ 140737488355328) × (v .lower ≤ 576460752303423488) × (v .leaf .high < 18446744073709551615)
-roots-fit c = let p = start-4 (at-clips (at-entry c)) .pre in counted-small (omega (arith, p .1, p .3)) (p .5)
-
 returns : tie.Need-returns
 returns c =
     let s = start (c .before) in
-    let h = inl (sym (c .before .is-apart .ensures) ∙ c .if1 .taken) in
-    (misses (rooted s) (s .pre .2) h (s .pre .4), misses-counts (rooted s) (s .pre .2) h (s .pre .5))
+    misses (rooted s) (s .pre .2) (inl (sym (c .before .is-apart .ensures) ∙ c .if1 .taken)) (s .pre .3)
 
 returns-2 : tie.Need-returns-2
 returns-2 c =
     let s = start-2 (c .before) in
-    let h = inr (inl (sym (c .before .is-apart2 .ensures) ∙ c .if2 .taken)) in
-    (misses (rooted s) (s .pre .2) h (s .pre .4), misses-counts (rooted s) (s .pre .2) h (s .pre .5))
+    misses (rooted s) (s .pre .2) (inr (inl (sym (c .before .is-apart2 .ensures) ∙ c .if2 .taken))) (s .pre .3)
 
 returns-3 : tie.Need-returns-3
 returns-3 c =
     let s = start-3 (c .before) in
-    let h = inr (inr (sym (c .before .is-apart3 .ensures) ∙ c .if3 .taken)) in
-    (misses (rooted s) (s .pre .2) h (s .pre .4), misses-counts (rooted s) (s .pre .2) h (s .pre .5))
+    misses (rooted s) (s .pre .2) (inr (inr (sym (c .before .is-apart3 .ensures) ∙ c .if3 .taken))) (s .pre .3)
 
 root-max-requires : tie.Need-root-max-requires
 root-max-requires c κs =
@@ -118,29 +98,18 @@ root-max-requires c κs =
       child-in (rooted b) (entry-is c),
       record { upper = s .upper; lower = s .lower; upper-linked = s .upper-linked; lower-linked = s .lower-linked },
       part (b .pre .2) (clips (at-clips c)),
-      part-in (b .pre .2) (clips (at-clips c)),
     )
 
--- the counts of the roots before fit their words, and so do they with those of one entry more
-add-upper : tie.Need-add-t37
-add-upper c =
-    let k = at-first c in
-    omega (arith, roots-fit k .0, entry-small (at-root k .root-max .ensures) .0)
-
-add-lower : tie.Need-add-t38
-add-lower c =
-    let k = at-first (at-third c) in
-    omega (arith, roots-fit k .1, entry-small (at-root k .root-max .ensures) .1)
+add-count : tie.Need-add-count
+add-count c =
+    let b = start-4 (at-clips (at-entry c)) in
+    omega (arith, b .pre .3 .small, b .pre .1, b .good)
 
 returns-4 : tie.Need-returns-4
 returns-4 c =
-    let k = at-first (at-third (c .before)) in
-    let e = at-entry k in
+    let e = at-entry c in
     let b = start-4 (at-clips e) in
-    let h = at-root k .root-max .ensures in (
-      meets (rooted b) (b .pre .2) (clips (at-clips e)) (entry-is e) (b .pre .4) (h .most) (k .before .greater .ensures),
-      meets-counts (rooted b) (b .pre .2) (clips (at-clips e)) (entry-is e) (b .pre .5) h (c .add-words .ensures),
-    )
+    meets (rooted b) (b .pre .2) (clips (at-clips e)) (entry-is e) (b .pre .3) (c .before .before .root-max .ensures) (c .before .greater .ensures)
 
 pub cover-spec : {M : Type 1} → statement M
 cover-spec =
@@ -173,8 +142,5 @@ cover-spec =
     (λ c κs. search needs)
     root-max-requires
     (λ c κs. search needs)
-    (λ c. let b = start-4 (at-clips (at-entry c)) in omega (arith, b .pre .4 .small, b .pre .1, b .good))
-    add-upper
-    add-lower
-    (λ c κs. roots-fit (at-first (at-third c)) .2)
+    add-count
     returns-4)

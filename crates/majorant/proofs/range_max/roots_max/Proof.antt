@@ -1,7 +1,7 @@
--- `majorant::range_max::roots_max` meets its contract. The invariant: the maximum and the counts of the roots before i.
+-- `majorant::range_max::roots_max` meets its contract. The invariant: the maximum and the count of blocks of the roots before i.
 -- At the end the count says whether a place is left. Assumes nothing.
 use Prim.Native.Nat.{ℕ, _-_, _≤_}
-use mathlib.Core.Path.{_≡_, _∙_, subst}
+use mathlib.Core.Path.{_≡_, refl, subst}
 use native.Mathlib.Omega.{arith}
 use native.Mathlib.Nat.{mul-le-mul}
 use lib.ListN.{length}
@@ -9,8 +9,6 @@ use borrow.Author.Needs.{needs}
 use Rattle.sparse_grid.specs.Tables.{Grid, gridOf}
 use Rattle.majorant.specs.declared.range_max.Covered.{Covered}
 use Rattle.boxes.specs.RangeMax.{CoveredIn}
-use Rattle.walk.specs.Counts.{zoneIn, CountedTo}
-use Rattle.walk.specs.CountLaws.{counted-none, counted-as}
 use Rattle.majorant.proofs.RootsMet.{covered-none, Ended, ends-gap, ends-whole}
 use Rattle.majorant.proofs.range_max.roots_max.Statement.{statement}
 use Rattle.majorant.proofs.range_max.roots_max.Tie as tie
@@ -19,7 +17,6 @@ abbrev Inv-loop : tie.InvT-loop
 Inv-loop background blocks root-links root-values upper-links upper-values lower-links lower-values leaf-values x y z covered₀ i₀ covered i =
     let g = gridOf background blocks root-links root-values upper-links upper-values lower-links lower-values leaf-values in
     (i ≤ length root-links) × CoveredIn g i x y z (covered .maximum) (covered .blocks)
-    × CountedTo g i (zoneIn x y z) (covered .blocks) (covered .upper) (covered .lower) (covered .leaf .high) (covered .leaf .low)
 
 abbrev μ-loop : tie.MeasureT-loop
 μ-loop background blocks root-links root-values upper-links upper-values lower-links lower-values leaf-values x y z covered₀ i₀ covered i =
@@ -67,15 +64,11 @@ ended c =
 
 loop-holds : tie.Need-loop-holds Inv-loop μ-loop
 loop-holds c =
-    let b = begin c .args in (
-      omega arith,
-      covered-none (grid (begin c)) (b .x .lo) (b .x .hi) (b .y .lo) (b .y .hi) (b .z .lo) (b .z .hi),
-      counted-none (grid (begin c)) (zoneIn (b .x) (b .y) (b .z)),
-    )
+    let b = begin c .args in
+    (omega arith, covered-none (grid (begin c)) (b .x .lo) (b .x .hi) (b .y .lo) (b .y .hi) (b .z .lo) (b .z .hi))
 
 cover-requires : tie.Need-cover-requires Inv-loop μ-loop
-cover-requires c κs = let b = begin (c .before .before) in
-    (b .pre .0, c .loop-test .taken, b .pre .1, b .pre .2, c .before .loop .inv .1, c .before .loop .inv .2)
+cover-requires c κs = let b = begin (c .before .before) in (b .pre .0, c .loop-test .taken, b .pre .1, c .before .loop .inv .1)
 
 mul-total : tie.Need-mul-total Inv-loop μ-loop
 mul-total c = record { fits = let h = mul-le-mul (c .before .blocks-along2 .ensures .1) (c .blocks-along3 .ensures .1) in omega arith }
@@ -87,36 +80,6 @@ mul-total-2 c = record {
       omega arith;
 }
 
--- the counts of all roots
-counts : (c : tie.After-blocks-along3 Inv-loop μ-loop) →
-    let b = start (at-end c) in
-    let h = held c in
-    CountedTo (grid b) (length (b .args .root-links .now)) (zoneIn (b .args .x) (b .args .y) (b .args .z))
-    (h .blocks) (h .upper) (h .lower) (h .leaf .high) (h .leaf .low)
-counts c =
-    let l = at-end c in
-    let b = start l in
-    let h = held c in
-    let e : l .before .loop .i ≡ length (b .args .root-links .now) = omega (arith, l .before .loop .inv .0, l .loop-test .left) in
-    subst (λ (n : ℕ). CountedTo (grid b) n (zoneIn (b .args .x) (b .args .y) (b .args .z))
-    (h .blocks) (h .upper) (h .lower) (h .leaf .high) (h .leaf .low)) e (l .before .loop .inv .2)
-
-returns : tie.Need-returns Inv-loop μ-loop
-returns c =
-    let t = c .before .before in
-    let a = c .counted .ensures in (
-      ends-gap (ended (t .before)) (t .if1 .taken) (a .0 ∙ c .before .greater .ensures),
-      counted-as (counts (t .before)) (a .1) (a .2) (a .3) (a .4) (a .5),
-    )
-
-returns-2 : tie.Need-returns-2 Inv-loop μ-loop
-returns-2 c =
-    let t = c .before in
-    let a = c .counted2 .ensures in (
-      ends-whole (ended (t .before)) (t .if1 .left) (a .0),
-      counted-as (counts (t .before)) (a .1) (a .2) (a .3) (a .4) (a .5),
-    )
-
 pub roots-max-spec : {M : Type 1} → statement M
 roots-max-spec =
     tie.close
@@ -127,14 +90,12 @@ roots-max-spec =
     cover-requires
     (λ c. omega arith)
     (λ c. omega arith)
-    (λ c. (omega arith, c .cover .ensures .0, c .cover .ensures .1))
+    (λ c. (omega arith, c .cover .ensures))
     (λ c κs. (start c .pre .1 .x-some, start c .pre .1 .x-top))
     (λ c κs. (start (c .before) .pre .1 .y-some, start (c .before) .pre .1 .y-top))
     (λ c κs. (start (c .before .before) .pre .1 .z-some, start (c .before .before) .pre .1 .z-top))
     mul-total
     mul-total-2
     (λ c κs. search needs)
-    (λ c κs. search needs)
-    returns
-    (λ c κs. search needs)
-    returns-2)
+    (λ c. ends-gap (ended (c .before .before)) (c .before .if1 .taken) (c .greater .ensures))
+    (λ c. ends-whole (ended (c .before)) (c .if1 .left) refl))

@@ -98,7 +98,7 @@ returns-3 c =
     let i = at-inside (position q) in
     let s = start (position q) in
     mixed (readIn (grid s)) (medium s) (point s) (x-side q) (y-side q) (z-side q) (x-stands q) (y-stands q) (z-stands q)
-    (i .before .outside-fault .ensures) (i .if1 .left) (faults q) (c .before .if2 .left) (c .along-x .ensures)
+    (i .before .outside-fault .ensures) (i .if1 .left) (faults q) (c .before .if2 .left) (c .mixed-at .ensures)
 
 pub density-spec : {M : Type 1} → statement M
 density-spec =

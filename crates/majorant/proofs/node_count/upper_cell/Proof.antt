@@ -1,0 +1,135 @@
+-- `majorant::node_count::upper_cell` meets its contract: every place of a cell goes by the entry of its first one. Assumes nothing.
+use Prim.Native.Nat.{ℕ, _+_, _*_, _≤_, _<_}
+use mathlib.Core.Path.{_≡_, refl, sym, ap, _∙_}
+use mathlib.Core.List.{List}
+use native.Mathlib.Omega.{arith}
+use lib.ListN.{length}
+use lib.Ieee.{Float}
+use borrow.Author.Needs.{needs}
+use Rattle.sparse_grid.specs.Tables.{entryAt}
+use Rattle.sparse_grid.specs.TableLaws.{entry-read}
+use Rattle.boxes.specs.declared.Span.{Span}
+use Rattle.boxes.specs.RangeMax.{Within, InCell, entryRead, lowerRead, upperRead, upperSlot}
+use Rattle.boxes.specs.NodeCells.{cell-tile, cell-child, upper-same, child-link}
+use Rattle.walk.specs.Walk.{lowersOnly, leavesOnly}
+use Rattle.walk.specs.Counts.{cellsAlong}
+use Rattle.walk.specs.CountLaws.{tile-count, child-lowers, child-leaves}
+use Rattle.majorant.proofs.node_count.upper_cell.Statement.{statement}
+use Rattle.majorant.proofs.node_count.upper_cell.Tie as tie
+
+abbrev at-index : tie.After-entry-of → tie.After-table-index
+at-index c = c .before .before .before
+
+abbrev begin : tie.After-table-index → tie.Start
+begin c = c .before .before .before .before .before .before .before .before .before
+
+abbrev start : tie.After-entry-of → tie.Start
+start c = begin (at-index c)
+
+abbrev at-entry : tie.After-lower-max → tie.After-entry-of
+at-entry c = c .before .before .before .before
+
+-- the node's two tables, the slot of the first place, and what is read below
+abbrev links : tie.Start → List ℕ
+links c = c .args .upper-links .now
+
+abbrev values : tie.Start → List Float
+values c = c .args .upper-values .now
+
+abbrev slot : tie.Start → ℕ
+slot c = let a = c .args in upperSlot (a .k) (a .x .lo) (a .y .lo) (a .z .lo)
+
+abbrev below : tie.Start → ℕ → ℕ → ℕ → ℕ → Float
+below c = let a = c .args in lowerRead (a .lower-links .now) (a .lower-values .now) (a .leaf-values .now)
+
+-- a place of the node lies in both of its tables
+slot-in : (c : tie.After-table-index) →
+    let i = 32768 * begin c .args .k + c .table-index .result in (i < length (links (begin c))) × (i < length (values (begin c)))
+slot-in c = let h = begin c .pre .0 in (omega (arith, c .table-index .ensures, h .room), omega (arith, c .table-index .ensures, h .room, h .tables .upper))
+
+-- the entry that the code reads is that of the slot
+entry : (c : tie.After-entry-of) → entryAt (links (start c)) (values (start c)) (slot (start c)) ≡ c .entry-of .result
+entry c =
+    let b = start c in
+    let i = 32768 * b .args .k + at-index c .table-index .result in
+    ap (λ (n : ℕ). entryAt (links b) (values b) (32768 * b .args .k + n)) (sym (at-index c .table-index .ensures))
+    ∙ sym (c .entry-of .ensures ∙ entry-read (links b) (values b) i (slot-in (at-index c) .1))
+
+-- and every place of the cell goes by it
+same : (c : tie.Start) →
+    let a = c .args in
+    (x y z : ℕ) → Within (a .x) (a .y) (a .z) x y z
+    → upperRead (a .upper-links .now) (a .upper-values .now) (a .lower-links .now) (a .lower-values .now) (a .leaf-values .now) (a .k) x y z
+    ≡ entryRead (entryAt (links c) (values c) (slot c)) (λ j. below c j x y z)
+same c =
+    let a = c .args in
+    upper-same (a .x) (a .y) (a .z) (a .upper-links .now) (a .upper-values .now) (a .lower-links .now) (a .lower-values .now) (a .leaf-values .now)
+    (a .k) (c .pre .2 .0) (c .pre .2 .1) (c .pre .2 .2)
+
+lower-max-requires : tie.Need-lower-max-requires
+lower-max-requires c κs =
+    let d = c .before .before .before in
+    let b = start d in
+    let p = b .pre in
+    let l = child-link (links b) (values b) (slot b) (entry d ∙ c .before .j .given .1) in
+    let h = p .0 .tables .upper-linked (slot b) in
+    (record { room = omega arith; pair = p .0 .tables .lower; linked = p .0 .tables .lower-linked }, p .1, p .2)
+
+-- no more than 16 lower entries along an axis
+cells-in-requires : tie.Need-cells-in-requires
+cells-in-requires c κs =
+    let b = start (at-entry c) in
+    let p = b .pre in
+    (p .1, omega arith, few (b .args .x) (p .1 .x-some) (p .2 .0), few (b .args .y) (p .1 .y-some) (p .2 .1), few (b .args .z) (p .1 .z-some) (p .2 .2))
+  where
+    few : (s : Span) → s .lo < s .hi → InCell 128 s → cellsAlong 8 s ≤ 32
+    few s l h = omega arith
+
+returns : tie.Need-returns
+returns c =
+    let m = c .before .before .before in
+    let e = m .before .before in
+    let b = start e in
+    let a = b .args in
+    let q = entry e ∙ m .j .given .1 in
+    let h = c .before .lower-max .ensures in
+    record {
+      most = cell-child (below b) (a .x) (a .y) (a .z) (same b) q (h .most);
+      lowers-are = c .cells-in .ensures
+          ∙ child-lowers (links b) (values b) (a .lower-links .now) (a .lower-values .now) (a .k) (b .pre .1) (b .pre .2) q;
+      leaves-are = child-leaves (links b) (values b) (a .lower-links .now) (a .lower-values .now) (a .k) (b .pre .1) (b .pre .2) q (h .leaves-are);
+    }
+
+returns-2 : tie.Need-returns-2
+returns-2 c =
+    let m = c .before .before in
+    let e = m .before .before in
+    let b = start e in
+    let a = b .args in
+    let q = entry e ∙ m .v .given .1 in
+    record {
+      most = cell-tile (below b) (a .x) (a .y) (a .z) (same b) (b .pre .1) q (c .greater .ensures);
+      lowers-are = tile-count (links b) (values b) (a .lower-links .now) (a .lower-values .now) (a .k) (b .pre .1) (b .pre .2) lowersOnly refl q;
+      leaves-are = tile-count (links b) (values b) (a .lower-links .now) (a .lower-values .now) (a .k) (b .pre .1) (b .pre .2) leavesOnly refl q;
+    }
+
+pub upper-cell-spec : {M : Type 1} → statement M
+upper-cell-spec =
+    tie.close
+    (tie.spec
+    (λ c. omega arith)
+    (λ c κs. search needs)
+    (λ c. omega arith)
+    (λ c. omega arith)
+    (λ c. slot-in (c .before) .0)
+    (λ c. omega arith)
+    (λ c. slot-in (c .before .before) .1)
+    (λ c κs. search needs)
+    (λ c. search needs)
+    (λ c. omega arith)
+    lower-max-requires
+    cells-in-requires
+    (λ c. search needs)
+    (λ c κs. search needs)
+    returns
+    returns-2)
