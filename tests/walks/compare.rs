@@ -70,6 +70,14 @@ fn entries(random: &mut Random, n: usize, nodes: usize, children: usize) -> (Vec
     table
 }
 
+/// An eighth from -1 to 1; a zero is -0.0, which is the number 0.0.
+fn eighth(random: &mut Random) -> f32 {
+    match random.between(-8, 8) {
+        0 => -0.0,
+        eighths => eighths as f32 / 8.0,
+    }
+}
+
 const FEW: usize = 4;
 const FULL: usize = 1000;
 
@@ -93,7 +101,7 @@ fn grid(random: &mut Random, children: usize) -> Grid {
         blocks: blocks.concat(),
         upper: entries(random, 32_768 * nodes[0], nodes[1], children),
         lower: entries(random, 4096 * nodes[1], nodes[2], children),
-        leaf: (0..512 * nodes[2]).map(|_| random.between(-8, 8) as f32 / 8.0).collect(),
+        leaf: (0..512 * nodes[2]).map(|_| eighth(random)).collect(),
         background: random.between(-8, 8) as f32 / 8.0,
     }
 }
