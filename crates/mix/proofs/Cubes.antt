@@ -1,15 +1,19 @@
 -- Eight voxels in one cube of 8: what is read from the spot of one of them is what each lookup reads. Assumes nothing.
-use mathlib.Core.Path.{_≡_, refl, sym, _∙_}
+use mathlib.Core.Path.{_≡_, refl, sym, ap, _∙_}
 use mathlib.Core.Bool.{Bool, true, false, cond, _&&_}
 use lib.IntN.{ℤ}
 use lib.Signed.{shrZ}
 use lib.Ieee.{Float}
+use Rattle.refusals.specs.Results.{valueOr}
+use Rattle.float.specs.Zero.{+0}
 use Rattle.layout.specs.Coordinates.{Coord}
 use Rattle.sparse_grid.specs.declared.Spot.{Spot}
-use Rattle.sparse_grid.specs.declared.Spot.the-variants.{InLeaf, Same, Refused}
 use Rattle.sparse_grid.specs.Tables.{Grid}
-use Rattle.sparse_grid.specs.Answers.{at}
-use Rattle.sparse_grid.specs.Spots.{leavesOf, readFrom, Cube}
+use Rattle.sparse_grid.specs.Lookup as lookup
+use Rattle.sparse_grid.specs.Lookup.{Found, valueIn, readIn}
+use Rattle.sparse_grid.specs.Answers.{valueOnly, at}
+use Rattle.sparse_grid.specs.Spots.{leavesOf, answerFrom, readFrom, Cube}
+use Rattle.sparse_grid.specs.SpotLaws.{from-leaves}
 use Rattle.mix.specs.declared.point.Side.{Side}
 use Rattle.mix.specs.Mix.{lerp}
 use Rattle.mix.specs.Density.{cornerOf}
@@ -27,11 +31,14 @@ pub corner-cube : (i j k : Side) → Shares i → Shares j → Shares k → (x y
     → Cube (cornerOf (endsIn i) (endsIn j) (endsIn k) x y z) (at (i .lo) (j .lo) (k .lo))
 corner-cube i j k p q r x y z = record { x = on-side (i .lo) (i .hi) p x; y = on-side (j .lo) (j .hi) q y; z = on-side (k .lo) (k .hi) r z }
 
--- what stands above the leaves does not count
-pub from-leaves : (g : Grid) (s : Spot) (c : Coord) → readFrom (leavesOf (g .leafValues)) s c ≡ readFrom g s c
-from-leaves g (InLeaf k) c = refl
-from-leaves g (Same v) c = refl
-from-leaves g (Refused n) c = refl
+value-of : (f : Found) → valueOr +0 (valueOnly f) ≡ valueIn f
+value-of (lookup.value v l) = refl
+value-of (lookup.refused n) = refl
+
+-- where a spot gives what a lookup gives, the leaves alone tell what is read
+pub as-looked-up : (g : Grid) (s : Spot) (c : Coord) → answerFrom g s c ≡ valueOnly (lookup.lookup g c)
+    → readFrom (leavesOf (g .leafValues)) s c ≡ readIn g c
+as-looked-up g s c e = ap (valueOr +0) (from-leaves g s c ∙ e) ∙ value-of (lookup.lookup g c)
 
 -- two readers that agree on the eight mix alike
 pub on-same : (read other : Coord → Float) (i j k : Side)

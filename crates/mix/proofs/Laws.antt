@@ -27,10 +27,9 @@ use Rattle.float.specs.Patterns.{read-back}
 use Rattle.layout.specs.Coordinates.{Coord}
 use Rattle.sparse_grid.specs.Tables.{Grid}
 use Rattle.sparse_grid.specs.Validate.{validate, densityFault, validateDensity}
-use Rattle.sparse_grid.specs.Lookup as lookup
-use Rattle.sparse_grid.specs.Lookup.{Found, valueIn, readIn}
+use Rattle.sparse_grid.specs.Lookup.{readIn}
 use Rattle.sparse_grid.specs.declared.Answer.{Answer}
-use Rattle.sparse_grid.specs.Answers.{at, answer, valueOnly}
+use Rattle.sparse_grid.specs.Answers.{at, answer}
 use Rattle.medium.specs.Medium.{Point, Medium, Axis, xAxis, yAxis, zAxis, each, boundsFault, mapFault}
 use Rattle.index.specs.Cells.{Ends}
 use Rattle.index.specs.Index.{worldToIndex}
@@ -58,13 +57,13 @@ pub read-at : (read : Coord → Float) (x y z : ℤ) → mag x < 2 ^ 31 → mag 
     → read (at (held x) (held y) (held z)) ≡ read (at x y z)
 read-at read x y z p q r = λ i. read (at (seen x p i) (seen y q i) (seen z r i))
 
--- the value of a lookup's answer
-pub value-read : {r k : Answer} (f : Found) → answer r ≡ said +0 (valueOnly f) → r ≡ k → answer k .value ≡ valueIn f
-value-read f e q = ap (λ (a : Answer). answer a .value) (sym q) ∙ ap (λ (s : Said Float). s .value) e ∙ go f
+-- the value of an answer
+pub value-read : {r k : Answer} (x : Result Float) → answer r ≡ said +0 x → r ≡ k → answer k .value ≡ valueOr +0 x
+value-read x e q = ap (λ (a : Answer). answer a .value) (sym q) ∙ ap (λ (s : Said Float). s .value) e ∙ go x
   where
-    go : (f : Found) → said +0 (valueOnly f) .value ≡ valueIn f
-    go (lookup.value v l) = refl
-    go (lookup.refused n) = refl
+    go : (x : Result Float) → said +0 x .value ≡ valueOr +0 x
+    go (ok v) = refl
+    go (refused n) = refl
 
 -- a test and the fault that it stands for
 pub tested : {r t : Bool} (n : ℕ) → r ≡ t → (b : Bool) → r ≡ b → unless b n ≡ unless t n

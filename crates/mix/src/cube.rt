@@ -2,10 +2,12 @@
 ghost use mathlib.Core.Path.{_≡_};
 ghost use mathlib.Core.Bool.{true};
 ghost use lib.Signed.{shrZ};
+ghost use Rattle.sparse_grid.specs.Answers.{at};
 ghost use Rattle.sparse_grid.specs.Spots.{leavesOf, readFrom};
 ghost use Rattle.mix.specs.Inner.{onZ, onY, onX};
 use crate::point::Side;
 use crate::point::lerp;
+use sparse_grid::Answer;
 use sparse_grid::Spot;
 use sparse_grid::read_spot;
 
@@ -23,12 +25,22 @@ pub(crate) fn shares(a: Side) -> bool
     cube_of(a.lo) == cube_of(a.hi)
 }
 
+// What is read at a coordinate from a spot on, and +0.0 where the lookup is refused.
+pub(crate) fn read(leaf_values: &[f32], spot: Spot, x: i32, y: i32, z: i32) -> f32
+    ensures { λ r. ⌜ r ≡ readFrom (leavesOf (now («leaf_values» .entry))) spot (at x y z) ⌝ }
+{
+    match read_spot(leaf_values, spot, x, y, z) {
+        Answer::Value(v) => v,
+        Answer::Refused(_) => 0.0,
+    }
+}
+
 // Along z, at x and y.
-fn cube_z(leaf_values: &[f32], spot: Spot, x: i32, y: i32, k: Side) -> f32
+pub(crate) fn cube_z(leaf_values: &[f32], spot: Spot, x: i32, y: i32, k: Side) -> f32
     ensures { λ r. ⌜ r ≡ onZ (readFrom (leavesOf (now («leaf_values» .entry))) spot) x y k ⌝ }
 {
-    let a = read_spot(leaf_values, spot, x, y, k.lo);
-    let b = read_spot(leaf_values, spot, x, y, k.hi);
+    let a = read(leaf_values, spot, x, y, k.lo);
+    let b = read(leaf_values, spot, x, y, k.hi);
     lerp(a, b, k.t)
 }
 

@@ -13,6 +13,8 @@ ghost use Rattle.mix.specs.Mix.{lerp as lerpS, part as partS};
 ghost use Rattle.mix.specs.Density.{outsideFault, densityBy};
 ghost use Rattle.mix.specs.Inner.{sided, blended, onZ, onY, onX};
 use crate::cube::cube_x;
+use crate::cube::cube_z;
+use crate::cube::read;
 use crate::cube::shares;
 use float::float_of;
 use float::narrow;
@@ -22,9 +24,7 @@ use index::world_to_index_f;
 use medium::Medium;
 use refusals::both;
 use refusals::first_fault;
-use sparse_grid::Answer;
 use sparse_grid::get_spot;
-use sparse_grid::get_value;
 
 // The voxels on either side of a position on one axis, and the part of the way between them; or the fault.
 pub struct Side {
@@ -91,7 +91,7 @@ fn outside_fault(m: Medium, x: f32, y: f32, z: f32) -> u32
 }
 
 // What a lookup reads, and +0.0 where it is refused.
-fn read(
+fn voxel(
     background: f32,
     blocks: &[i32],
     root_links: &[u32],
@@ -111,7 +111,7 @@ fn read(
         (now («leaf_values» .entry)) in
         ⌜ r ≡ readIn g (at x y z) ⌝ }
 {
-    match get_value(
+    let spot = get_spot(
         background,
         blocks,
         root_links,
@@ -120,17 +120,14 @@ fn read(
         upper_values,
         lower_links,
         lower_values,
-        leaf_values,
         x,
         y,
         z,
-    ) {
-        Answer::Value(v) => v,
-        Answer::Refused(_) => 0.0,
-    }
+    );
+    read(leaf_values, spot, x, y, z)
 }
 
-// The mix along z, at x and y.
+// The mix along z, at x and y. Two voxels in one cube of 8 share the way down the tables.
 fn along_z(
     background: f32,
     blocks: &[i32],
@@ -151,7 +148,23 @@ fn along_z(
         (now («leaf_values» .entry)) in
         ⌜ r ≡ onZ (readIn g) x y k ⌝ }
 {
-    let a = read(
+    if shares(k) {
+        let spot = get_spot(
+            background,
+            blocks,
+            root_links,
+            root_values,
+            upper_links,
+            upper_values,
+            lower_links,
+            lower_values,
+            x,
+            y,
+            k.lo,
+        );
+        return cube_z(leaf_values, spot, x, y, k);
+    }
+    let a = voxel(
         background,
         blocks,
         root_links,
@@ -165,7 +178,7 @@ fn along_z(
         y,
         k.lo,
     );
-    let b = read(
+    let b = voxel(
         background,
         blocks,
         root_links,

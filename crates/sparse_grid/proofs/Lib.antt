@@ -5,4 +5,3 @@ pub mod Blocks
 pub mod Whole
 pub mod Nodes
 pub mod Rising
-pub mod Sharing

@@ -1,11 +1,13 @@
--- Coordinates of one cube of 8 have one block and one slot in each node above a leaf. Assumes nothing.
+-- Coordinates of one cube of 8 have one block and one slot in each node above a leaf; from a spot on, only the leaves count. Assumes nothing.
 use Prim.Native.Nat.{ℕ, _+_, _-_, _*_, _/_, _%_}
 use native.Mathlib.Omega.{arith}
-use mathlib.Core.Path.{_≡_, sym, ap, _∙_}
+use mathlib.Core.Path.{_≡_, refl, sym, ap, _∙_}
 use lib.IntN.{ℤ, pos, negsuc}
 use lib.Signed.{shrZ}
 use Rattle.layout.specs.Coordinates.{Coord, modZ, slot, blockOf}
-use Rattle.sparse_grid.specs.Spots.{Cube}
+use Rattle.sparse_grid.specs.declared.Spot.{Spot}
+use Rattle.sparse_grid.specs.Tables.{Grid}
+use Rattle.sparse_grid.specs.Spots.{Cube, leavesOf, answerFrom}
 
 -- a slot and a block by the number of the cube
 inLower : ℤ → ℕ
@@ -60,3 +62,7 @@ module _ {c d : Coord} (s : Cube c d) where
         y = along f inBlock block-is (c .y) (d .y) (s .y) i;
         z = along f inBlock block-is (c .z) (d .z) (s .z) i;
       }
+
+-- what stands above the leaves does not count from a spot on
+pub from-leaves : (g : Grid) (s : Spot) (c : Coord) → answerFrom (leavesOf (g .leafValues)) s c ≡ answerFrom g s c
+from-leaves g s c = refl

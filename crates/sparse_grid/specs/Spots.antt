@@ -1,21 +1,26 @@
 -- Where a lookup ends, as far as the coordinates of one cube of 8 share it: in a leaf, or at a value that is theirs all.
 use Prim.Native.Nat.{ℕ}
 use mathlib.Core.Path.{_≡_}
+use mathlib.Core.Bool.{cond}
 use mathlib.Core.List.{List, []}
 use lib.Signed.{shrZ}
 use lib.Ieee.{Float}
+use Rattle.refusals.specs.Results.{Result, ok, valueOr}
+use Rattle.refusals.specs.Faults.{passing}
 use Rattle.float.specs.Zero.{+0}
 use Rattle.layout.specs.Coordinates.{Coord}
 use Rattle.sparse_grid.specs.declared.Spot.{Spot}
-use Rattle.sparse_grid.specs.declared.Spot.the-variants.{InLeaf, Same, Refused}
 use Rattle.sparse_grid.specs.Tables.{Grid, gridOf}
-use Rattle.sparse_grid.specs.Lookup.{leafAt, valueIn}
+use Rattle.sparse_grid.specs.Lookup.{leafAt}
+use Rattle.sparse_grid.specs.Answers.{valueOnly}
 
--- what is read at a coordinate from there on, and +0 where the lookup was refused
+-- what a lookup gives at a coordinate from there on: a value, or its refusal
+abbrev pub answerFrom : Grid → Spot → Coord → Result Float
+answerFrom g s c = cond (s .«in_leaf») (valueOnly (leafAt g (s .leaf) c)) (passing (s .number) (ok (s .value)))
+
+-- the value of that, and +0 where the lookup was refused
 abbrev pub readFrom : Grid → Spot → Coord → Float
-readFrom g (InLeaf k) c = valueIn (leafAt g k c)
-readFrom g (Same v) c = v
-readFrom g (Refused n) c = +0
+readFrom g s c = valueOr +0 (answerFrom g s c)
 
 -- the grid of these leaves: nothing above them counts
 abbrev pub leavesOf : List Float → Grid

@@ -9,8 +9,8 @@ ghost use Rattle.float.specs.Zero.{+0};
 ghost use Rattle.sparse_grid.specs.Tables.{gridOf, entryOf};
 ghost use Rattle.sparse_grid.specs.Biased.{back, raised};
 ghost use Rattle.sparse_grid.specs.Validate.{validate as validateS, densityFault, validateDensity};
-ghost use Rattle.sparse_grid.specs.Lookup.{lookup as lookupS, readIn};
-ghost use Rattle.sparse_grid.specs.Spots.{leavesOf, readFrom, Cube};
+ghost use Rattle.sparse_grid.specs.Lookup.{lookup as lookupS};
+ghost use Rattle.sparse_grid.specs.Spots.{leavesOf, answerFrom, Cube};
 ghost use Rattle.sparse_grid.specs.Answers.{answer, valueOnly, saying, unspoken, spoken, levelOf, at};
 ghost use Rattle.sparse_grid.specs.Inner.{rootOf, Has, levelAt};
 
@@ -27,6 +27,7 @@ use lookup::below;
 use lookup::place_of;
 use lookup::root_for;
 use shared::in_leaf;
+use shared::refused_spot;
 use shared::root_spot;
 
 // What stands at a slot of a node or beside a root's block: the number of a child, or a value for every coordinate below it.
@@ -64,11 +65,13 @@ pub enum Reading {
     Refused(u32),
 }
 
-// Where a lookup ends for all coordinates of a cube of 8: in leaf k, or at one value; or the number of its refusal.
-pub enum Spot {
-    InLeaf(u32),
-    Same(f32),
-    Refused(u32),
+// Where a lookup ends for all coordinates of a cube of 8: in a leaf, at one value, or at a refusal, whose number is not 0. An enum would be
+// packed into one word and taken apart again, as each of eight voxels is read.
+pub struct Spot {
+    pub number: u32,
+    pub in_leaf: bool,
+    pub leaf: u32,
+    pub value: f32,
 }
 
 // Link 0 is a tile, k + 1 is child k. Callers read the two where the index is known to be in the tables.
@@ -305,7 +308,7 @@ pub fn get_reading(
     Reading::Value(value, spoke)
 }
 
-// The way of a lookup down to a leaf. What `readFrom` reads from there on is what a lookup reads, at each coordinate of the cube of 8.
+// The way of a lookup down to a leaf. What `answerFrom` gives from there on is what a lookup gives, at each coordinate of the cube of 8.
 pub fn get_spot(
     background: f32,
     blocks: &[i32],
@@ -322,7 +325,7 @@ pub fn get_spot(
     ensures { λ r. ⌜ ((leaves : List Float) (c : Coord) → Cube c (at x y z)
         → let g = gridOf background (now (blocks .entry)) (now («root_links» .entry)) (now («root_values» .entry))
         (now («upper_links» .entry)) (now («upper_values» .entry)) (now («lower_links» .entry)) (now («lower_values» .entry)) leaves in
-        readFrom g r c ≡ readIn g c) ⌝ }
+        answerFrom g r c ≡ valueOnly (lookupS g c)) ⌝ }
 {
     let mut root: usize = 0;
     let fault = root_for(
@@ -339,7 +342,7 @@ pub fn get_spot(
         &mut root,
     );
     if fault != 0 {
-        return Spot::Refused(fault);
+        return refused_spot(fault);
     }
     root_spot(
         background,
@@ -354,15 +357,17 @@ pub fn get_spot(
     )
 }
 
-// What is read at a coordinate from a spot on, and +0.0 after a refusal.
-pub fn read_spot(leaf_values: &[f32], spot: Spot, x: i32, y: i32, z: i32) -> f32
-    ensures { λ r. ⌜ r ≡ readFrom (leavesOf (now («leaf_values» .entry))) spot (at x y z) ⌝ }
+// What a lookup gives at a coordinate from a spot on.
+pub fn read_spot(leaf_values: &[f32], spot: Spot, x: i32, y: i32, z: i32) -> Answer
+    ensures { λ r. ⌜ answer r ≡ said +0 (answerFrom (leavesOf (now («leaf_values» .entry))) spot (at x y z)) ⌝ }
 {
-    match spot {
-        Spot::InLeaf(k) => in_leaf(leaf_values, k, place_of(x, y, z)),
-        Spot::Same(v) => v,
-        Spot::Refused(_) => 0.0,
+    if spot.in_leaf {
+        return in_leaf(leaf_values, spot.leaf, place_of(x, y, z));
     }
+    if spot.number == 0 {
+        return Answer::Value(spot.value);
+    }
+    Answer::Refused(spot.number)
 }
 
 // `get_reading` without the level.

@@ -18,7 +18,8 @@ use medium::Temperature;
 use refusals::both;
 use refusals::first_fault;
 use sparse_grid::Answer;
-use sparse_grid::get_value;
+use sparse_grid::get_spot;
+use sparse_grid::read_spot;
 
 // The number of the refusal (0 where there is a grid), how many roots and nodes are used, the background, and the temperature
 // that a medium record gains; none after a refusal.
@@ -193,7 +194,7 @@ pub fn temperature_at(
             bits: 0,
         };
     }
-    let found = get_value(
+    let spot = get_spot(
         background,
         blocks,
         root_links,
@@ -202,10 +203,9 @@ pub fn temperature_at(
         upper_values,
         lower_links,
         lower_values,
-        leaf_values,
         x,
         y,
         z,
     );
-    heat_of(t, found)
+    heat_of(t, read_spot(leaf_values, spot, x, y, z))
 }

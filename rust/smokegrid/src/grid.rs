@@ -118,6 +118,11 @@ impl Grid {
         self.used.table_bytes()
     }
 
+    /// The bytes of the tables of its temperature grid, and 0 where there is none.
+    pub fn temperature_bytes(&self) -> usize {
+        self.temperature.as_ref().map_or(0, Temperature::table_bytes)
+    }
+
     pub fn validate(&self) -> Result<(), Refusal> {
         Refusal::check(ffi::validate(&self.tables))
     }

@@ -9,6 +9,7 @@ use crate::tables::{Places, Tables};
 #[derive(Clone, Debug)]
 pub struct Temperature {
     tables: Tables,
+    used: Places,
     offset: f32,
     scale: f32,
 }
@@ -17,6 +18,11 @@ impl Temperature {
     /// A raw grid, of which values below zero pass; 27 for an offset or a scale that is not finite, once the grid has loaded.
     pub fn load(bytes: &[u8], offset: f32, scale: f32) -> Result<Self, Refusal> {
         lend(bytes, |places| load_into(bytes, offset, scale, places))
+    }
+
+    /// The bytes of its tables.
+    pub fn table_bytes(&self) -> usize {
+        self.used.table_bytes()
     }
 
     /// (value - offset) * scale at a coordinate of this grid.
@@ -55,6 +61,7 @@ fn load_into(
     let number = ffi::load_temperature(bytes, offset, scale, &mut tables, &mut work, &mut counts);
     Refusal::check(number)?;
     let [roots, upper, lower, leaf] = counts.map(|count| count as usize);
-    tables.truncate(Places { roots, nodes: [upper, lower, leaf] });
-    Ok(Temperature { tables, offset, scale })
+    let used = Places { roots, nodes: [upper, lower, leaf] };
+    tables.truncate(used);
+    Ok(Temperature { tables, used, offset, scale })
 }

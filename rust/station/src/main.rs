@@ -128,9 +128,11 @@ fn decode(bytes: &[u8], arguments: &Arguments, steps: &mut Steps) -> Result<Grid
 
 fn with_temperature(grid: Grid, heat: &Heat, steps: &mut Steps) -> Result<Grid, Stop> {
     let doing = "loading the temperature";
-    steps.run("heat", doing, || {
+    let heated = steps.run("heat", doing, || {
         source::heat(grid, &source::read(&heat.file)?, heat.offset, heat.scale)
-    })
+    })?;
+    steps.holds(heated.temperature_bytes());
+    Ok(heated)
 }
 
 fn build(grid: &Grid, arguments: &Arguments, steps: &mut Steps) -> Result<Majorant, Refusal> {

@@ -360,7 +360,6 @@ fn a_file_that_does_not_pass_is_refused_by_its_own_number() {
     }
 }
 
-/// The sheet as it is: a heading, and 64 lines of 64 characters, the highest y first.
 /// The sample as its own temperature grid, with values below zero and another world box.
 #[test]
 fn a_temperature_stands_beside_the_density() {
@@ -378,6 +377,12 @@ fn a_temperature_stands_beside_the_density() {
     assert!(text.contains(&format!("temperature      {heat}, (value - 20) * 2\n")), "{text}");
     assert!(text.contains("at (9000, 0, 0)  0 (background), temperature -50\n"), "{text}");
     assert!(text.contains("world box        (0, 0, 0) to (6, 6, 6)\n"), "{text}");
+    let holds = |step: &str| {
+        let line = text.lines().find(|line| line.starts_with(step)).unwrap();
+        line.split_whitespace().nth(3).unwrap().to_string()
+    };
+    assert_eq!(holds("heat "), holds("decode "), "{text}");
+    assert_ne!(holds("heat "), "0", "{text}");
     let density = out(&words(&[]));
     let of = |text: &str| {
         text.lines().find(|line| line.starts_with("at (9, 7, 0)")).unwrap().to_string()
@@ -408,6 +413,7 @@ fn a_temperature_is_refused_by_its_own_number() {
     assert!(err(&output).starts_with("station: no/such: "), "{}", err(&output));
 }
 
+/// The sheet as it is: a heading, and 64 lines of 64 characters, the highest y first.
 #[test]
 fn a_layer_is_printed_as_it_is() {
     let text = out(&station(&[SAMPLE, "--layer", "0"]));

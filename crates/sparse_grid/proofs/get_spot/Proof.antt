@@ -4,14 +4,15 @@ use mathlib.Core.List.{List, []}
 use lib.IntN.{ℤ}
 use lib.Ieee.{Float}
 use lib.ListN.{length}
+use native.Mathlib.Nat.{pos-of-ne-zero}
 use borrow.Author.Needs.{needs}
 use mir.Syntax.{w32}
 use mir.Val.{toZ, ofZ}
 use Rattle.layout.specs.Coordinates.{Coord, blockOf}
 use Rattle.sparse_grid.specs.Tables.{Grid, gridOf}
 use Rattle.sparse_grid.specs.Validate.{pairFault}
-use Rattle.sparse_grid.specs.Lookup.{refused, valueIn}
-use Rattle.sparse_grid.specs.Answers.{at}
+use Rattle.sparse_grid.specs.Lookup.{refused}
+use Rattle.sparse_grid.specs.Answers.{valueOnly, at}
 use Rattle.sparse_grid.specs.Inner.{placed, rootFrom}
 use Rattle.sparse_grid.specs.Sound.{pairs}
 use Rattle.sparse_grid.specs.Signs.{seen}
@@ -19,7 +20,6 @@ use Rattle.sparse_grid.specs.Spots.{Cube}
 use Rattle.sparse_grid.specs.SpotLaws.{block-same}
 use Rattle.sparse_grid.proofs.Whole.{pair-only}
 use Rattle.sparse_grid.proofs.Nodes.{unpaired, by-place}
-use Rattle.sparse_grid.proofs.Sharing.{from-rooted}
 use Rattle.sparse_grid.proofs.get_spot.Statement.{statement}
 use Rattle.sparse_grid.proofs.get_spot.Tie as tie
 
@@ -60,8 +60,10 @@ root-spot-requires c κs =
 
 returns : tie.Need-returns
 returns c = λ leaves d s.
-    let e = pairs-is (c .before) leaves in
-    ap valueIn (ap refused e ∙ unpaired (grid (at-start (c .before)) leaves) d (λ z. c .if1 .taken (e ∙ z)))
+    let t = c .before in
+    let e = pairs-is (t .before) leaves in
+    let g = grid (at-start (t .before)) leaves in
+    c .refused-spot .ensures g d ∙ ap valueOnly (ap refused e ∙ unpaired g d (λ z. t .if1 .taken (e ∙ z)))
 
 returns-2 : tie.Need-returns-2
 returns-2 c = λ leaves d s.
@@ -71,10 +73,9 @@ returns-2 c = λ leaves d s.
     let g = grid a leaves in
     let cube : Cube d (placed (q .place-of .result)) = subst (Cube d) (sym (q .place-of .ensures ∙ same a)) s in
     let root = p .before .root-for .ensures .1 (p .if1 .left) in
-    from-rooted g (c .root-spot .result) d
-    ∙ c .root-spot .ensures leaves d cube
-    ∙ ap valueIn (by-place g d {b = d} (paired p leaves) refl refl
+    c .root-spot .ensures leaves d cube
+    ∙ ap valueOnly (by-place g d {b = d} (paired p leaves) refl refl
     (root ∙ ap (λ (b : Coord). rootFrom (g .blocks) (length (g .rootLinks)) 0 b) (ap blockOf (same a) ∙ sym (block-same s))) refl)
 
 pub get-spot-spec : {M : Type 1} → statement M
-get-spot-spec = tie.close (tie.spec (λ c κs. search needs) returns (λ c κs. search needs) root-spot-requires returns-2)
+get-spot-spec = tie.close (tie.spec (λ c κs. search needs) (λ c κs. pos-of-ne-zero (c .if1 .taken)) returns (λ c κs. search needs) root-spot-requires returns-2)

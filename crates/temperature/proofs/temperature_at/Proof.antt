@@ -1,5 +1,7 @@
--- `temperature::temperature_at` meets its contract: nothing without a grid, 27, and then the lookup. Assumes nothing.
-use mathlib.Core.Path.{_∙_}
+-- `temperature::temperature_at` meets its contract: nothing without a grid, 27, and then the lookup, by its spot. Assumes nothing.
+use mathlib.Core.Path.{refl, ap, _∙_}
+use mir.Syntax.{w32}
+use mir.Val.{toZ, ofZ}
 use mir.Facts.{toZ-ofZ}
 use borrow.Author.Needs.{needs}
 use Rattle.refusals.specs.Results.{said}
@@ -8,6 +10,7 @@ use Rattle.layout.specs.Coordinates.{Coord}
 use Rattle.sparse_grid.specs.Tables.{Grid, gridOf}
 use Rattle.sparse_grid.specs.Lookup.{lookup}
 use Rattle.sparse_grid.specs.Answers.{valueOnly, at}
+use Rattle.sparse_grid.specs.SpotLaws.{from-leaves}
 use Rattle.medium.specs.Medium.{Temperature}
 use Rattle.medium.specs.Record.{asTemperature}
 use Rattle.temperature.proofs.Answered.{heat-none, heat-refused, heat-read}
@@ -41,18 +44,25 @@ returns-2 c =
     let s = f .before .before in
     heat-refused (temperature s) (grid s) (place s) (f .before .if1 .left) (f .heat-fault .ensures) (c .if2 .taken)
 
--- a coordinate that fits is handed on as it is
+-- the coordinate as it is handed on: one that fits is the same
+abbrev handed : tie.After-struct-known → Coord
+handed c = let a = at-start c .args in at (toZ w32 (ofZ w32 (a .x))) (toZ w32 (ofZ w32 (a .y))) (toZ w32 (ofZ w32 (a .z)))
+
 returns-3 : tie.Need-returns-3
 returns-3 c =
     let v = c .before in
-    let f = v .before .before in
+    let q = v .before in
+    let f = q .before .before in
     let s = f .before .before in
     let fits = at-start s .fits in
-    heat-read (temperature s) (grid s) (place s) (f .before .if1 .left) (f .heat-fault .ensures) (v .before .if2 .left) (v .get-value .result)
+    let spot = q .get-spot .result in
+    heat-read (temperature s) (grid s) (place s) (f .before .if1 .left) (f .heat-fault .ensures) (q .before .if2 .left) (v .read-spot .result)
     (c .heat-of .ensures)
-    (v .get-value .ensures
+    (v .read-spot .ensures
+    ∙ ap (said +0) (from-leaves (grid s) spot (handed s)
+    ∙ q .get-spot .ensures (grid s .leafValues) (handed s) (record { x = refl; y = refl; z = refl }))
     ∙ (λ i. said +0 (valueOnly (lookup (grid s) (at (toZ-ofZ (fits .x) i) (toZ-ofZ (fits .y) i) (toZ-ofZ (fits .z) i))))))
 
 pub temperature-at-spec : {M : Type 1} → statement M
 temperature-at-spec =
-    tie.close (tie.spec returns (λ c κs. search needs) returns-2 (λ c κs. search needs) (λ c κs. search needs) returns-3)
+    tie.close (tie.spec returns (λ c κs. search needs) returns-2 (λ c κs. search needs) (λ c κs. search needs) (λ c κs. search needs) returns-3)

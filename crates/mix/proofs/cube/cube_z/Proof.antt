@@ -16,7 +16,7 @@ at-start c = c .before .before
 abbrev read : tie.Start → Coord → Float
 read c = readFrom (leavesOf (c .args .leaf-values .now)) (c .args .spot)
 
-abbrev at-first : tie.After-lerp → tie.After-read-spot
+abbrev at-first : tie.After-lerp → tie.After-read
 at-first c = c .before .before .before
 
 returns : tie.Need-returns
@@ -28,8 +28,8 @@ returns c =
     let e = q .before .struct-told .given .1 in
     c .lerp .ensures
     ∙ (λ i. lerp
-    ((q .read-spot .ensures ∙ read-at (read s) (a .x) (a .y) (a .k .lo) (f .x .sfits) (f .y .sfits) (e .0 .1)) i)
-    ((c .before .read-spot2 .ensures ∙ read-at (read s) (a .x) (a .y) (a .k .hi) (f .x .sfits) (f .y .sfits) (e .1 .0 .1)) i)
+    ((q .read .ensures ∙ read-at (read s) (a .x) (a .y) (a .k .lo) (f .x .sfits) (f .y .sfits) (e .0 .1)) i)
+    ((c .before .read2 .ensures ∙ read-at (read s) (a .x) (a .y) (a .k .hi) (f .x .sfits) (f .y .sfits) (e .1 .0 .1)) i)
     (a .k .t))
 
 pub cube-z-spec : {M : Type 1} → statement M

@@ -10,7 +10,7 @@ use Rattle.sparse_grid.specs.Spots.{leavesOf, readFrom, Cube}
 use Rattle.mix.specs.Density.{cornerOf}
 use Rattle.mix.specs.Inner.{endsIn}
 use Rattle.mix.proofs.Laws.{held, seen}
-use Rattle.mix.proofs.Cubes.{Shares, corner-cube, from-leaves, on-same, both-true}
+use Rattle.mix.proofs.Cubes.{Shares, corner-cube, as-looked-up, on-same, both-true}
 use Rattle.mix.proofs.point.mixed_at.Statement.{statement}
 use Rattle.mix.proofs.point.mixed_at.Tie as tie
 
@@ -56,8 +56,8 @@ returns c =
     c .cube-x .ensures
     ∙ on-same (readFrom (leavesOf (a .leaf-values .now)) (o .get-spot .result)) (readIn g) (a .i) (a .j) (a .k) (λ u v w.
     let d = cornerOf (endsIn (a .i)) (endsIn (a .j)) (endsIn (a .k)) u v w in
-    from-leaves g (o .get-spot .result) d
-    ∙ o .get-spot .ensures (a .leaf-values .now) d (subst (Cube d) (sym same) (corner-cube (a .i) (a .j) (a .k) p q r u v w)))
+    as-looked-up g (o .get-spot .result) d
+    (o .get-spot .ensures (a .leaf-values .now) d (subst (Cube d) (sym same) (corner-cube (a .i) (a .j) (a .k) p q r u v w))))
 
 returns-2 : tie.Need-returns-2
 returns-2 c = c .along-x .ensures

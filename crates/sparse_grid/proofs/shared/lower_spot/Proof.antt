@@ -9,7 +9,8 @@ use borrow.Author.Needs.{needs}
 use Rattle.layout.specs.Coordinates.{Coord}
 use Rattle.sparse_grid.specs.Tables.{Grid, entryAt}
 use Rattle.sparse_grid.specs.TableLaws.{entry-read}
-use Rattle.sparse_grid.specs.Lookup.{valueIn, lowerEntry, lowerAt}
+use Rattle.sparse_grid.specs.Lookup.{lowerEntry, lowerAt}
+use Rattle.sparse_grid.specs.Answers.{valueOnly}
 use Rattle.sparse_grid.specs.Inner.{nodesOf, placed}
 use Rattle.sparse_grid.specs.Spots.{Cube}
 use Rattle.sparse_grid.specs.SpotLaws.{lower-same}
@@ -51,30 +52,35 @@ read c leaves d s =
 -- ---- the ways out: no whole node, a child, a tile
 returns : tie.Need-returns
 returns c = λ leaves d s.
-    let a = at-missing c .args in
-    ap valueIn (missing (4096 * (a .k + 1)) (length (a .links .now)) _ (omega (arith, c .if1 .taken)))
+    let t = c .before in
+    let b = at-missing t in
+    let a = b .args in
+    c .refused-spot .ensures (nodes b leaves) d
+    ∙ ap valueOnly (missing (4096 * (a .k + 1)) (length (a .links .now)) _ (omega (arith, t .if1 .taken)))
 
 returns-2 : tie.Need-returns-2
 returns-2 c = λ leaves d s.
-    let p = c .before in
+    let p = c .before .before in
     let e = p .before .before in
-    ap valueIn (ap (lowerEntry (nodes (start e) leaves) d) (sym (p .j .given .1)) ∙ read e leaves d s)
+    c .leaf-spot .ensures (nodes (start e) leaves) d
+    ∙ ap valueOnly (ap (lowerEntry (nodes (start e) leaves) d) (sym (p .j .given .1)) ∙ read e leaves d s)
 
 returns-3 : tie.Need-returns-3
 returns-3 c = λ leaves d s.
-    let p = c .before in
+    let p = c .before .before in
     let e = p .before .before in
-    ap valueIn (ap (lowerEntry (nodes (start e) leaves) d) (sym (p .v .given .1)) ∙ read e leaves d s)
+    c .value-spot .ensures (nodes (start e) leaves) d
+    ∙ ap valueOnly (ap (lowerEntry (nodes (start e) leaves) d) (sym (p .v .given .1)) ∙ read e leaves d s)
 
 pub lower-spot-spec : {M : Type 1} → statement M
 lower-spot-spec =
     tie.close
     (tie.spec
-    (λ c. omega arith) (λ c. omega arith)
+    (λ c. omega arith) (λ c. omega arith) (λ c κs. omega arith)
     returns
     (λ c. omega arith) (λ c. omega arith) (λ c. omega arith) (λ c. omega arith) (λ c. omega arith)
     (λ c. omega arith) (λ c. omega arith) (λ c. omega (arith, at-whole (c .before) .if1 .left)) (λ c. omega arith)
     (λ c. omega (arith, at-whole (c .before .before) .if1 .left, at-start (at-whole (c .before .before)) .pre)) (λ c κs. search needs)
-    (λ c. search needs) (λ c. search needs)
+    (λ c. search needs) (λ c κs. search needs) (λ c. search needs) (λ c κs. search needs)
     returns-2
     returns-3)

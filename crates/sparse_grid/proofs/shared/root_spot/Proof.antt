@@ -11,10 +11,10 @@ use Rattle.layout.specs.Coordinates.{Coord}
 use Rattle.layout.specs.Walk.{ofBackground}
 use Rattle.sparse_grid.specs.Tables.{Grid, entryAt}
 use Rattle.sparse_grid.specs.TableLaws.{entry-read}
-use Rattle.sparse_grid.specs.Lookup.{Found, value, valueIn, rootEntry}
+use Rattle.sparse_grid.specs.Lookup.{Found, value, rootEntry}
+use Rattle.sparse_grid.specs.Answers.{valueOnly}
 use Rattle.sparse_grid.specs.Inner.{belowOf, fromRoot}
 use Rattle.sparse_grid.proofs.Nodes.{upper-only}
-use Rattle.sparse_grid.proofs.Sharing.{from-nodes}
 use Rattle.sparse_grid.proofs.shared.root_spot.Statement.{statement}
 use Rattle.sparse_grid.proofs.shared.root_spot.Tie as tie
 
@@ -57,28 +57,32 @@ read c leaves d =
 -- ---- the ways out: no root, a child, a tile
 returns : tie.Need-returns
 returns c = λ leaves d s.
-    let a = at-none c .args in
-    ap (λ (t : Bool). valueIn (decides (at-none c) leaves d t)) (sym (le-ltb (a .i) (length (a .root-links .now)) (c .if1 .taken)))
+    let t = c .before in
+    let b = at-none t in
+    let a = b .args in
+    c .value-spot .ensures (grid b leaves) d
+    ∙ ap (λ (t : Bool). valueOnly (decides b leaves d t)) (sym (le-ltb (a .i) (length (a .root-links .now)) (t .if1 .taken)))
 
 returns-2 : tie.Need-returns-2
 returns-2 c = λ leaves d s.
     let p = c .before .before in
     let e = p .before .before in
     let g = grid (start e) leaves in
-    from-nodes g (c .upper-spot .result) d
-    ∙ c .upper-spot .ensures leaves d s
-    ∙ ap valueIn (upper-only g (p .k .given .0 .0) d ∙ ap (rootEntry g d) (sym (p .k .given .1)) ∙ read e leaves d)
+    c .upper-spot .ensures leaves d s
+    ∙ ap valueOnly (upper-only g (p .k .given .0 .0) d ∙ ap (rootEntry g d) (sym (p .k .given .1)) ∙ read e leaves d)
 
 returns-3 : tie.Need-returns-3
 returns-3 c = λ leaves d s.
-    let p = c .before in
+    let p = c .before .before in
     let e = p .before .before in
-    ap valueIn (ap (rootEntry (grid (start e) leaves) d) (sym (p .v .given .1)) ∙ read e leaves d)
+    c .value-spot2 .ensures (grid (start e) leaves) d
+    ∙ ap valueOnly (ap (rootEntry (grid (start e) leaves) d) (sym (p .v .given .1)) ∙ read e leaves d)
 
 pub root-spot-spec : {M : Type 1} → statement M
 root-spot-spec =
     tie.close
     (tie.spec
+    (λ c κs. search needs)
     returns
     (λ c. omega arith)
     (λ c. c .before .if1 .left)
@@ -88,5 +92,6 @@ root-spot-spec =
     (λ c. search needs)
     (λ c κs. search needs)
     (λ c. search needs)
+    (λ c κs. search needs)
     returns-2
     returns-3)

@@ -9,12 +9,12 @@ use borrow.Author.Needs.{needs}
 use Rattle.layout.specs.Coordinates.{Coord}
 use Rattle.sparse_grid.specs.Tables.{Grid, entryAt}
 use Rattle.sparse_grid.specs.TableLaws.{entry-read}
-use Rattle.sparse_grid.specs.Lookup.{valueIn, upperEntry, upperAt}
+use Rattle.sparse_grid.specs.Lookup.{upperEntry, upperAt}
+use Rattle.sparse_grid.specs.Answers.{valueOnly}
 use Rattle.sparse_grid.specs.Inner.{nodesOf, placed}
 use Rattle.sparse_grid.specs.Spots.{Cube}
 use Rattle.sparse_grid.specs.SpotLaws.{upper-same}
 use Rattle.sparse_grid.proofs.Nodes.{missing, present, upper-slot, lower-only}
-use Rattle.sparse_grid.proofs.Sharing.{from-lowers}
 use Rattle.sparse_grid.proofs.shared.upper_spot.Statement.{statement}
 use Rattle.sparse_grid.proofs.shared.upper_spot.Tie as tie
 
@@ -52,33 +52,36 @@ read c leaves d s =
 -- ---- the ways out: no whole node, a child, a tile
 returns : tie.Need-returns
 returns c = λ leaves d s.
-    let a = at-missing c .args in
-    ap valueIn (missing (32768 * (a .k + 1)) (length (a .links .now)) _ (omega (arith, c .if1 .taken)))
+    let t = c .before in
+    let b = at-missing t in
+    let a = b .args in
+    c .refused-spot .ensures (nodes b leaves) d
+    ∙ ap valueOnly (missing (32768 * (a .k + 1)) (length (a .links .now)) _ (omega (arith, t .if1 .taken)))
 
 returns-2 : tie.Need-returns-2
 returns-2 c = λ leaves d s.
     let p = c .before .before in
     let e = p .before .before in
     let g = nodes (start e) leaves in
-    from-lowers g (c .lower-spot .result) d
-    ∙ c .lower-spot .ensures leaves d s
-    ∙ ap valueIn (lower-only g (p .j .given .0 .0) d ∙ ap (upperEntry g d) (sym (p .j .given .1)) ∙ read e leaves d s)
+    c .lower-spot .ensures leaves d s
+    ∙ ap valueOnly (lower-only g (p .j .given .0 .0) d ∙ ap (upperEntry g d) (sym (p .j .given .1)) ∙ read e leaves d s)
 
 returns-3 : tie.Need-returns-3
 returns-3 c = λ leaves d s.
-    let p = c .before in
+    let p = c .before .before in
     let e = p .before .before in
-    ap valueIn (ap (upperEntry (nodes (start e) leaves) d) (sym (p .v .given .1)) ∙ read e leaves d s)
+    c .value-spot .ensures (nodes (start e) leaves) d
+    ∙ ap valueOnly (ap (upperEntry (nodes (start e) leaves) d) (sym (p .v .given .1)) ∙ read e leaves d s)
 
 pub upper-spot-spec : {M : Type 1} → statement M
 upper-spot-spec =
     tie.close
     (tie.spec
-    (λ c. omega arith) (λ c. omega arith)
+    (λ c. omega arith) (λ c. omega arith) (λ c κs. omega arith)
     returns
     (λ c. omega arith) (λ c. omega arith) (λ c. omega arith) (λ c. omega arith) (λ c. omega arith)
     (λ c. omega arith) (λ c. omega arith) (λ c. omega (arith, at-whole (c .before) .if1 .left)) (λ c. omega arith)
     (λ c. omega (arith, at-whole (c .before .before) .if1 .left, at-start (at-whole (c .before .before)) .pre)) (λ c κs. search needs)
-    (λ c. search needs) (λ c κs. search needs) (λ c. search needs)
+    (λ c. search needs) (λ c κs. search needs) (λ c. search needs) (λ c κs. search needs)
     returns-2
     returns-3)
