@@ -1,12 +1,14 @@
 // The node reader: a node of level 2, 1 or 0 (upper, lower, leaf) is read with its children, depth first, slots rising.
 // The child mask is read a word at a time: the slots up to the next child are values, and are read in one run.
 ghost use mathlib.Core.Path.{_≡_};
-ghost use Prim.Native.Nat.{ℕ, _+_, _*_, _%_, _<_, _≤_};
+ghost use Prim.Native.Nat.{_+_, _*_, _%_, _<_, _≤_};
 ghost use lib.ListN.{length};
-ghost use Rattle.layout.specs.Bytes.{signed, maskBit};
+ghost use Rattle.layout.specs.Bytes.{signed, u64At};
 ghost use Rattle.nanovdb.specs.Nodes.{sizeOf, entriesOf, maskOf, tableOf, childTarget};
 ghost use Rattle.decode.specs.Inner.Stored.{atUpper, atLower, slotValue, TilesStored, NextChild};
-ghost use Rattle.decode.specs.Inner.Filled.{ofTarget, slotTarget, countIn, placesIn, grownBy, roomIn, tabs, Fit, NodeOut, SlotOut};
+ghost use Rattle.decode.specs.Inner.WorkTable.{Rep};
+ghost use Rattle.decode.specs.Inner.Filled.{ofTarget, slotTarget, countIn, placesIn, grownBy, roomIn};
+ghost use Rattle.decode.specs.Inner.Filled.{Tabs, tabs, withWork, placesOf, Few, Fit, OpenOut, NodeOut};
 use crate::spans;
 use crate::spans::Entered;
 use crate::spans::Spans;
@@ -26,8 +28,18 @@ pub enum Placed {
     Refused(u32),
 }
 
-pub enum Step {
-    Next(State),
+// A new node: its number, where its child mask stands, how many entries it has and where they begin in their table, and the state that counts it.
+pub struct Opening {
+    pub number: u32,
+    pub mask: usize,
+    pub entries: usize,
+    pub base: usize,
+    pub now: State,
+}
+
+pub enum Opened {
+    Again(u32),
+    Fresh(Opening),
     Stop(u32),
 }
 
@@ -39,7 +51,7 @@ pub enum Target {
 // ---- places in the bytes
 
 fn entries_of(level: u64) -> usize
-    ensures { λ r. ⌜ (r ≡ entriesOf level) × (r ≤ 32768) × (r % 64 ≡ 0) ⌝ }
+    ensures { λ r. ⌜ r ≡ entriesOf level ⌝ }
 {
     if level == 0 {
         return 512;
@@ -49,9 +61,12 @@ fn entries_of(level: u64) -> usize
 
 // Where an internal node's child mask stands.
 fn mask_at(source: usize, level: u64) -> usize
-    requires { ⌜ (0 < level) × (source < 4294967296) ⌝ }
+    requires { ⌜ source < 4294967296 ⌝ }
     ensures { λ r. ⌜ r ≡ source + maskOf level ⌝ }
 {
+    if level == 0 {
+        return source;
+    }
     if level == 1 {
         source + 544
     } else {
@@ -103,6 +118,14 @@ fn slot_target(source: usize, bits: u64) -> Target
         return Target::Refused(refusals::CHILD_TARGET);
     }
     child_target(source, bits)
+}
+
+// The place of the child in slot i of the node at source.
+fn child_at(bytes: &[u8], source: usize, level: u64, i: usize) -> Target
+    requires { ⌜ (0 < level) × (source < 4294967296) × (i < 32768) ⌝ }
+    ensures { λ r. ⌜ ofTarget r ≡ slotTarget source (u64At (now (bytes .entry)) (source + tableOf level + 8 * i)) ⌝ }
+{
+    slot_target(source, layout::u64_at(bytes, slot_at(source, level, i)))
 }
 
 // The first slot from i on, below n, that has a child, or n. A word of the mask is shifted so that slot `at` is its lowest bit.
@@ -175,14 +198,16 @@ fn grown(level: u64, st: State, spans: Spans) -> State
     }
 }
 
-fn link(level: u64, ul: &mut [u32], ll: &mut [u32], at: usize, x: u32)
-    requires { ⌜ at < roomIn level (length (now ul)) (length (now ll)) ⌝ }
-    ensures { λ r. ⌜ (now (ul .exit) ≡ atUpper level (now (ul .entry)) at x) × (now (ll .exit) ≡ atLower level (now (ll .entry)) at x) ⌝ }
+// The child in slot i of a node whose entries begin at base: its link is one more than its number.
+fn link(level: u64, ul: &mut [u32], ll: &mut [u32], base: usize, i: usize, child: u32)
+    requires { ⌜ (base + i < roomIn level (length (now ul)) (length (now ll))) × (child < 4294967295) ⌝ }
+    ensures { λ r. ⌜ (now (ul .exit) ≡ atUpper level (now (ul .entry)) (base + i) (child + 1))
+        × (now (ll .exit) ≡ atLower level (now (ll .entry)) (base + i) (child + 1)) ⌝ }
 {
     if level == 1 {
-        ll[at] = x;
+        ll[base + i] = child + 1;
     } else {
-        ul[at] = x;
+        ul[base + i] = child + 1;
     }
 }
 
@@ -212,7 +237,52 @@ fn tiles_between(
 
 // ---- the reader
 
-// The node of a level at source: one that has been read is used again; a new one is claimed, numbered and read.
+// The node of a level at source: one that has been read is used again; a new one is claimed, and numbered where one of its places is left.
+fn open(
+    bytes: &[u8],
+    source: usize,
+    level: u64,
+    st: State,
+    work: &mut [u64],
+    places: usize,
+) -> Opened
+    requires { ⌜ (length (now bytes) < 4294967296) × (level < 3) × Rep (now work) (st .spans .count) × Few st ⌝ }
+    ensures { λ r. ⌜ ((t : Tabs) →
+        let before = withWork t (now (work .entry)) in
+        let after = withWork t (now (work .exit)) in
+        places ≡ placesOf level t → Fit (length (now (bytes .entry))) before st → OpenOut level (now (bytes .entry)) source before st after r) ⌝ }
+{
+    let k = count_of(level, st);
+    let spans = st.spans;
+    match spans::enter(
+        bytes.len() as u64,
+        work,
+        spans,
+        source as u64,
+        level,
+        k as u32,
+    ) {
+        Entered::Again(n) => Opened::Again(n),
+        Entered::Stop(e) => Opened::Stop(e),
+        Entered::Fresh(next) => {
+            if places <= k {
+                return Opened::Stop(refusals::NO_PLACE);
+            }
+            let entries = entries_of(level);
+            let mask = mask_at(source, level);
+            let now = grown(level, st, next);
+            Opened::Fresh(Opening {
+                number: k as u32,
+                mask: mask,
+                entries: entries,
+                base: k * entries,
+                now: now,
+            })
+        }
+    }
+}
+
+// The node of a level at source, with all that stands below it: its number, and the state after it.
 pub(crate) fn node(
     bytes: &[u8],
     source: usize,
@@ -232,93 +302,34 @@ pub(crate) fn node(
         let after = tabs (now (work .exit)) (now (ul .exit)) (now (uv .exit)) (now (ll .exit)) (now (lv .exit)) (now (leaves .exit)) in
         ⌜ NodeOut level (now (bytes .entry)) source before st after r ⌝ }
 {
-    let k = count_of(level, st);
-    let spans = st.spans;
-    match spans::enter(
-        bytes.len() as u64,
-        work,
-        spans,
-        source as u64,
-        level,
-        k as u32,
-    ) {
-        Entered::Again(n) => Placed::Node(n, st),
-        Entered::Stop(e) => Placed::Refused(e),
-        Entered::Fresh(next) => {
-            if places_of(level, ul.len(), ll.len(), leaves.len()) <= k {
-                return Placed::Refused(refusals::NO_PLACE);
-            }
-            let entries = entries_of(level);
-            let base = k * entries;
-            let mut now = grown(level, st, next);
-            if level == 0 {
-                values::leaf(bytes, source, leaves, base);
-                return Placed::Node(k as u32, now);
-            }
-            let mask = mask_at(source, level);
-            let mut i: usize = 0;
-            let mut j = next_child(bytes, mask, 0, entries);
-            while j < entries {
-                tiles_between(level, bytes, source, base, i, j, uv, lv);
-                match child(
-                    bytes,
-                    source,
-                    level,
-                    base,
-                    j,
-                    now,
-                    work,
-                    ul,
-                    uv,
-                    ll,
-                    lv,
-                    leaves,
-                ) {
-                    Step::Stop(e) => return Placed::Refused(e),
-                    Step::Next(s) => now = s,
-                }
-                i = j + 1;
-                j = next_child(bytes, mask, i, entries);
-            }
-            tiles_between(level, bytes, source, base, i, entries, uv, lv);
-            Placed::Node(k as u32, now)
-        }
+    let places = places_of(level, ul.len(), ll.len(), leaves.len());
+    let o = match open(bytes, source, level, st, work, places) {
+        Opened::Again(n) => return Placed::Node(n, st),
+        Opened::Stop(e) => return Placed::Refused(e),
+        Opened::Fresh(o) => o,
+    };
+    let mut now = o.now;
+    if level == 0 {
+        values::leaf(bytes, source, leaves, o.base);
+        return Placed::Node(o.number, now);
     }
-}
-
-// The child in slot i of the node at source, whose entries stand from base on in its table.
-fn child(
-    bytes: &[u8],
-    source: usize,
-    level: u64,
-    base: usize,
-    i: usize,
-    st: State,
-    work: &mut [u64],
-    ul: &mut [u32],
-    uv: &mut [f32],
-    ll: &mut [u32],
-    lv: &mut [f32],
-    leaves: &mut [f32],
-) -> Step
-    requires { ⌜ (length (now bytes) < 4294967296) × (source < 4294967296) × (0 < level) × (level < 3) × (i < entriesOf level)
-        × (maskBit (now bytes) (source + maskOf level) i ≡ 1)
-        × (base + entriesOf level ≤ roomIn level (length (now ul)) (length (now ll)))
-        × Fit (length (now bytes)) (tabs (now work) (now ul) (now uv) (now ll) (now lv) (now leaves)) st ⌝ }
-    ensures { λ r.
-        let before = tabs (now (work .entry)) (now (ul .entry)) (now (uv .entry)) (now (ll .entry)) (now (lv .entry)) (now (leaves .entry)) in
-        let after = tabs (now (work .exit)) (now (ul .exit)) (now (uv .exit)) (now (ll .exit)) (now (lv .exit)) (now (leaves .exit)) in
-        ⌜ SlotOut level (now (bytes .entry)) source base i before st after r ⌝ }
-{
-    let relative = layout::u64_at(bytes, slot_at(source, level, i));
-    match slot_target(source, relative) {
-        Target::Refused(e) => Step::Stop(e),
-        Target::At(to) => match node(bytes, to, level - 1, st, work, ul, uv, ll, lv, leaves) {
-            Placed::Refused(e) => Step::Stop(e),
-            Placed::Node(k, s) => {
-                link(level, ul, ll, base + i, k + 1);
-                Step::Next(s)
-            }
-        },
+    let mut i: usize = 0;
+    loop {
+        let j = next_child(bytes, o.mask, i, o.entries);
+        tiles_between(level, bytes, source, o.base, i, j, uv, lv);
+        if j == o.entries {
+            return Placed::Node(o.number, now);
+        }
+        match child_at(bytes, source, level, j) {
+            Target::Refused(e) => return Placed::Refused(e),
+            Target::At(to) => match node(bytes, to, level - 1, now, work, ul, uv, ll, lv, leaves) {
+                Placed::Refused(e) => return Placed::Refused(e),
+                Placed::Node(child, s) => {
+                    link(level, ul, ll, o.base, j, child);
+                    now = s;
+                }
+            },
+        }
+        i = j + 1;
     }
 }

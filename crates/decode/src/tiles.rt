@@ -11,8 +11,13 @@ ghost use Rattle.decode.specs.Inner.Rooted.{rootTabs, RootPut, TileOut, 
 use crate::nodes;
 use crate::nodes::Placed;
 use crate::nodes::State;
-use crate::nodes::Step;
 use crate::nodes::Target;
+
+// The state after a tile, or why it is refused.
+pub enum Step {
+    Next(State),
+    Stop(u32),
+}
 
 // Every bit outside the three fields is 0: 20, 41, 62 and 63.
 fn key_passes(key: u64) -> bool

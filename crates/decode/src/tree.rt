@@ -9,10 +9,10 @@ ghost use Rattle.decode.specs.Inner.Filled.{tabs};
 ghost use Rattle.decode.specs.Inner.Rooted.{rootTabs};
 ghost use Rattle.decode.specs.Inner.TreeRead.{TreeOut};
 use crate::nodes::State;
-use crate::nodes::Step;
 use crate::spans;
 use crate::spans::Claimed;
 use crate::tiles;
+use crate::tiles::Step;
 use refusals::both;
 
 // Where the root stands, how many tiles it has, and how many nodes were reached.

@@ -1,37 +1,45 @@
--- The answers of `node`, one for each way out. Assumes nothing.
+-- The answers of `open` and of `node`, one for each way out. Assumes nothing.
 use mathlib.Core.Path.{_≡_, refl, sym, ap, _∙_, subst}
 use mathlib.Core.List.{List}
-use Prim.Native.Nat.{ℕ, zero, suc, _+_, _-_, _*_, _/_, _≤_, _<_}
-use native.Mathlib.Nat.{pos-of-ne-zero}
+use Prim.Native.Nat.{ℕ, zero, suc, _+_, _-_, _*_, _%_, _≤_, _<_}
 use native.Mathlib.Omega.{arith}
 use lib.ListN.{length}
 use lib.Ieee.{Float}
-use Rattle.refusals.specs.Results.{ok}
+use Rattle.refusals.specs.Results.{Result, ok, bind}
+use Rattle.layout.specs.Bytes.{u64At, maskBit}
 use Rattle.sparse_grid.specs.declared.Entry.{Entry}
 use Rattle.nanovdb.specs.Spans.{Span, nowhere, seen}
-use Rattle.nanovdb.specs.Nodes.{Places, State, claim, withSpan, sizeOf, entriesOf, nodesAt, placesAt, leafPlaced, placed, slotsRead, node}
+use Rattle.nanovdb.specs.Nodes.{Places, State, claim, withSpan, sizeOf, entriesOf, maskOf, tableOf, nodesAt, placesAt, leafPlaced, placed, slotsRead, node}
 use Rattle.nanovdb.specs.HeldNodes.{spanOf, opening}
 use Rattle.decode.specs.Inner.WorkTable.{size, nodeSpan, Pushed, EnterOut, ClaimOut}
-use Rattle.decode.specs.Inner.Filled.{countIn, grownBy, Tabs, Fit, NodeFit, Holds, Lends, Reads, NodeOut, SlotOut}
-use Rattle.decode.specs.Inner.Stored.{leafValue, Stored}
+use Rattle.decode.specs.Inner.Filled.{ofTarget, slotTarget, countIn, placesOf, roomIn, grownBy, Tabs, Kept, Fit, Holds, Lends, Reads, NodeOut}
+use Rattle.decode.specs.Inner.Filled.{filling, numbered, withWork, NewNode}
+use Rattle.decode.specs.Inner.Stored.{atUpper, atLower, leafValue, slotValue, Stored, TilesStored, NextChild}
 use Rattle.decode.specs.declared.spans.Spans.{Spans}
 use Rattle.decode.specs.declared.spans.Entered.{Entered}
 use Rattle.decode.specs.declared.spans.Entered.the-variants.{Again, Fresh, Stop}
 use Rattle.decode.specs.declared.spans.Claimed.the-variants.{Done}
 use Rattle.decode.specs.declared.nodes.State as Progress
+use Rattle.decode.specs.declared.nodes.Opening.{Opening}
+use Rattle.decode.specs.declared.nodes.Target as Target
 use Rattle.decode.specs.declared.nodes.Placed.{Placed}
 use Rattle.decode.specs.declared.nodes.Placed.the-variants.{Node, Refused}
-use Rattle.decode.specs.declared.nodes.Step as Step
-use Rattle.decode.proofs.nodes.Steps.{node-again, node-stops, node-full, node-leaf, node-broke, node-ends}
-use Rattle.decode.proofs.nodes.Fits.{size-least, withWork, placesOf, leaf-room, fresh-inside, fit-fresh, fit-kept, number-small}
-use Rattle.decode.proofs.nodes.Levels.{below-is}
-use Rattle.decode.proofs.nodes.Tables.{withLeaves, holds-opened, holds-leaf, holds-placed, holds-begun, slots-ready, leaf-base}
-use Rattle.decode.proofs.nodes.Turns.{Begins, Turn, turn-begins, turn-stops}
+use Rattle.decode.proofs.nodes.Steps.{node-again, node-stops, node-full, node-filled, filled-leaf, filled-broke, filled-ends}
+use Rattle.decode.proofs.nodes.Fits.{roomOf, room-of, room-kept, entries-most, leaf-room, fresh-inside, fit-fresh, fit-kept}
+use Rattle.decode.proofs.nodes.Levels.{less-one}
+use Rattle.decode.proofs.nodes.Tables.{withLinks, withValues, withLeaves, holds-opened, holds-leaf, holds-placed, holds-begun, slots-ready, leaf-base}
+use Rattle.decode.proofs.nodes.Turns.{Slot, Stops, stops-off, stops-child, passes-child, kept-on, lends-kept}
+use Rattle.decode.proofs.nodes.Turns.{Begins, Turn, turn-more, turn-stops, turn-tiles}
+
+-- what is said of an answer
+node-is : {level : ℕ} {b : List ℕ} {source : ℕ} {t u : Tabs} {st : Progress.State} {r x : Placed} → NodeOut level b source t st u r → r ≡ x
+    → NodeOut level b source t st u x
+node-is {level} {b} {source} {t} {u} {st} out e = subst (NodeOut level b source t st u) e out
 
 -- a number that comes back is small enough for a link
 pub node-number : {level : ℕ} {b : List ℕ} {source : ℕ} {t u : Tabs} {st s : Progress.State} {r : Placed} {n : ℕ} → NodeOut level b source t st u r
     → r ≡ Node n s → n < 4294967295
-node-number {b = b} {u = u} out e = subst (NodeFit (length b) u) e (out .fit) .1
+node-number out e = node-is out e .fit .1
 
 -- the number of the next node, in the code and in the definition
 counts : (level : ℕ) {t : Tabs} {st : Progress.State} {d : State} {lower upper : List Entry} → Holds t st d lower upper
@@ -46,196 +54,229 @@ rooms zero l = sym (l .leaf)
 rooms (suc zero) l = sym (l .lower)
 rooms (suc (suc n)) l = sym (l .upper)
 
--- ---- what is known on the way
+-- ---- the answers of `open`
 
--- k is the number of the next node, and `enter` has answered r and left the words w
-pub record Entering (b : List ℕ) (source level : ℕ) (t : Tabs) (st : Progress.State) (k : ℕ) (w : List ℕ) (r : Entered) : Type 0 where
-  pub short : length b < 4294967296
-  pub three : level < 3
-  pub fit : Fit (length b) t st
+-- k is the number of the next node, and `enter` has answered r and left the words v
+pub record Entering (b : List ℕ) (source level : ℕ) (st : Progress.State) (k : ℕ) (w v : List ℕ) (r : Entered) : Type 0 where
   pub number : k ≡ countIn st level
-  pub kept : length w ≡ length (t .work)
-  pub says : EnterOut (length b) (t .work) w (st .spans) r source level k
+  pub small : k < 4294967295
+  pub says : EnterOut (length b) w v (st .spans) r source level k
 
--- the node is new and has a place, and `now` counts it
-pub record Opened (b : List ℕ) (source level : ℕ) (t : Tabs) (st : Progress.State) (k : ℕ) (w : List ℕ) (entries : ℕ) (now : Progress.State) : Type 0 where
-  pub answer : Entered
-  pub next : Spans
-  pub entering : Entering b source level t st k w answer
-  pub fresh : answer ≡ Fresh next
-  pub room : k < placesOf level t
-  pub all : entries ≡ entriesOf level
-  pub grown : now ≡ grownBy level st next
+module _ {b : List ℕ} {source level : ℕ} {st : Progress.State} {k : ℕ} {w v : List ℕ} {r : Entered} (e : Entering b source level st k w v r) where
+  entered : {x : Entered} → r ≡ x → EnterOut (length b) w v (st .spans) x source level k
+  entered is = subst (λ (y : Entered). EnterOut (length b) w v (st .spans) y source level k) is (e .says)
 
--- ---- by the answer of `enter`
-
-module _ {b : List ℕ} {source level : ℕ} {t : Tabs} {st : Progress.State} {k : ℕ} {w : List ℕ} {r : Entered}
-    (e : Entering b source level t st k w r) where
-  entered : {x : Entered} → r ≡ x → EnterOut (length b) (t .work) w (st .spans) x source level k
-  entered is = subst (λ (y : Entered). EnterOut (length b) (t .work) w (st .spans) y source level k) is (e .says)
-
-  -- the span that the words hold is the definition's
-  span-is : {d : State} {lower upper : List Entry} → Holds t st d lower upper → nodeSpan source level k ≡ spanOf level source d
-  unfolding size
-  span-is h = ap (nodeSpan source level) (e .number ∙ counts level h)
-
-  pub node-out-again : {n : ℕ} → r ≡ Again n → NodeOut level b source t st (withWork t w) (Node n st)
-  node-out-again {n} is =
-      let (same, (found, small)) = entered is in
-      record {
-        fit = (subst (λ (x : List ℕ). Fit (length b) (withWork t x) st) (sym same) (e .fit), small);
-        says = λ p d lower upper R. (
-          d,
-          node-again level source b p d n (ap (λ (s : List Span). seen s source level) (R .holds .spans-are) ∙ found),
-          subst (λ (x : List ℕ). Holds (withWork t x) st d lower upper) (sym same) (R .holds),
-        );
-      }
-
-  pub node-out-stop : {n : ℕ} → r ≡ Stop n → NodeOut level b source t st (withWork t w) (Refused n)
-  node-out-stop {n} is =
-      let (new, (same, claimed)) = entered is in
-      record {
-        fit = tt;
-        says = λ p d lower upper R.
-            node-stops level source b p d (ap (λ (s : List Span). seen s source level) (R .holds .spans-are) ∙ new) n
-            (ap (claim b p d) (sym (span-is (R .holds))) ∙ claimed b p d refl (R .lends .spans) (R .holds .spans-are));
-      }
-
+  -- a claim that is granted
   module _ {next : Spans} (is : r ≡ Fresh next) where
-    -- a claim that is granted
-    granted : ClaimOut (length b) (t .work) w (st .spans) (Done next) source level k
+    granted : ClaimOut (length b) w v (st .spans) (Done next) source level k
     granted = entered is .1
 
-    new : {d : State} {lower upper : List Entry} → Holds t st d lower upper → seen (d .spans) source level ≡ nowhere
-    new h = ap (λ (s : List Span). seen s source level) (h .spans-are) ∙ entered is .0
-
-    claimed : (p : Places) (d : State) {lower upper : List Entry} → Reads level b t st p d lower upper
-        → claim b p d (spanOf level source d) ≡ ok (withSpan d (spanOf level source d))
-    claimed p d R =
-        subst (λ (s : Span). claim b p d s ≡ ok (withSpan d s)) (span-is (R .holds)) (granted .1 b p d refl (R .lends .spans) (R .holds .spans-are))
-
-    whole : source + sizeOf level ≤ length b
+    pub fresh-whole : source + sizeOf level ≤ length b
     unfolding size
-    whole = fresh-inside (length b) (t .work) w (st .spans) next source level k granted
+    fresh-whole = fresh-inside (length b) w v (st .spans) next source level k granted
 
-    inside : source < 4294967296
-    inside = omega (arith, fresh-inside (length b) (t .work) w (st .spans) next source level k granted, size-least level, e .short)
+  -- beside any other tables
+  module _ (t : Tabs) (fit : Fit (length b) (withWork t w) st) where
+    -- the span that the words hold is the definition's
+    span-is : {d : State} {lower upper : List Entry} → Holds (withWork t w) st d lower upper → nodeSpan source level k ≡ spanOf level source d
+    unfolding size
+    span-is h = ap (nodeSpan source level) (e .number ∙ counts level h)
 
-    fits : Fit (length b) (withWork t w) (grownBy level st next)
-    fits = fit-fresh (e .fit) source level k granted
+    pub out-again : {n : ℕ} → r ≡ Again n → NodeOut level b source (withWork t w) st (withWork t v) (Node n st)
+    out-again {n} is =
+        let (same, (found, small)) = entered is in
+        record {
+          fit = (subst (λ (x : List ℕ). Fit (length b) (withWork t x) st) (sym same) fit, small);
+          says = λ p d lower upper R. (
+            d,
+            node-again level source b p d n (ap (λ (s : List Span). seen s source level) (R .holds .spans-are) ∙ found),
+            subst (λ (x : List ℕ). Holds (withWork t x) st d lower upper) (sym same) (R .holds),
+          );
+        }
 
-    opened : {d : State} {lower upper : List Entry} → Holds t st d lower upper
-        → Holds (withWork t w) (grownBy level st next) (opening level source d) lower upper
-    opened h = holds-opened level source h (subst (Pushed (t .work) w (st .spans) next source level) (e .number) (granted .0))
+    pub out-stop : {n : ℕ} → r ≡ Stop n → NodeOut level b source (withWork t w) st (withWork t v) (Refused n)
+    out-stop {n} is =
+        let (new, (same, claimed)) = entered is in
+        record {
+          fit = tt;
+          says = λ p d lower upper R.
+              node-stops level source b p d (ap (λ (s : List Span). seen s source level) (R .holds .spans-are) ∙ new) n
+              (ap (claim b p d) (sym (span-is (R .holds))) ∙ claimed b p d refl (R .lends .spans) (R .holds .spans-are));
+        }
 
-    pub node-out-full : placesOf level t ≤ k → NodeOut level b source t st (withWork t w) (Refused 9)
-    node-out-full h = record {
-      fit = tt;
-      says = λ p d lower upper R.
-          node-full level source b p d (new (R .holds)) (claimed p d R)
-          (omega (arith, e .number, counts level (R .holds), rooms level (R .lends)));
-    }
+    module _ {next : Spans} (is : r ≡ Fresh next) where
+      new : {d : State} {lower upper : List Entry} → Holds (withWork t w) st d lower upper → seen (d .spans) source level ≡ nowhere
+      new h = ap (λ (s : List Span). seen s source level) (h .spans-are) ∙ entered is .0
 
--- ---- a node that has a place
+      claimed : (p : Places) (d : State) {lower upper : List Entry} → Reads level b (withWork t w) st p d lower upper
+          → claim b p d (spanOf level source d) ≡ ok (withSpan d (spanOf level source d))
+      claimed p d R =
+          subst (λ (s : Span). claim b p d s ≡ ok (withSpan d s)) (span-is (R .holds)) (granted is .1 b p d refl (R .lends .spans) (R .holds .spans-are))
 
-module _ {b : List ℕ} {source level : ℕ} {t : Tabs} {st : Progress.State} {k : ℕ} {w : List ℕ} {entries : ℕ} {now : Progress.State}
-    (o : Opened b source level t st k w entries now) where
-  pub node-inside : source < 4294967296
-  node-inside = inside (o .entering) (o .fresh)
+      pub out-full : placesOf level t ≤ k → NodeOut level b source (withWork t w) st (withWork t v) (Refused 9)
+      out-full h = record {
+        fit = tt;
+        says = λ p d lower upper R.
+            node-full level source b p d (new (R .holds)) (claimed p d R)
+            (omega (arith, e .number, counts level (R .holds), rooms level (R .lends)));
+      }
 
-  pub node-whole : source + sizeOf level ≤ length b
-  node-whole = whole (o .entering) (o .fresh)
+      pub out-new : {mask entries : ℕ} {now : Progress.State} → k < placesOf level t → mask ≡ source + maskOf level → entries ≡ entriesOf level
+          → now ≡ grownBy level st next
+          → NewNode level b source (withWork t w) st (withWork t v) (record { number = k; mask = mask; entries = entries; base = k * entries; now = now })
+      out-new {now = now} room mask all grown =
+          let words = granted is .0 .size-kept in
+          record {
+            whole = fresh-whole is;
+            small = e .small;
+            room = room;
+            mask = mask;
+            entries = all;
+            base = ap (λ (n : ℕ). k * n) all;
+            kept = record { work = words; upperLinks = refl; upperValues = refl; lowerLinks = refl; lowerValues = refl; leafValues = refl };
+            fit = subst (Fit (length b) (withWork t v)) (sym grown) (fit-fresh fit source level k (granted is));
+            says = λ p d lower upper R.
+                let number : nodesAt d level ≡ k = sym (e .number ∙ counts level (R .holds)) in
+                let pushed = subst (Pushed w v (st .spans) next source level) (e .number) (granted is .0) in
+                record {
+                  number = number;
+                  filled = subst (λ (n : ℕ). node level b p source d ≡ bind (filling level b p source (opening level source d)) (numbered n)) number
+                      (node-filled level source b p d (new (R .holds)) (claimed p d R) (omega (arith, number, rooms level (R .lends))));
+                  holds = subst (λ (s : Progress.State). Holds (withWork t v) s (opening level source d) lower upper) (sym grown)
+                      (holds-opened level source (R .holds) pushed);
+                };
+          }
 
-  pub node-fit : Fit (length b) (withWork t w) now
-  node-fit = subst (Fit (length b) (withWork t w)) (sym (o .grown)) (fits (o .entering) (o .fresh))
+-- ---- the answers of `node` where it is new
 
-  pub node-begins : Turn level b source (k * entries) entries (withWork t w) now (withWork t w) now 0
-  node-begins = turn-begins node-fit
+module _ {level : ℕ} {b : List ℕ} {source : ℕ} {t : Tabs} {st : Progress.State} {u : Tabs} {o : Opening} (new : NewNode level b source t st u o) where
+  -- the entries of the nodes before it
+  from : (p : Places) (d : State) {lower upper : List Entry} → Reads level b t st p d lower upper → nodesAt d level * entriesOf level ≡ o .base
+  from p d R = ap (λ (n : ℕ). n * entriesOf level) (new .says p d _ _ R .number) ∙ sym (new .base)
 
-  -- the definition's node is new too, and has a place
-  module _ (p : Places) (d : State) {lower upper : List Entry} (R : Reads level b t st p d lower upper) where
-    is-new : seen (d .spans) source level ≡ nowhere
-    is-new = new (o .entering) (o .fresh) (R .holds)
+  -- its entries are whole words of a mask
+  pub whole-words : (o .entries ≤ 32768) × (o .entries % 64 ≡ 0)
+  whole-words = entries-most level (new .entries)
 
-    is-claimed : claim b p d (spanOf level source d) ≡ ok (withSpan d (spanOf level source d))
-    is-claimed = claimed (o .entering) (o .fresh) p d R
+  pub leaf-place : level ≡ 0 → o .base + 512 ≤ length (u .leafValues)
+  leaf-place z = omega (arith, leaf-room level t z (new .room) (new .base), new .kept .leafValues)
 
-    number : nodesAt d level ≡ k
-    number = sym (o .entering .number ∙ counts level (R .holds))
-
-    has-room : nodesAt d level < placesAt p level
-    has-room = omega (arith, number, o .room, rooms level (R .lends))
-
-    is-opened : Holds (withWork t w) now (opening level source d) lower upper
-    is-opened =
-        subst (λ (x : Progress.State). Holds (withWork t w) x (opening level source d) lower upper) (sym (o .grown))
-        (opened (o .entering) (o .fresh) (R .holds))
-
-    -- the entries of the nodes before it
-    from : nodesAt d level * entriesOf level ≡ k * entries
-    from = ap (λ (n : ℕ). n * entriesOf level) number ∙ ap (λ (n : ℕ). k * n) (sym (o .all))
-
-  small : k < 4294967295
-  small = subst (λ (n : ℕ). n < 4294967295) (sym (o .entering .number)) (number-small (o .entering .fit) (o .entering .short) level)
-
-  pub node-out-leaf : {lf : List Float} → level ≡ 0 → Stored (leafValue b source) (k * entries) 0 (t .leafValues) 512 lf
-      → NodeOut level b source t st (withLeaves (withWork t w) lf) (Node k now)
-  node-out-leaf {lf} z f = record {
-    fit = (fit-kept node-fit (withLeaves (withWork t w) lf) refl refl refl refl, small);
-    says = λ p d lower upper R. (
-      leafPlaced b source (opening level source d),
-      subst (λ (n : ℕ). node level b p source d ≡ ok (record { number = n; state = leafPlaced b source (opening level source d) })) (number p d R)
-          (node-leaf level source b p d (is-new p d R) (is-claimed p d R) (has-room p d R) z),
-      holds-leaf (is-opened p d R) b source (same-leaf level d z ∙ leaf-base level b d z (R .ready) ∙ from p d R)
-          (leaf-room level t (o .all) (o .room) z) f,
-    );
+  pub out-leaf : {lf : List Float} → level ≡ 0 → Stored (leafValue b source) (o .base) 0 (u .leafValues) 512 lf
+      → NodeOut level b source t st (withLeaves u lf) (Node (o .number) (o .now))
+  out-leaf {lf} z f = record {
+    fit = (fit-kept (new .fit) (withLeaves u lf) refl refl refl refl, new .small);
+    says = λ p d lower upper R.
+        let begun = new .says p d lower upper R in (
+          leafPlaced b source (opening level source d),
+          begun .filled ∙ ap (λ (r : Result State). bind r (numbered (o .number))) (filled-leaf level source b p (opening level source d) z),
+          holds-leaf (begun .holds) b source (same-leaf level d z ∙ leaf-base level b d z (R .ready) ∙ from p d R) (leaf-place z) f,
+        );
   }
     where
       same-leaf : (level : ℕ) (d : State) → level ≡ 0 → length (opening level source d .leaf) ≡ length (d .leaf)
       same-leaf zero d z = refl
       same-leaf (suc l) d z = absurd (omega arith)
 
-  -- the loop has come to slot i
-  module _ (above : level ≡ 0 → ⊥) {u : Tabs} {s : Progress.State} {i : ℕ}
-      (turn : Turn level b source (k * entries) entries (withWork t w) now u s i) where
-    down : level ≡ suc (level - 1)
-    down = below-is level above
+-- ---- a new node that is no leaf
 
-    begins : (p : Places) (d : State) {lower upper : List Entry} → Reads level b t st p d lower upper
-        → Begins level (level - 1) b source (k * entries) (withWork t w) now p (opening level source d) upper
-    begins p d R = record {
-      holds = holds-begun level (pos-of-ne-zero above) (R .shut) (is-opened p d R);
-      lends = record {
-        spans = R .lends .spans ∙ ap (λ (n : ℕ). n / 4) (sym (o .entering .kept));
-        upper = R .lends .upper;
-        lower = R .lends .lower;
-        leaf = R .lends .leaf;
-      };
-      steady = λ j then read.
-          let (ready, place) = slots-ready level (level - 1) down (o .entering .three) b p source d j then (R .ready) read in
-          (ready, place ∙ ap (λ (n : ℕ). n + j) (from p d R));
-    }
+pub record Internal (level : ℕ) (b : List ℕ) (source : ℕ) (t : Tabs) (st : Progress.State) (u : Tabs) (o : Opening) : Type 0 where
+  pub new : NewNode level b source t st u o
+  pub above : 0 < level
+  pub three : level < 3
 
-    pub node-out-broke : {v : Tabs} {x : Step.Step} {n : ℕ} → i < entries → SlotOut level b source (k * entries) i u s v x
-        → x ≡ Step.the-variants.Stop n → NodeOut level b source t st v (Refused n)
-    node-out-broke {n = n} h out z = record {
-      fit = tt;
-      says = λ p d lower upper R.
-          let (then, read, stop) = turn-stops turn out z (level - 1) down p (opening level source d) upper (begins p d R) in
-          node-broke level source b p d (is-new p d R) (is-claimed p d R) (has-room p d R) (level - 1) down i n then read stop
-          (subst (λ (m : ℕ). i < m) (o .all) h);
-    }
+-- its first i slots have been read into the tables v
+abbrev pub Turned : ℕ → List ℕ → ℕ → Tabs → Progress.State → Tabs → Opening → Tabs → Progress.State → ℕ → Type 0
+Turned level b source t st u o v s i = Turn level b source o u v s i
 
-    pub node-out-ends : entries ≤ i → NodeOut level b source t st u (Node k s)
-    node-out-ends h = record {
-      fit = (turn .fit, small);
-      says = λ p d lower upper R.
-          let (then, read, holds) = turn .says (level - 1) down p (opening level source d) upper (begins p d R) in
-          let last : i ≡ entriesOf level = omega (arith, turn .turn, o .all) in
-          let all = subst (λ (n : ℕ). slotsRead b (node (level - 1) b p) level source n (opening level source d) ≡ ok then) last read in (
-            placed level then,
-            subst (λ (n : ℕ). node level b p source d ≡ ok (record { number = n; state = placed level then })) (number p d R)
-                (node-ends level source b p d (is-new p d R) (is-claimed p d R) (has-room p d R) (level - 1) down then all),
-            holds-placed level then (pos-of-ne-zero above) (R .shut) holds,
-          );
-    }
+module _ {level : ℕ} {b : List ℕ} {source : ℕ} {t : Tabs} {st : Progress.State} {u : Tabs} {o : Opening} (n : Internal level b source t st u o)
+    {v : Tabs} {s : Progress.State} {i : ℕ} (turn : Turn level b source o u v s i) where
+  pub turn-keeps : Kept t v
+  turn-keeps = kept-on (n .new .kept) (turn .kept)
+
+  -- each of its entries has its place
+  place : o .base + entriesOf level ≤ roomOf level v
+  place = room-kept level (turn-keeps .upperLinks) (turn-keeps .lowerLinks) (room-of level t (n .above) (n .new .room) (n .new .base))
+
+  pub value-room : o .base + entriesOf level ≤ roomIn level (length (v .upperValues)) (length (v .lowerValues))
+  value-room = room-kept level (turn .fit .upper-pair) (turn .fit .lower-pair) place
+
+  -- the values up to the next child
+  pub run-to : {j : ℕ} {uv lv : List Float} → NextChild b (o .mask) i (o .entries) j
+      → TilesStored level (slotValue b source level) (o .base) i (v .upperValues) (v .lowerValues) j uv lv
+      → Turn level b source o u (withValues v uv lv) s j
+  run-to next stored =
+      turn-tiles (n .above) (n .three) (omega (arith, place, n .new .entries)) turn stored (next .to)
+      (λ k f l. subst (λ (m : ℕ). maskBit b m k ≡ 0) (n .new .mask) (next .clear k f l))
+
+  begins : (p : Places) (d : State) {lower upper : List Entry} → Reads level b t st p d lower upper
+      → Begins level b source o u p (opening level source d) upper
+  begins p d R = record {
+    holds = holds-begun level (n .above) (R .shut) (n .new .says p d _ _ R .holds);
+    lends = lends-kept (n .new .kept) (R .lends);
+    steady = λ j then read.
+        let (ready, here) = slots-ready level (level - 1) (less-one level (n .above)) (n .three) b p source d j then (R .ready) read in
+        (ready, here ∙ ap (λ (n : ℕ). n + j) (from (n .new) p d R));
+  }
+
+  out-broke : {x : Tabs} {e : ℕ} → i < o .entries → Stops level b source (o .base) i v s e → NodeOut level b source t st x (Refused e)
+  out-broke {e = e} h stop = record {
+    fit = tt;
+    says = λ p d lower upper R.
+        let (then, read, stopped) = turn-stops turn stop p (opening level source d) upper (begins p d R) in
+        n .new .says p d lower upper R .filled ∙ ap (λ (r : Result State). bind r (numbered (o .number)))
+        (filled-broke level source b p (opening level source d) (n .above) i e then read stopped (subst (λ (m : ℕ). i < m) (n .new .entries) h));
+  }
+
+  pub out-ends : i ≡ o .entries → NodeOut level b source t st v (Node (o .number) s)
+  out-ends last = record {
+    fit = (turn .fit, n .new .small);
+    says = λ p d lower upper R.
+        let (then, read, holds) = turn .says p (opening level source d) upper (begins p d R) in
+        let all = subst (λ (m : ℕ). slotsRead b (node (level - 1) b p) level source m (opening level source d) ≡ ok then) (last ∙ n .new .entries) read in (
+          placed level then,
+          n .new .says p d lower upper R .filled ∙ ap (λ (r : Result State). bind r (numbered (o .number)))
+              (filled-ends level source b p (opening level source d) (n .above) then all),
+          holds-placed level then (n .above) (R .shut) holds,
+        );
+  }
+
+-- slot j is the next, a child stands there, and its target is known
+pub record Aimed (level : ℕ) (b : List ℕ) (source : ℕ) (t : Tabs) (st : Progress.State) (u : Tabs) (o : Opening) (v : Tabs) (s : Progress.State) (j : ℕ)
+    (target : Target.Target) : Type 0 where
+  pub node : Internal level b source t st u o
+  pub turn : Turn level b source o u v s j
+  pub here : j < o .entries
+  pub set : maskBit b (o .mask) j ≡ 1
+  pub aims : ofTarget target ≡ slotTarget source (u64At b (source + tableOf level + 8 * j))
+
+module _ {level : ℕ} {b : List ℕ} {source : ℕ} {t : Tabs} {st : Progress.State} {u : Tabs} {o : Opening} {v : Tabs} {s : Progress.State} {j : ℕ}
+    {target : Target.Target} (a : Aimed level b source t st u o v s j target) where
+  slot : Slot b source level (o .base) j v s
+  slot = record {
+    above = a .node .above;
+    three = a .node .three;
+    fit = a .turn .fit;
+    room = omega (arith, place (a .node) (a .turn), a .here, a .node .new .entries);
+  }
+
+  set : maskBit b (source + maskOf level) j ≡ 1
+  set = subst (λ (m : ℕ). maskBit b m j ≡ 1) (a .node .new .mask) (a .set)
+
+  pub out-off : {e : ℕ} {x : Tabs} → target ≡ Target.the-variants.Refused e → NodeOut level b source t st x (Refused e)
+  out-off q = out-broke (a .node) (a .turn) (a .here) (stops-off slot set (sym (ap ofTarget q) ∙ a .aims))
+
+  pub link-room : {x : Tabs} → Kept v x → o .base + j < roomOf level x
+  link-room kept = room-kept level (kept .upperLinks) (kept .lowerLinks) (slot .room)
+
+  -- the child at `to` has been read into the tables x
+  module _ {to : ℕ} {x : Tabs} {r : Placed} (q : target ≡ Target.the-variants.At to) (out : NodeOut (level - 1) b to v s x r) where
+    aims-at : ok to ≡ slotTarget source (u64At b (source + tableOf level + 8 * j))
+    aims-at = sym (ap ofTarget q) ∙ a .aims
+
+    pub out-refused : {e : ℕ} {y : Tabs} → r ≡ Refused e → NodeOut level b source t st y (Refused e)
+    out-refused z = out-broke (a .node) (a .turn) (a .here) (stops-child slot set aims-at (node-is out z))
+
+    pub turn-child : {n : ℕ} {y : Progress.State} {ul ll : List ℕ} → r ≡ Node n y → Kept v x
+        → (ul ≡ atUpper level (x .upperLinks) (o .base + j) (n + 1)) × (ll ≡ atLower level (x .lowerLinks) (o .base + j) (n + 1))
+        → Turn level b source o u (withLinks x ul ll) y (j + 1)
+    turn-child z kept stored = turn-more (a .turn) (a .here) (passes-child slot set aims-at (node-is out z) kept stored)

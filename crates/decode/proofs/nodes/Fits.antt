@@ -2,7 +2,7 @@
 use mathlib.Core.Path.{_≡_, refl, sym, ap, _∙_, subst}
 use mathlib.Core.List.{List, [], _∷_, _++_}
 use mathlib.Core.Bool.{Bool, true, false, not}
-use Prim.Native.Nat.{ℕ, zero, suc, _+_, _*_, _/_, _≤_, _<_}
+use Prim.Native.Nat.{ℕ, zero, suc, _+_, _*_, _/_, _%_, _≤_, _<_}
 use native.Mathlib.Omega.{arith}
 use lib.Dec.{T, leb, ltb}
 use lib.ListN.{length, drop, replicate, length-replicate}
@@ -12,14 +12,14 @@ use Rattle.nanovdb.specs.Spans.{overlaps}
 use Rattle.nanovdb.specs.Nodes.{Places, State, claim, withSpan, sizeOf, entriesOf}
 use Rattle.decode.specs.Inner.WorkTable.{Rep, nodes, spans, size, headerSpan, rootSpan, nodeSpan, ClaimOut}
 use Rattle.decode.specs.Inner.Packed.{Packed, packed-more, packed-few, no-either}
-use Rattle.decode.specs.Inner.Filled.{Tabs, tabs, Fit, countIn, grownBy, placesIn, roomIn}
+use Rattle.decode.specs.Inner.Filled.{Tabs, withWork, Few, Fit, countIn, grownBy, placesOf, roomIn}
 use Rattle.decode.specs.declared.spans.Spans.{Spans}
 use Rattle.decode.specs.declared.spans.Claimed.the-variants.{Done}
 use Rattle.decode.specs.declared.nodes.State as Progress
 use Rattle.decode.proofs.spans.Laws.{overlaps-spans}
 use Rattle.decode.proofs.spans.ClaimLaws.{length-nodes}
 
-pub size-least : (level : ℕ) → 2144 ≤ size level
+size-least : (level : ℕ) → 2144 ≤ size level
 unfolding size
 size-least zero = omega arith
 size-least (suc zero) = omega arith
@@ -88,23 +88,18 @@ module _ (len : ℕ) (w w' : List ℕ) (s next : Spans) (start level number : �
 
 -- ---- few nodes
 
--- the same tables beside other words
-abbrev pub withWork : Tabs → List ℕ → Tabs
-withWork t w = tabs w (t .upperLinks) (t .upperValues) (t .lowerLinks) (t .lowerValues) (t .leafValues)
+pub number-small : {st : Progress.State} → Few st → (level : ℕ) → countIn st level < 4294967295
+number-small f zero = f .leaves
+number-small f (suc zero) = f .lowers
+number-small f (suc (suc n)) = f .uppers
 
 module _ {len : ℕ} {t : Tabs} {st : Progress.State} (f : Fit len t st) where
   module _ (short : len < 4294967296) where
     few : (st .uppers + st .lowers + st .leaves) * 2144 ≤ len
     few = omega (arith, packed-few len (nodes (t .work) (st .spans .count)) (f .packed), length-nodes (t .work) (st .spans .count), f .total)
 
-    -- each count is small
-    pub count-small : (st .uppers < 4294967295) × (st .lowers < 4294967295) × (st .leaves < 4294967295)
-    count-small = (omega (arith, few), omega (arith, few), omega (arith, few))
-
-    pub number-small : (level : ℕ) → countIn st level < 4294967295
-    number-small zero = count-small .2
-    number-small (suc zero) = count-small .1
-    number-small (suc (suc n)) = count-small .0
+    pub count-small : Few st
+    count-small = record { uppers = omega (arith, few); lowers = omega (arith, few); leaves = omega (arith, few) }
 
   -- one node more
   pub fit-fresh : {w : List ℕ} {next : Spans} (start level number : ℕ) → ClaimOut len (t .work) w (st .spans) (Done next) start level number
@@ -142,63 +137,35 @@ module _ {len : ℕ} {t : Tabs} {st : Progress.State} (f : Fit len t st) where
 abbrev pub roomOf : ℕ → Tabs → ℕ
 roomOf level t = roomIn level (length (t .upperLinks)) (length (t .lowerLinks))
 
-abbrev pub placesOf : ℕ → Tabs → ℕ
-placesOf level t = placesIn level (length (t .upperLinks)) (length (t .lowerLinks)) (length (t .leafValues))
-
--- the tables' lengths fit a usize
-pub record Sized (t : Tabs) : Type 0 where
-  pub upper : length (t .upperLinks) < 18446744073709551616
-  pub lower : length (t .lowerLinks) < 18446744073709551616
-  pub leaf : length (t .leafValues) < 18446744073709551616
-
 -- a node that has a place has one for each of its entries
-module _ (level : ℕ) (t : Tabs) {k entries : ℕ} (is : entries ≡ entriesOf level) (room : k < placesOf level t) where
-  pub room-of : 0 < level → k * entries + entriesOf level ≤ roomOf level t
-  room-of p = subst (λ (n : ℕ). k * n + entriesOf level ≤ roomOf level t) (sym is) (go level p room)
-    where
-      go : (level : ℕ) → 0 < level → k < placesOf level t → k * entriesOf level + entriesOf level ≤ roomOf level t
-      go zero p h = absurd (omega arith)
-      go (suc zero) p h = omega arith
-      go (suc (suc n)) p h = omega arith
+pub room-of : (level : ℕ) (t : Tabs) {k base : ℕ} → 0 < level → k < placesOf level t → base ≡ k * entriesOf level → base + entriesOf level ≤ roomOf level t
+room-of zero t p h e = absurd (omega arith)
+room-of (suc zero) t p h e = omega arith
+room-of (suc (suc n)) t p h e = omega arith
 
-  pub leaf-room : level ≡ 0 → k * entries + 512 ≤ length (t .leafValues)
-  leaf-room e = subst (λ (n : ℕ). k * n + 512 ≤ length (t .leafValues)) (sym is) (go level e room)
-    where
-      go : (level : ℕ) → level ≡ 0 → k < placesOf level t → k * entriesOf level + 512 ≤ length (t .leafValues)
-      go zero e h = omega arith
-      go (suc n) e h = absurd (omega arith)
-
-  pub base-fits : Sized t → k * entries < 18446744073709551616
-  base-fits s = subst (λ (n : ℕ). k * n < 18446744073709551616) (sym is) (go level room)
-    where
-      go : (level : ℕ) → k < placesOf level t → k * entriesOf level < 18446744073709551616
-      go zero h = omega arith
-      go (suc zero) h = omega arith
-      go (suc (suc n)) h = omega arith
+pub leaf-room : (level : ℕ) (t : Tabs) {k base : ℕ} → level ≡ 0 → k < placesOf level t → base ≡ k * entriesOf level → base + 512 ≤ length (t .leafValues)
+leaf-room zero t z h e = omega arith
+leaf-room (suc n) t z h e = absurd (omega arith)
 
 -- a leaf's bytes
 pub leaf-inside : (level source : ℕ) {len : ℕ} → level ≡ 0 → source + sizeOf level ≤ len → source + 2144 ≤ len
 leaf-inside zero source e h = h
 leaf-inside (suc n) source e h = absurd (omega arith)
 
-pub room-fits : (level at : ℕ) {t : Tabs} → Sized t → at < roomOf level t → at < 18446744073709551616
-room-fits zero at s h = omega arith
-room-fits (suc zero) at s h = omega arith
-room-fits (suc (suc n)) at s h = omega arith
+-- its entries are whole words of a mask
+pub entries-most : (level : ℕ) {n : ℕ} → n ≡ entriesOf level → (n ≤ 32768) × (n % 64 ≡ 0)
+entries-most zero e = (omega arith, omega arith)
+entries-most (suc zero) e = (omega arith, omega arith)
+entries-most (suc (suc n)) e = (omega arith, omega arith)
 
-pub entries-most : (level : ℕ) → entriesOf level ≤ 32768
-entries-most zero = omega arith
-entries-most (suc zero) = omega arith
-entries-most (suc (suc n)) = omega arith
+-- where they begin fits a usize
+pub base-fits : (level : ℕ) {k entries : ℕ} → entries ≡ entriesOf level → k < 4294967295 → k * entries < 18446744073709551616
+base-fits zero e h = rw e (omega arith)
+base-fits (suc zero) e h = rw e (omega arith)
+base-fits (suc (suc n)) e h = rw e (omega arith)
 
 -- the room of tables of the same lengths
-pub room-kept : (level : ℕ) {ul ul' ll ll' at : ℕ} → ul' ≡ ul → ll' ≡ ll → at < roomIn level ul ll → at < roomIn level ul' ll'
+pub room-kept : (level : ℕ) {ul ul' ll ll' at : ℕ} → ul' ≡ ul → ll' ≡ ll → at ≤ roomIn level ul ll → at ≤ roomIn level ul' ll'
 room-kept zero p q h = h
 room-kept (suc zero) p q h = omega arith
 room-kept (suc (suc n)) p q h = omega arith
-
-pub all-kept : (level base : ℕ) {ul ul' ll ll' : ℕ} → ul' ≡ ul → ll' ≡ ll → base + entriesOf level ≤ roomIn level ul ll
-    → base + entriesOf level ≤ roomIn level ul' ll'
-all-kept zero base p q h = h
-all-kept (suc zero) base p q h = omega arith
-all-kept (suc (suc n)) base p q h = omega arith

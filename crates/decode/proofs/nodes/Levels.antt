@@ -24,12 +24,5 @@ room-none {level = zero} lower upper h e = omega arith
 room-none {level = suc level} lower upper h e = omega arith
 
 -- the level below
-abbrev pub below : ℕ → ℕ
-below level = level - 1
-
-pub below-is : (level : ℕ) → (level ≡ 0 → ⊥) → level ≡ suc (below level)
-below-is zero n = absurd (n refl)
-below-is (suc level) n = omega arith
-
 pub less-one : (level : ℕ) → 0 < level → level ≡ suc (level - 1)
 less-one level h = omega arith

@@ -1,7 +1,7 @@
 -- The ways of the definition's `node` and of one of its slots, each from the tests that lead there. Assumes nothing.
 use mathlib.Core.Path.{_≡_, refl, sym, ap, _∙_, subst}
 use mathlib.Core.List.{List, [], _∷_, _++_}
-use Prim.Native.Nat.{ℕ, zero, suc, _+_, _*_, _≤_, _<_}
+use Prim.Native.Nat.{ℕ, zero, suc, _+_, _-_, _*_, _≤_, _<_}
 use native.Mathlib.Omega.{arith}
 use lib.Ieee.{Float}
 use lib.Dec.{eqb}
@@ -15,7 +15,8 @@ use Rattle.nanovdb.specs.Spans.{at, nowhere, seen}
 use Rattle.nanovdb.specs.Nodes.{Places, State, Read, Slots, Reader, claim, withSpan, entriesOf, maskOf, tableOf, nodesAt, placesAt}
 use Rattle.nanovdb.specs.Nodes.{slotRead, slotsRead, placed, leafPlaced, opened, again, node}
 use Rattle.nanovdb.specs.HeldNodes.{spanOf, opening}
-use Rattle.decode.specs.Inner.Filled.{slotTarget}
+use Rattle.decode.specs.Inner.Filled.{slotTarget, filling, numbered}
+use Rattle.decode.proofs.nodes.Levels.{less-one}
 
 -- ---- one slot
 
@@ -67,11 +68,6 @@ module _ (b : List ℕ) (child : Reader) (level source : ℕ) (t : State) where
 
 -- ---- the node
 
--- how a new node of a level is filled
-abbrev filling : ℕ → List ℕ → Places → ℕ → State → Result State
-filling zero b p source u = ok (leafPlaced b source u)
-filling (suc l) b p source u = bind (slotsRead b (node l b p) (suc l) source (entriesOf (suc l)) u) (λ (s : Slots). ok (placed (suc l) s))
-
 module _ (level source : ℕ) (b : List ℕ) (p : Places) (d : State) where
   node-is : node level b p source d ≡ again (seen (d .spans) source level) d (opened b p level source d (filling level b p source))
   unfolding node
@@ -92,38 +88,29 @@ module _ (level source : ℕ) (b : List ℕ) (p : Places) (d : State) where
       pub node-full : placesAt p level ≤ nodesAt d level → node level b p source d ≡ refused 9
       node-full h = node-is ∙ rw (new, claimed, le-ltb (nodesAt d level) (placesAt p level) h)
 
-      -- the node's number beside the state that it gives
-      abbrev numbered : State → Result Read
-      numbered v = ok (record { number = nodesAt d level; state = v })
+      pub node-filled : nodesAt d level < placesAt p level
+          → node level b p source d ≡ bind (filling level b p source (opening level source d)) (numbered (nodesAt d level))
+      node-filled h = node-is ∙ rw (new, claimed, lt-ltb (nodesAt d level) (placesAt p level) h)
 
-      filled : nodesAt d level < placesAt p level → node level b p source d ≡ bind (filling level b p source (opening level source d)) numbered
-      filled h = node-is ∙ rw (new, claimed, lt-ltb (nodesAt d level) (placesAt p level) h)
+-- ---- how it is filled: by a leaf's values, or by its slots
 
-      module _ (room : nodesAt d level < placesAt p level) where
-        pub node-leaf : level ≡ 0 → node level b p source d ≡ ok (record { number = nodesAt d level; state = leafPlaced b source (opening level source d) })
-        node-leaf e = filled room ∙ ap (λ (r : Result State). bind r numbered) (leaf level e)
-          where
-            leaf : (level : ℕ) → level ≡ 0 → filling level b p source (opening level source d) ≡ ok (leafPlaced b source (opening level source d))
-            leaf zero e = refl
-            leaf (suc l) e = absurd (omega arith)
+pub filled-leaf : (level source : ℕ) (b : List ℕ) (p : Places) (d : State) → level ≡ 0 → filling level b p source d ≡ ok (leafPlaced b source d)
+filled-leaf zero source b p d e = refl
+filled-leaf (suc l) source b p d e = absurd (omega arith)
 
-        slots : (l : ℕ) → level ≡ suc l → filling level b p source (opening level source d)
-            ≡ bind (slotsRead b (node l b p) level source (entriesOf level) (opening level source d)) (λ (s : Slots). ok (placed level s))
-        slots l e =
-            subst (λ (m : ℕ). filling m b p source (opening m source d)
-            ≡ bind (slotsRead b (node l b p) m source (entriesOf m) (opening m source d)) (λ (s : Slots). ok (placed m s)))
-            (sym e) refl
+module _ (level source : ℕ) (b : List ℕ) (p : Places) (d : State) (above : 0 < level) where
+  slots : filling level b p source d
+      ≡ bind (slotsRead b (node (level - 1) b p) level source (entriesOf level) d) (λ (s : Slots). ok (placed level s))
+  slots =
+      subst (λ (m : ℕ). filling m b p source d ≡ bind (slotsRead b (node (level - 1) b p) m source (entriesOf m) d) (λ (s : Slots). ok (placed m s)))
+      (sym (less-one level above)) refl
 
-        module _ (l : ℕ) (is : level ≡ suc l) where
-          pub node-broke : (i e : ℕ) (s : Slots) → slotsRead b (node l b p) level source i (opening level source d) ≡ ok s
-              → slotRead b (node l b p) level source i s ≡ refused e → i < entriesOf level → node level b p source d ≡ refused e
-          node-broke i e s before stop h =
-              let stopped = slots-stop b (node l b p) level source (opening level source d) i (entriesOf level) e s before stop h in
-              filled room ∙ ap (λ (r : Result State). bind r numbered)
-              (slots l is ∙ ap (λ (r : Result Slots). bind r (λ (s : Slots). ok (placed level s))) stopped)
+  pub filled-broke : (i e : ℕ) (s : Slots) → slotsRead b (node (level - 1) b p) level source i d ≡ ok s
+      → slotRead b (node (level - 1) b p) level source i s ≡ refused e → i < entriesOf level → filling level b p source d ≡ refused e
+  filled-broke i e s before stop h =
+      slots ∙ ap (λ (r : Result Slots). bind r (λ (s : Slots). ok (placed level s)))
+      (slots-stop b (node (level - 1) b p) level source d i (entriesOf level) e s before stop h)
 
-          pub node-ends : (s : Slots) → slotsRead b (node l b p) level source (entriesOf level) (opening level source d) ≡ ok s
-              → node level b p source d ≡ ok (record { number = nodesAt d level; state = placed level s })
-          node-ends s e =
-              filled room ∙ ap (λ (r : Result State). bind r numbered)
-              (slots l is ∙ ap (λ (r : Result Slots). bind r (λ (s : Slots). ok (placed level s))) e)
+  pub filled-ends : (s : Slots) → slotsRead b (node (level - 1) b p) level source (entriesOf level) d ≡ ok s
+      → filling level b p source d ≡ ok (placed level s)
+  filled-ends s e = slots ∙ ap (λ (r : Result Slots). bind r (λ (s : Slots). ok (placed level s))) e

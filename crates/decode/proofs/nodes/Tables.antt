@@ -16,11 +16,11 @@ use Rattle.nanovdb.specs.Nodes.{byLevel, Places, State, Read, Slots, entriesOf,
 use Rattle.nanovdb.specs.Decode.{linkOf, valueOf}
 use Rattle.nanovdb.specs.HeldNodes.{spanOf, opening, lower-filled, upper-filled, read-leaf, read-lower}
 use Rattle.decode.specs.Inner.WorkTable.{spans, size, Pushed}
-use Rattle.decode.specs.Inner.Filled.{countIn, grownBy, Tabs, tabs, Holds, Ready, Shut, lowerOpen, upperOpen, before}
+use Rattle.decode.specs.Inner.Filled.{countIn, grownBy, Tabs, tabs, withWork, Holds, Ready, Shut}
 use Rattle.decode.specs.Inner.Stored.{leafValue, Stored, atUpper, atLower}
 use Rattle.decode.specs.declared.spans.Spans.{Spans}
 use Rattle.decode.specs.declared.nodes.State as Progress
-use Rattle.decode.proofs.nodes.Fits.{withWork, roomOf}
+use Rattle.decode.proofs.nodes.Fits.{roomOf}
 use Rattle.decode.proofs.nodes.Runs.{leaf-filled}
 
 -- ---- tables and states with a part exchanged
@@ -47,6 +47,17 @@ withEntries d us ls = record {
 
 abbrev spanAs : ℕ → ℕ → ℕ → Span
 spanAs source level number = record { start = source; end = source + byLevel level 2144 33856 270400; level = level; number = number }
+
+-- the entries so far of a node that is being read are the open ones of its level; `outer` are those of the upper node around a lower one
+abbrev pub lowerOpen : ℕ → List Entry → List Entry
+lowerOpen level es = byLevel level [] es []
+
+abbrev pub upperOpen : ℕ → List Entry → List Entry → List Entry
+upperOpen level es outer = byLevel level outer outer es
+
+-- how many entries of its level stand before its next slot
+abbrev pub before : ℕ → State → List Entry → ℕ
+before level d es = byLevel level 0 (length (d .lower ++ es)) (length (d .upper ++ es))
 
 -- ---- one entry more in a pair of tables
 

@@ -16,13 +16,13 @@ use Rattle.nanovdb.specs.Nodes.{Places, State, Read, childTarget, node}
 use Rattle.nanovdb.specs.Tree.{Roots, rootOf, keyPasses, tileRead, tilesRead}
 use Rattle.nanovdb.specs.HeldTiles.{tiles-read}
 use Rattle.nanovdb.specs.Kept.{Kept, kept-on}
-use Rattle.decode.specs.Inner.Filled.{ofTarget, Tabs, Fit, Holds, Reads, NodeFit, NodeSays, NodeOut, SlotFit}
-use Rattle.decode.specs.Inner.Rooted.{RootTabs, RootsHeld, RootPut, TileSays, TileOut, TilesOut}
+use Rattle.decode.specs.Inner.Filled.{ofTarget, Tabs, Fit, Holds, Reads, NodeFit, NodeSays, NodeOut}
+use Rattle.decode.specs.Inner.Rooted.{RootTabs, RootsHeld, RootPut, TileSays, TileOut, TilesOut, StepFit}
 use Rattle.decode.specs.Inner.GridRead.{allTables}
 use Rattle.decode.specs.declared.nodes.State as Progress
 use Rattle.decode.specs.declared.nodes.Target as Target
 use Rattle.decode.specs.declared.nodes.Placed as Placed
-use Rattle.decode.specs.declared.nodes.Step as Step
+use Rattle.decode.specs.declared.tiles.Step as Step
 
 -- ---- the ways of the definition's tile
 
@@ -192,7 +192,7 @@ module _ {b : List ℕ} {root count : ℕ} {t₀ t : Tabs} {q₀ q : RootTabs} {
     row-more h is k = record {
       turn = omega arith;
       kept = kept-on (row .kept) k;
-      fit = subst (SlotFit (length b) u) is (out .fit);
+      fit = subst (StepFit (length b) u) is (out .fit);
       says = λ p d R g.
           let (n, read, reads, roots, size) = handed p d R g in
           let (m, tile, holds, more) = told-tile is p n reads roots size in

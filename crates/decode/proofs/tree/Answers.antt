@@ -19,17 +19,16 @@ use Rattle.nanovdb.specs.HeldTiles.{start, tiles-read}
 use Rattle.nanovdb.specs.Kept.{Kept}
 use Rattle.decode.specs.Inner.WorkTable.{headerSpan, rootSpan, nodes, RootOut}
 use Rattle.decode.specs.Inner.Packed.{Packed}
-use Rattle.decode.specs.Inner.Filled.{Tabs, Fit, Holds, Reads}
+use Rattle.decode.specs.Inner.Filled.{Tabs, Fit, Holds, Reads, withWork}
 use Rattle.decode.specs.Inner.Rooted.{RootTabs, RootsHeld, TilesSay, TilesOut}
 use Rattle.decode.specs.Inner.TreeRead.{Zeroed, LendsAll, TreeOut}
 use Rattle.decode.specs.Inner.GridRead.{allTables}
 use Rattle.decode.specs.declared.spans.Spans.{Spans}
 use Rattle.decode.specs.declared.spans.Claimed as Claimed
 use Rattle.decode.specs.declared.nodes.State as Progress
-use Rattle.decode.specs.declared.nodes.Step as Step
+use Rattle.decode.specs.declared.tiles.Step as Step
 use Rattle.decode.specs.declared.tree.TreeRead.the-variants.{Read}
 use Rattle.decode.proofs.spans.ClaimLaws.{length-spans}
-use Rattle.decode.proofs.nodes.Fits.{withWork}
 use Rattle.decode.proofs.tree.Ways.{count, limit, counted, rooted, tree-short, tree-spanless, tree-past, tree-root}
 use Rattle.decode.proofs.tree.Ways.{tree-many, tree-tiles, tree-counts, tree-read}
 

@@ -1,26 +1,27 @@
 -- The lent tables while nodes are read into them, beside the state of the definition: what the contracts of the node reader say.
-use Prim.Native.Nat.{ℕ, zero, suc, _+_, _/_, _<_}
+use Prim.Native.Nat.{ℕ, zero, suc, _+_, _*_, _/_, _≤_, _<_}
 use mathlib.Core.Path.{_≡_}
 use mathlib.Core.List.{List, [], _++_, map}
 use lib.ListN.{length}
 use lib.Dec.{eqb}
 use mathlib.Core.Bool.{not}
 use lib.Ieee.{Float}
-use Rattle.refusals.specs.Results.{Result, ok, refused, need}
+use Rattle.refusals.specs.Results.{Result, ok, refused, bind, need}
 use Rattle.float.specs.Zero.{+0}
 use Rattle.lent.specs.Padded.{padded}
 use Rattle.layout.specs.Bytes.{signed}
 use Rattle.sparse_grid.specs.declared.Entry.{Entry}
-use Rattle.nanovdb.specs.Nodes.{byLevel, Places, State, Slots, childTarget, slotRead, node}
+use Rattle.nanovdb.specs.Nodes.{byLevel, sizeOf, entriesOf, maskOf, nodesAt, Places, State, Read, Slots, childTarget, slotsRead, leafPlaced, placed, node}
 use Rattle.nanovdb.specs.Decode.{linkOf, valueOf}
-use Rattle.nanovdb.specs.HeldNodes.{Inv0, Inv1, Inv2}
+use Rattle.nanovdb.specs.HeldNodes.{Inv0, Inv1, Inv2, opening}
 use Rattle.decode.specs.Inner.WorkTable.{Rep, nodes, spans}
 use Rattle.decode.specs.Inner.Packed.{Packed}
 use Rattle.decode.specs.declared.spans.Spans.{Spans}
 use Rattle.decode.specs.declared.nodes.State as Progress
 use Rattle.decode.specs.declared.nodes.Target as Target
 use Rattle.decode.specs.declared.nodes.Placed as Placed
-use Rattle.decode.specs.declared.nodes.Step as Step
+use Rattle.decode.specs.declared.nodes.Opening.{Opening}
+use Rattle.decode.specs.declared.nodes.Opened as Opened
 
 -- ---- numbers and stores that go by the level
 
@@ -66,6 +67,20 @@ tabs work upperLinks upperValues lowerLinks lowerValues leafValues = record {
   lowerValues = lowerValues;
   leafValues = leafValues;
 }
+
+-- the same tables beside other words
+abbrev pub withWork : Tabs → List ℕ → Tabs
+withWork t w = tabs w (t .upperLinks) (t .upperValues) (t .lowerLinks) (t .lowerValues) (t .leafValues)
+
+-- how many nodes of a level they have places for
+abbrev pub placesOf : ℕ → Tabs → ℕ
+placesOf level t = placesIn level (length (t .upperLinks)) (length (t .lowerLinks)) (length (t .leafValues))
+
+-- a number of each level is small enough for a link
+pub record Few (s : Progress.State) : Type 0 where
+  pub uppers : s .uppers < 4294967295
+  pub lowers : s .lowers < 4294967295
+  pub leaves : s .leaves < 4294967295
 
 -- what the code needs to stay inside its tables: whole chains, few nodes, paired tables
 pub record Fit (len : ℕ) (t : Tabs) (s : Progress.State) : Type 0 where
@@ -139,37 +154,36 @@ pub record NodeOut (level : ℕ) (b : List ℕ) (source : ℕ) (t : Tabs) (s : P
   pub fit : NodeFit (length b) u r
   pub says : NodeSays level b source t s u r
 
--- ---- one slot of a node that is being read
+-- ---- a node that is new
 
--- its entries so far are the open ones of its level; `outer` are those of the upper node around a lower one
-abbrev pub lowerOpen : ℕ → List Entry → List Entry
-lowerOpen level es = byLevel level [] es []
+-- how the definition fills it, and its number beside the state that this gives
+abbrev pub filling : ℕ → List ℕ → Places → ℕ → State → Result State
+filling zero b p source u = ok (leafPlaced b source u)
+filling (suc l) b p source u = bind (slotsRead b (node l b p) (suc l) source (entriesOf (suc l)) u) (λ (s : Slots). ok (placed (suc l) s))
 
-abbrev pub upperOpen : ℕ → List Entry → List Entry → List Entry
-upperOpen level es outer = byLevel level outer outer es
+abbrev pub numbered : ℕ → State → Result Read
+numbered k v = ok (record { number = k; state = v })
 
--- how many entries of its level stand before slot i
-abbrev pub before : ℕ → State → List Entry → ℕ
-before level d es = byLevel level 0 (length (d .lower ++ es)) (length (d .upper ++ es))
+-- the definition's node is new as well, it has the same number, and the tables hold the state in which it is filled
+pub record NewSays (level : ℕ) (b : List ℕ) (source : ℕ) (u : Tabs) (o : Opening) (p : Places) (d : State) (lower upper : List Entry) : Type 0 where
+  pub number : nodesAt d level ≡ o .number
+  pub filled : node level b p source d ≡ bind (filling level b p source (opening level source d)) (numbered (o .number))
+  pub holds : Holds u (o .now) (opening level source d) lower upper
 
-pub record ReadsSlot (level : ℕ) (b : List ℕ) (at : ℕ) (t : Tabs) (s : Progress.State) (p : Places) (now : Slots) (outer : List Entry) : Type 0 where
-  pub holds : Holds t s (now .state) (lowerOpen level (now .entries)) (upperOpen level (now .entries) outer)
-  pub lends : Lends t p
-  pub ready : (l : ℕ) → level ≡ suc l → Ready l b (now .state)
-  pub place : before level (now .state) (now .entries) ≡ at
+-- it lies in the bytes and has a place, `o` says where, and the tables stay fit
+pub record NewNode (level : ℕ) (b : List ℕ) (source : ℕ) (t : Tabs) (s : Progress.State) (u : Tabs) (o : Opening) : Type 0 where
+  pub whole : source + sizeOf level ≤ length b
+  pub small : o .number < 4294967295
+  pub room : o .number < placesOf level t
+  pub mask : o .mask ≡ source + maskOf level
+  pub entries : o .entries ≡ entriesOf level
+  pub base : o .base ≡ o .number * entriesOf level
+  pub kept : Kept t u
+  pub fit : Fit (length b) u (o .now)
+  pub says : (p : Places) (d : State) (lower upper : List Entry) → Reads level b t s p d lower upper → NewSays level b source u o p d lower upper
 
-abbrev pub SlotSays : ℕ → List ℕ → ℕ → ℕ → ℕ → Tabs → Progress.State → Tabs → Step.Step → Type 0
-SlotSays level b source base i t s u (Step.the-variants.Next v) = (l : ℕ) → level ≡ suc l → (p : Places) (now : Slots) (outer : List Entry)
-    → ReadsSlot level b (base + i) t s p now outer
-    → (next : Slots) × (slotRead b (node l b p) level source i now ≡ ok next)
-    × Holds u v (next .state) (lowerOpen level (next .entries)) (upperOpen level (next .entries) outer)
-SlotSays level b source base i t s u (Step.the-variants.Stop n) = (l : ℕ) → level ≡ suc l → (p : Places) (now : Slots) (outer : List Entry)
-    → ReadsSlot level b (base + i) t s p now outer → slotRead b (node l b p) level source i now ≡ refused n
-
-abbrev pub SlotFit : ℕ → Tabs → Step.Step → Type 0
-SlotFit len u (Step.the-variants.Next v) = Fit len u v
-SlotFit len u (Step.the-variants.Stop n) = Unit {0}
-
-pub record SlotOut (level : ℕ) (b : List ℕ) (source base i : ℕ) (t : Tabs) (s : Progress.State) (u : Tabs) (r : Step.Step) : Type 0 where
-  pub fit : SlotFit (length b) u r
-  pub says : SlotSays level b source base i t s u r
+-- what `open` answers: a node that has been read, a refusal, or a new node
+abbrev pub OpenOut : ℕ → List ℕ → ℕ → Tabs → Progress.State → Tabs → Opened.Opened → Type 0
+OpenOut level b source t s u (Opened.the-variants.Again n) = NodeOut level b source t s u (Placed.the-variants.Node n s)
+OpenOut level b source t s u (Opened.the-variants.Stop n) = NodeOut level b source t s u (Placed.the-variants.Refused n)
+OpenOut level b source t s u (Opened.the-variants.Fresh o) = NewNode level b source t s u o

@@ -12,9 +12,9 @@ use Rattle.sparse_grid.specs.declared.Entry.{Entry}
 use Rattle.nanovdb.specs.Nodes.{Places, State}
 use Rattle.nanovdb.specs.Tree.{Root, Roots, rootOf, tileRead, tilesRead}
 use Rattle.nanovdb.specs.Decode.{linkOf, valueOf, blocksOf}
-use Rattle.decode.specs.Inner.Filled.{Tabs, Holds, Reads, SlotFit}
+use Rattle.decode.specs.Inner.Filled.{Tabs, Fit, Holds, Reads}
 use Rattle.decode.specs.declared.nodes.State as Progress
-use Rattle.decode.specs.declared.nodes.Step as Step
+use Rattle.decode.specs.declared.tiles.Step as Step
 
 pub record RootTabs : Type 0 where
   pub blocks : List ℤ
@@ -45,8 +45,12 @@ TileSays b root i t q s u v (Step.the-variants.Next w) = (p : Places) (r : Roots
 TileSays b root i t q s u v (Step.the-variants.Stop n) = (p : Places) (r : Roots) → Reads 2 b t s p (r .state) [] [] → RootsHeld q (r .roots)
     → length (r .roots) ≡ i → tileRead b p root i r ≡ refused n
 
+abbrev pub StepFit : ℕ → Tabs → Step.Step → Type 0
+StepFit len u (Step.the-variants.Next v) = Fit len u v
+StepFit len u (Step.the-variants.Stop n) = Unit {0}
+
 pub record TileOut (b : List ℕ) (root i : ℕ) (t : Tabs) (q : RootTabs) (s : Progress.State) (u : Tabs) (v : RootTabs) (r : Step.Step) : Type 0 where
-  pub fit : SlotFit (length b) u r
+  pub fit : StepFit (length b) u r
   pub says : TileSays b root i t q s u v r
 
 -- the same of the first `count` tiles, from tables that hold no root
@@ -57,5 +61,5 @@ TilesSay b root count t q s u v (Step.the-variants.Stop n) = (p : Places) (d : S
     → tilesRead b p root count d ≡ refused n
 
 pub record TilesOut (b : List ℕ) (root count : ℕ) (t : Tabs) (q : RootTabs) (s : Progress.State) (u : Tabs) (v : RootTabs) (r : Step.Step) : Type 0 where
-  pub fit : SlotFit (length b) u r
+  pub fit : StepFit (length b) u r
   pub says : TilesSay b root count t q s u v r

@@ -10,7 +10,7 @@ use Rattle.decode.proofs.nodes.link.Tie as tie
 
 -- the room is that of the table of the level, which is no leaf's
 no-leaf : (c : tie.Start) → c .args .level ≡ 0 → ⊥
-no-leaf c e = room-none _ _ (c .pre) e
+no-leaf c e = room-none _ _ (c .pre .0) e
 
 lower-room : (c : tie.Then1) → let a = c .before .args in length (a .ll .now) ≡ roomIn (a .level) (length (a .ul .now)) (length (a .ll .now))
 lower-room c = at-lower _ _ (c .if1 .taken)
@@ -28,8 +28,12 @@ pub link-spec : {M : Type 1} → statement M
 link-spec =
     tie.close
     (tie.spec
+    (λ c. omega arith)
     (λ c. omega (arith, lower-room c))
     (λ c. omega (arith, lower-room c))
+    (λ c. omega (arith, lower-room c))
+    (λ c. omega arith)
+    (λ c. omega (arith, upper-room c))
     (λ c. omega (arith, upper-room c))
     (λ c. omega (arith, upper-room c))
     (λ c. search needs)

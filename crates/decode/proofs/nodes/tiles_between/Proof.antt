@@ -1,5 +1,4 @@
 -- `decode::nodes::tiles_between` meets its contract: the run goes to the table of the level. Assumes nothing.
-use native.Mathlib.Omega.{arith}
 use lib.ListN.{length}
 use borrow.Author.Needs.{needs}
 use Rattle.decode.proofs.nodes.Runs.{lower-run, upper-run, lower-inside, upper-inside}
