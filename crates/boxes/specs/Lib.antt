@@ -10,6 +10,7 @@ pub mod Offsets
 pub mod Maximum
 pub mod Greatest
 pub mod MostLaws
+pub mod JoinedLaws
 pub mod NodeCells
 pub mod RootReads
 pub mod CutLaws

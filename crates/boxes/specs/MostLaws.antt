@@ -69,15 +69,18 @@ module _ {f : ℕ → ℕ → ℕ → Float} where
       }
       go false h = record { covers = λ x y z s. ap (lt +0) (e x y z s) ∙ h; reached = inl refl }
 
--- a value that stands beside +0 adds no more than by itself
-pub zero-beside : {r : Float} → Plain r → (v : Float) → greater r (greater +0 v) ≡ greater r v
-zero-beside {r} p v = go (lt +0 v) refl
+-- a value that stands beside +0 adds no more than by itself: a tile joins without a test for zero
+pub beside-zero : (m v : Float) → lt m +0 ≡ false → greater m v ≡ greater m (greater +0 v)
+beside-zero m v h = go (lt +0 v) refl
   where
-    go : (b : Bool) → lt +0 v ≡ b → greater r (cond b v +0) ≡ greater r v
+    go : (b : Bool) → lt +0 v ≡ b → greater m v ≡ greater m (cond b v +0)
     go true e = refl
     go false e =
-        ap (λ (b : Bool). cond b +0 r) (not-below-zero p)
-        ∙ sym (ap (λ (b : Bool). cond b v r) (not-lt-through r +0 v (plain-number (up-plain +0 (inl refl))) (not-below-zero p) e))
+        ap (λ (b : Bool). cond b v m) (not-lt-through m +0 v (plain-number (up-plain +0 (inl refl))) h e)
+        ∙ sym (ap (λ (b : Bool). cond b +0 m) h)
+
+pub zero-beside : {r : Float} → Plain r → (v : Float) → greater r (greater +0 v) ≡ greater r v
+zero-beside {r} p v = sym (beside-zero r v (not-below-zero p))
 
 -- another f that gives the same on the set
 pub most-as : {f g : ℕ → ℕ → ℕ → Float} {S : ℕ → ℕ → ℕ → Type 0} {r : Float} → ((x y z : ℕ) → S x y z → f x y z ≡ g x y z) → Most f S r → Most g S r
@@ -91,6 +94,10 @@ pub none : {f : ℕ → ℕ → ℕ → Float} {S : ℕ → ℕ → ℕ → Type
 none {f} {S} n = subst (λ (r : Float). Most f S r) (sym (zero-literal binary32)) (most-none n)
 
 -- ---- boxes
+
+-- the low corner of a box with a place in it
+pub low-corner : {x0 x1 y0 y1 z0 z1 : ℕ} → x0 < x1 → y0 < y1 → z0 < z1 → Inside x0 x1 y0 y1 z0 z1 x0 y0 z0
+low-corner a b c = record { x-low = le-refl _; x-high = a; y-low = le-refl _; y-high = b; z-low = le-refl _; z-high = c }
 
 module _ {f : ℕ → ℕ → ℕ → Float} {x0 x1 y0 y1 z0 z1 : ℕ} where
   -- a box cut in two across an axis, at k
@@ -125,7 +132,7 @@ module _ {f : ℕ → ℕ → ℕ → Float} {x0 x1 y0 y1 z0 z1 : ℕ} where
   -- a box with a place in it, on which f is v
   pub flat : x0 < x1 → y0 < y1 → z0 < z1 → (v : Float) → ((x y z : ℕ) → Inside x0 x1 y0 y1 z0 z1 x y z → f x y z ≡ v)
       → Most f (Inside x0 x1 y0 y1 z0 z1) (greater +0 v)
-  flat a b c v e = most-flat v e x0 y0 z0 (record { x-low = le-refl x0; x-high = a; y-low = le-refl y0; y-high = b; z-low = le-refl z0; z-high = c })
+  flat a b c v e = most-flat v e x0 y0 z0 (low-corner a b c)
 
 -- one place more along a row
 pub step-z : {f : ℕ → ℕ → ℕ → Float} (x y z0 z : ℕ) {r t : Float} → z0 ≤ z → Most f (Inside x (x + 1) y (y + 1) z0 z) r → t ≡ greater r (f x y z)

@@ -1,31 +1,33 @@
 -- A part of a box that lies in one cell of a node: all of its places go by one entry.
-use Prim.Native.Nat.{ℕ, zero, suc, _+_, _-_, _*_, _/_, _%_, _≤_, _<_}
+use Prim.Native.Nat.{ℕ, zero, suc, _+_, _*_, _/_, _%_, _≤_, _<_}
 use native.Mathlib.Nat.{le-trans}
 use native.Mathlib.Omega.{arith}
 use mathlib.Core.Path.{_≡_, sym, ap, _∙_, subst}
+use mathlib.Core.Bool.{false}
 use mathlib.Core.List.{List}
 use lib.ListN.{getD}
-use lib.Ieee.{Float, binary32, ofBits}
+use lib.Ieee.{Float, lt}
 use Rattle.float.specs.Zero.{+0}
-use Rattle.float.specs.Literal.{zero-literal}
 use Rattle.sparse_grid.specs.declared.Entry.{Entry}
 use Rattle.sparse_grid.specs.declared.Entry.the-variants.{Child, Tile}
 use Rattle.sparse_grid.specs.Tables.{entryOf, entryAt}
 use Rattle.boxes.specs.declared.Span.{Span}
 use Rattle.boxes.specs.Boxes.{greater}
-use Rattle.boxes.specs.Most.{Most}
+use Rattle.boxes.specs.Most.{Joined}
 use Rattle.boxes.specs.RangeMax.{Within, Full, Cut, InCell, entryRead, leafRead, lowerRead, upperRead, lowerSlot, upperSlot, childIn}
-use Rattle.boxes.specs.MostLaws.{flat, most-as}
+use Rattle.boxes.specs.MostLaws.{most-as, low-corner}
+use Rattle.boxes.specs.JoinedLaws.{joined-flat, joined-as}
 
 module _ {f : ℕ → ℕ → ℕ → Float} (g : ℕ → ℕ → ℕ → ℕ → Float) (x y z : Span) {e : Entry}
     (same : (a b c : ℕ) → Within x y z a b c → f a b c ≡ entryRead e (λ j. g j a b c)) where
-  pub cell-tile : Full x y z → {v r : Float} → e ≡ Tile v → r ≡ greater (ofBits binary32 0) v → Most f (Within x y z) r
-  cell-tile full {v} {r} h q =
-      subst (λ (w : Float). Most f (Within x y z) w) (sym (q ∙ ap (λ (w : Float). greater w v) (zero-literal binary32)))
-      (flat (full .x-some) (full .y-some) (full .z-some) v (λ a b c s. same a b c s ∙ ap (λ (k : Entry). entryRead k (λ j. g j a b c)) h))
+  abbrev by-entry : {d : Entry} → e ≡ d → (a b c : ℕ) → Within x y z a b c → f a b c ≡ entryRead d (λ j. g j a b c)
+  by-entry h a b c s = same a b c s ∙ ap (λ (k : Entry). entryRead k (λ j. g j a b c)) h
 
-  pub cell-child : {j : ℕ} {r : Float} → e ≡ Child j → Most (g j) (Within x y z) r → Most f (Within x y z) r
-  cell-child h m = most-as (λ a b c s. sym (same a b c s ∙ ap (λ (k : Entry). entryRead k (λ j. g j a b c)) h)) m
+  pub cell-tile : Full x y z → {v m r : Float} → e ≡ Tile v → lt m +0 ≡ false → r ≡ greater m v → Joined m f (Within x y z) r
+  cell-tile full {v} h l q = joined-flat l v (by-entry h) (x .lo) (y .lo) (z .lo) (low-corner (full .x-some) (full .y-some) (full .z-some)) q
+
+  pub cell-child : {j : ℕ} {m r : Float} → e ≡ Child j → Joined m (g j) (Within x y z) r → Joined m f (Within x y z) r
+  cell-child h = joined-as (λ p m. most-as (λ a b c s. sym (by-entry h a b c s)) m)
 
 -- ---- the slot of a cell
 

@@ -4,15 +4,14 @@ use native.Mathlib.Omega.{arith}
 use mathlib.Core.Path.{_≡_, refl, sym, ap, _∙_, subst}
 use mathlib.Core.Logic.{inl, inr, ⊎-elim}
 use mathlib.Core.Bool.{Bool, true, false, _||_}
+use mathlib.Core.List.{List}
 use lib.Dec.{T, leb}
 use lib.IntN.{ℤ}
-use lib.ListN.{length}
 use lib.Signed.{_≤ℤ_}
 use lib.Ieee.{Float, lt, fits, binary32, ofBits}
 use mir.Syntax.{w32}
 use mir.Val.{SFits, toZ, ofZ}
 use borrow.Author.Tests.{leb-true, leb-false}
-use Rattle.float.specs.Literal.{zero-literal}
 use Rattle.layout.specs.Coordinates.{Coord}
 use Rattle.sparse_grid.specs.Tables.{Grid}
 use Rattle.sparse_grid.specs.Lookup.{readIn}
@@ -29,11 +28,10 @@ use Rattle.boxes.specs.RangeMax.{Within, Full, Ends, empty, readAt}
 use Rattle.boxes.specs.MostLaws.{none}
 use Rattle.sparse_grid.specs.Signs.{seen}
 use Rattle.walk.specs.Walk.{Price, biased, zoneOf, steps, rootsOnly, uppersOnly, lowersOnly, leavesOnly}
-use Rattle.walk.specs.Counts.{zoneIn, stepsTo, CountedTo}
-use Rattle.walk.specs.CountLaws.{all-to}
+use Rattle.walk.specs.Walk.{rootsRead, uppersRead, lowersRead, leavesRead}
+use Rattle.walk.specs.Counts.{zoneIn, More}
+use Rattle.walk.specs.MoreLaws.{none as nothing, equal}
 use Rattle.walk.specs.NodeWalk.{empty-steps}
-use Rattle.majorant.specs.declared.Counted.{Counted}
-use Rattle.majorant.specs.Counted.{unread, asRead, readFor}
 
 -- ---- spans with a place, and without
 
@@ -172,31 +170,19 @@ module _ {lx ly lz hx hy hz : ℤ} {x y z : Span} (spans : Spans lx ly lz hx hy 
         sym (ap (steps p g) zone-is
         ∙ empty-steps p g (zoneIn x y z) (lacking x y z h (λ k. inl k) (λ k. inr (inl k)) (λ k. inr (inr k))))
 
-    -- an empty box: zeros
-    pub read-none : empty x y z ≡ true → ofBits binary32 0 ≡ boxMaximum (readIn g) (between lx ly lz hx hy hz)
-        → unread ≡ readFor g (between lx ly lz hx hy hz)
-    read-none h e = λ i. record {
-      maximum = (sym (zero-literal binary32) ∙ e) i;
-      roots = none-read rootsOnly h i;
-      uppers = none-read uppersOnly h i;
-      lowers = none-read lowersOnly h i;
-      leaves = none-read leavesOnly h i;
-    }
+    -- an empty box: nothing
+    pub no-more : {t : List ℕ} → empty x y z ≡ true → let b = between lx ly lz hx hy hz in
+        More t t (rootsRead g b) (uppersRead g b) (lowersRead g b) (leavesRead g b)
+    no-more h = equal (none-read rootsOnly h) (none-read uppersOnly h) (none-read lowersOnly h) (none-read leavesOnly h) nothing
 
-    all-read : (p : Price) → stepsTo p g (zoneIn x y z) (length (g .rootLinks)) ≡ steps p g (zoneOf (between lx ly lz hx hy hz))
-    all-read p = all-to p g (zoneIn x y z) ∙ ap (steps p g) (sym zone-is)
-
-    -- the counts of all roots are those of the box
-    pub read-all : (r : Counted) → r .maximum ≡ boxMaximum (readIn g) (between lx ly lz hx hy hz)
-        → CountedTo g (length (g .rootLinks)) (zoneIn x y z) (r .roots) (r .upper) (r .lower) (r .high) (r .low)
-        → asRead r ≡ readFor g (between lx ly lz hx hy hz)
-    read-all r e c = λ i. record {
-      maximum = e i;
-      roots = (c .roots-are ∙ all-read rootsOnly) i;
-      uppers = (c .uppers-are ∙ all-read uppersOnly) i;
-      lowers = (c .lowers-are ∙ all-read lowersOnly) i;
-      leaves = (c .leaves-are ∙ all-read leavesOnly) i;
-    }
+    -- what is read for the spans is what is read for the box
+    pub all-more : {t u : List ℕ} → let count : Price → ℕ = λ p. steps p g (zoneIn x y z) in let b = between lx ly lz hx hy hz in
+        More t u (count rootsOnly) (count uppersOnly) (count lowersOnly) (count leavesOnly)
+        → More t u (rootsRead g b) (uppersRead g b) (lowersRead g b) (leavesRead g b)
+    all-more = equal (of-box rootsOnly) (of-box uppersOnly) (of-box lowersOnly) (of-box leavesOnly)
+      where
+        of-box : (p : Price) → steps p g (zoneIn x y z) ≡ steps p g (zoneOf (between lx ly lz hx hy hz))
+        of-box p = ap (steps p g) (sym zone-is)
 
 -- the ends as a callee is handed them
 pub seen-ends : {lo hi : ℤ} (s : Span) → SFits w32 lo → SFits w32 hi → Ends (toZ w32 (ofZ w32 lo)) (toZ w32 (ofZ w32 hi)) s → Ends lo hi s

@@ -11,12 +11,16 @@ use Rattle.sparse_grid.specs.Validate.{blockIn}
 use Rattle.sparse_grid.specs.Signs.{low, high, both, seen}
 use Rattle.boxes.specs.Boxes.{Box, between}
 
-pub block-fits : (z : ℤ) → blockIn z ≡ true → SFits w32 z
+-- a number as a callee is handed it
+abbrev pub handedOn : ℤ → ℤ
+handedOn z = toZ w32 (ofZ w32 z)
+
+block-fits : (z : ℤ) → blockIn z ≡ true → SFits w32 z
 block-fits (pos k) h = record { sfits = let l = high k (both true (leZ (pos k) (pos 524287)) h .1) in omega arith }
 block-fits (negsuc k) h = record { sfits = let l = low k (both (leZ (negsuc 524287) (negsuc k)) true h .0) in omega arith }
 
 -- what a callee is handed of a block is in range too, and raised to the same number
-pub handed : (z : ℤ) → blockIn z ≡ true → toZ w32 (ofZ w32 z) ≡ z
+pub handed : (z : ℤ) → blockIn z ≡ true → handedOn z ≡ z
 handed z h = seen (block-fits z h)
 
 -- ---- the ends of a box
@@ -28,11 +32,8 @@ pub record Small (b : Box) : Type 0 where
   pub hy : mag (b .hi .y) < 2 ^ 31
   pub hz : mag (b .hi .z) < 2 ^ 31
 
-pub given : (z : ℤ) → mag z < 2 ^ 31 → toZ w32 (ofZ w32 z) ≡ z
+pub given : (z : ℤ) → mag z < 2 ^ 31 → handedOn z ≡ z
 given z h = seen (record { sfits = h })
-
-abbrev handedOn : ℤ → ℤ
-handedOn z = toZ w32 (ofZ w32 z)
 
 pub box-handed : (b : Box) → Small b
     → between (handedOn (b .lo .x)) (handedOn (b .lo .y)) (handedOn (b .lo .z)) (handedOn (b .hi .x)) (handedOn (b .hi .y)) (handedOn (b .hi .z)) ≡ b

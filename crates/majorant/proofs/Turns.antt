@@ -1,156 +1,111 @@
--- One turn of each loop over the cells of a node: the part so far and the next cell make up the part up to there, maximum and counts alike. Assumes nothing.
-use Prim.Native.Nat.{ℕ, _+_, _*_, _/_, _≤_, _<_}
+-- One turn of a loop over the cells of a node, of either level and along any axis: the part so far and the next cell make up the part up to there,
+-- maximum and counts alike. Assumes nothing.
+use Prim.Native.Nat.{ℕ, _*_, _/_, _+_, _≤_}
 use native.Mathlib.Omega.{arith}
-use mathlib.Core.Path.{_≡_, subst}
+use mathlib.Core.Path.{_≡_, refl, subst}
+use mathlib.Core.Bool.{Bool, true, false}
 use mathlib.Core.List.{List}
-use lib.Ieee.{Float, binary32, ofBits}
+use lib.Ieee.{Float, lt}
+use Rattle.float.specs.Zero.{+0}
 use Rattle.boxes.specs.declared.Span.{Span}
 use Rattle.boxes.specs.Boxes.{greater}
-use Rattle.boxes.specs.RangeMax.{Cut, InCell}
-use Rattle.boxes.specs.MostLaws.{none, join-x, join-y, join-z}
-use Rattle.walk.specs.Walk.{lowersOnly, leavesOnly}
-use Rattle.walk.specs.Counts.{LowerHolds, UpperHolds, lowerLeaves, upperCount}
-use Rattle.walk.specs.CountLaws.{Going, lower-adds, upper-adds, lower-small, lowers-small, leaves-small}
+use Rattle.boxes.specs.Most.{Most, Joined}
+use Rattle.boxes.specs.RangeMax.{Within, Cut, lowerRead, upperRead}
+use Rattle.boxes.specs.MostLaws.{join-x, join-y, join-z}
+use Rattle.boxes.specs.JoinedLaws.{joined-none, joined-more}
+use Rattle.walk.specs.Walk.{uppersOnly, lowersOnly, leavesOnly}
+use Rattle.walk.specs.Counts.{More, lowerCount, upperCount}
+use Rattle.walk.specs.CountLaws.{Going, begun, going, Along, Adds, no-adds, lower-adds, upper-adds}
+use Rattle.walk.specs.MoreLaws.{none, and, equal}
 
--- a part of a span in one cell is in that cell
-in-128 : {lo end at next : ℕ} → Going 8 lo end at → Cut 8 at end next → end ≤ lo / 128 * 128 + 128 → at / 128 ≡ lo / 128
-in-128 g c h = omega (arith, g .low, c .more, c .within)
+-- a node whose cells have `side` coordinates and which has S itself: what it reads, and what it counts for three spans
+pub record Node (side S : ℕ) (f : ℕ → ℕ → ℕ → Float) (U L W : Span → Span → Span → ℕ) : Type 0 where
+  pub uppers : Adds side S U
+  pub lowers : Adds side S L
+  pub leaves : Adds side S W
 
-in-4096 : {lo end at next : ℕ} → Going 128 lo end at → Cut 128 at end next → end ≤ lo / 4096 * 4096 + 4096 → at / 4096 ≡ lo / 4096
-in-4096 g c h = omega (arith, g .low, c .more, c .within)
+pub lower : (links : List ℕ) (values leaf : List Float) (k : ℕ)
+    → Node 8 128 (lowerRead links values leaf k) (λ x y z. 0) (lowerCount lowersOnly links values k) (lowerCount leavesOnly links values k)
+lower links values leaf k = record { uppers = no-adds; lowers = lower-adds lowersOnly links values k; leaves = lower-adds leavesOnly links values k }
 
-done : {side lo end at : ℕ} → Going side lo end at → end ≤ at → at ≡ end
-done g h = omega (arith, g .high)
+pub upper : (upperLinks : List ℕ) (upperValues : List Float) (links : List ℕ) (values leaf : List Float) (k : ℕ)
+    → Node 128 4096 (upperRead upperLinks upperValues links values leaf k) (upperCount uppersOnly upperLinks upperValues links values k)
+    (upperCount lowersOnly upperLinks upperValues links values k) (upperCount leavesOnly upperLinks upperValues links values k)
+upper upperLinks upperValues links values leaf k = record {
+  uppers = upper-adds uppersOnly upperLinks upperValues links values k;
+  lowers = upper-adds lowersOnly upperLinks upperValues links values k;
+  leaves = upper-adds leavesOnly upperLinks upperValues links values k;
+}
 
-module _ {links : List ℕ} {values leaf : List Float} {k : ℕ} where
-  -- two counts of a node together fit a word
-  pub lower-room : {x y z : Span} {m : Float} {n : ℕ} → LowerHolds links values leaf k x y z m n → n ≤ 2097152
-  lower-room {x} {y} {z} h = omega (arith, h .leaves-are, lower-small links values k x y z)
+abbrev pub part : ℕ → ℕ → Span
+part lo hi = record { lo = lo; hi = hi }
 
-  pub lower-none-x : (y z : Span) (a : ℕ) → LowerHolds links values leaf k (record { lo = a; hi = a }) y z (ofBits binary32 0) 0
-  lower-none-x y z a = record { most = none (λ p q r s. omega arith); leaves-are = lower-adds links values k .none-x y z a }
+-- the same along one axis: the places P and the counts of a span
+pub record Axis (side S : ℕ) (f : ℕ → ℕ → ℕ → Float) (P : Span → ℕ → ℕ → ℕ → Type 0) (U L W : Span → ℕ) : Type 0 where
+  pub empty : (a x y z : ℕ) → P (part a a) x y z → ⊥
+  pub join : (lo at next : ℕ) → lo ≤ at → at ≤ next → (p q : Float) → Most f (P (part lo at)) p
+      → Most f (P (part at next)) q → Most f (P (part lo next)) (greater p q)
+  pub uppers : Along side S U
+  pub lowers : Along side S L
+  pub leaves : Along side S W
 
-  pub lower-more-x : {y z : Span} {lo end at next n w : ℕ} {m v r : Float} → Going 8 lo end at → Cut 8 at end next
-      → end ≤ lo / 128 * 128 + 128 → LowerHolds links values leaf k (record { lo = lo; hi = at }) y z m n
-      → LowerHolds links values leaf k (record { lo = at; hi = next }) y z v w → r ≡ greater m v
-      → LowerHolds links values leaf k (record { lo = lo; hi = next }) y z r (n + w)
-  lower-more-x {y} {z} g c i h p e = record {
-    most = join-x (g .low) (omega (arith, c .more)) (h .most) (p .most) e;
-    leaves-are = lower-adds links values k .more-x y z g c (in-128 g c i) (h .leaves-are) (p .leaves-are);
+module _ {side S : ℕ} {f : ℕ → ℕ → ℕ → Float} {U L W : Span → Span → Span → ℕ} (n : Node side S f U L W) where
+  pub along-x : (y z : Span) → Axis side S f (λ s. Within s y z) (λ s. U s y z) (λ s. L s y z) (λ s. W s y z)
+  along-x y z = record {
+    empty = λ a p q r s. omega arith;
+    join = λ lo at next h l p q m n. join-x h l m n refl;
+    uppers = n .uppers .x y z;
+    lowers = n .lowers .x y z;
+    leaves = n .leaves .x y z;
   }
 
-  pub lower-till-x : {y z : Span} {lo end at n : ℕ} {m : Float} → Going 8 lo end at → end ≤ at
-      → LowerHolds links values leaf k (record { lo = lo; hi = at }) y z m n → LowerHolds links values leaf k (record { lo = lo; hi = end }) y z m n
-  lower-till-x {y} {z} {lo} {end} {at} {n} {m} g i =
-      subst (λ (e : ℕ). LowerHolds links values leaf k (record { lo = lo; hi = e }) y z m n) (done g i)
-
-  pub lower-none-y : (x z : Span) (a : ℕ) → LowerHolds links values leaf k x (record { lo = a; hi = a }) z (ofBits binary32 0) 0
-  lower-none-y x z a = record { most = none (λ p q r s. omega arith); leaves-are = lower-adds links values k .none-y x z a }
-
-  pub lower-more-y : {x z : Span} {lo end at next n w : ℕ} {m v r : Float} → Going 8 lo end at → Cut 8 at end next
-      → end ≤ lo / 128 * 128 + 128 → LowerHolds links values leaf k x (record { lo = lo; hi = at }) z m n
-      → LowerHolds links values leaf k x (record { lo = at; hi = next }) z v w → r ≡ greater m v
-      → LowerHolds links values leaf k x (record { lo = lo; hi = next }) z r (n + w)
-  lower-more-y {x} {z} g c i h p e = record {
-    most = join-y (g .low) (omega (arith, c .more)) (h .most) (p .most) e;
-    leaves-are = lower-adds links values k .more-y x z g c (in-128 g c i) (h .leaves-are) (p .leaves-are);
+  pub along-y : (x z : Span) → Axis side S f (λ s. Within x s z) (λ s. U x s z) (λ s. L x s z) (λ s. W x s z)
+  along-y x z = record {
+    empty = λ a p q r s. omega arith;
+    join = λ lo at next h l p q m n. join-y h l m n refl;
+    uppers = n .uppers .y x z;
+    lowers = n .lowers .y x z;
+    leaves = n .leaves .y x z;
   }
 
-  pub lower-till-y : {x z : Span} {lo end at n : ℕ} {m : Float} → Going 8 lo end at → end ≤ at
-      → LowerHolds links values leaf k x (record { lo = lo; hi = at }) z m n → LowerHolds links values leaf k x (record { lo = lo; hi = end }) z m n
-  lower-till-y {x} {z} {lo} {end} {at} {n} {m} g i =
-      subst (λ (e : ℕ). LowerHolds links values leaf k x (record { lo = lo; hi = e }) z m n) (done g i)
-
-  pub lower-none-z : (x y : Span) (a : ℕ) → LowerHolds links values leaf k x y (record { lo = a; hi = a }) (ofBits binary32 0) 0
-  lower-none-z x y a = record { most = none (λ p q r s. omega arith); leaves-are = lower-adds links values k .none-z x y a }
-
-  pub lower-more-z : {x y : Span} {lo end at next n w : ℕ} {m v r : Float} → Going 8 lo end at → Cut 8 at end next
-      → end ≤ lo / 128 * 128 + 128 → LowerHolds links values leaf k x y (record { lo = lo; hi = at }) m n
-      → LowerHolds links values leaf k x y (record { lo = at; hi = next }) v w → r ≡ greater m v
-      → LowerHolds links values leaf k x y (record { lo = lo; hi = next }) r (n + w)
-  lower-more-z {x} {y} g c i h p e = record {
-    most = join-z (g .low) (omega (arith, c .more)) (h .most) (p .most) e;
-    leaves-are = lower-adds links values k .more-z x y g c (in-128 g c i) (h .leaves-are) (p .leaves-are);
+  pub along-z : (x y : Span) → Axis side S f (λ s. Within x y s) (λ s. U x y s) (λ s. L x y s) (λ s. W x y s)
+  along-z x y = record {
+    empty = λ a p q r s. omega arith;
+    join = λ lo at next h l p q m n. join-z h l m n refl;
+    uppers = n .uppers .z x y;
+    lowers = n .lowers .z x y;
+    leaves = n .leaves .z x y;
   }
 
-  pub lower-till-z : {x y : Span} {lo end at n : ℕ} {m : Float} → Going 8 lo end at → end ≤ at
-      → LowerHolds links values leaf k x y (record { lo = lo; hi = at }) m n → LowerHolds links values leaf k x y (record { lo = lo; hi = end }) m n
-  lower-till-z {x} {y} {lo} {end} {at} {n} {m} g i =
-      subst (λ (e : ℕ). LowerHolds links values leaf k x y (record { lo = lo; hi = e }) m n) (done g i)
+-- what a loop to `end` has gathered where it stands at `at`: from a maximum m and the counts t it has come to r and the counts u
+pub record Gathered {side S : ℕ} {f : ℕ → ℕ → ℕ → Float} {P : Span → ℕ → ℕ → ℕ → Type 0} {U L W : Span → ℕ} (a : Axis side S f P U L W)
+    (counting : Bool) (end : ℕ) (m : Float) (t : List ℕ) (lo : ℕ) (r : Float) (u : List ℕ) (at : ℕ) : Type 0 where
+  pub going : Going side lo end at
+  pub joined : Joined m f (P (part lo at)) r
+  pub more : counting ≡ true → More t u 0 (U (part lo at)) (L (part lo at)) (W (part lo at))
 
-module _ {upperLinks : List ℕ} {upperValues : List Float} {links : List ℕ} {values leaf : List Float} {k : ℕ} where
-  pub upper-room : {x y z : Span} {m : Float} {l n : ℕ} → UpperHolds upperLinks upperValues links values leaf k x y z m l n
-      → (l ≤ 134217728) × (n ≤ 68719476736)
-  upper-room {x} {y} {z} h = (
-    omega (arith, h .lowers-are, lowers-small upperLinks upperValues links values k x y z),
-    omega (arith, h .leaves-are, leaves-small upperLinks upperValues links values k x y z),
-  )
-
-  pub upper-none-x : (y z : Span) (a : ℕ) → UpperHolds upperLinks upperValues links values leaf k (record { lo = a; hi = a }) y z (ofBits binary32 0) 0 0
-  upper-none-x y z a = record {
-    most = none (λ p q r s. omega arith);
-    lowers-are = upper-adds lowersOnly upperLinks upperValues links values k .none-x y z a;
-    leaves-are = upper-adds leavesOnly upperLinks upperValues links values k .none-x y z a;
+module _ {side S : ℕ} {f : ℕ → ℕ → ℕ → Float} {P : Span → ℕ → ℕ → ℕ → Type 0} {U L W : Span → ℕ} {a : Axis side S f P U L W} {counting : Bool} {end : ℕ}
+    {m : Float} {t : List ℕ} {lo : ℕ} where
+  pub first : lo ≤ end → lt m +0 ≡ false → Gathered a counting end m t lo m t lo
+  first l h = record {
+    going = begun l;
+    joined = joined-none h (a .empty lo);
+    more = λ c. equal refl (a .uppers .none lo) (a .lowers .none lo) (a .leaves .none lo) none;
   }
 
-  pub upper-more-x : {y z : Span} {lo end at next l n d w : ℕ} {m v r : Float} → Going 128 lo end at → Cut 128 at end next
-      → end ≤ lo / 4096 * 4096 + 4096 → UpperHolds upperLinks upperValues links values leaf k (record { lo = lo; hi = at }) y z m l n
-      → UpperHolds upperLinks upperValues links values leaf k (record { lo = at; hi = next }) y z v d w → r ≡ greater m v
-      → UpperHolds upperLinks upperValues links values leaf k (record { lo = lo; hi = next }) y z r (l + d) (n + w)
-  upper-more-x {y} {z} g c i h p e = record {
-    most = join-x (g .low) (omega (arith, c .more)) (h .most) (p .most) e;
-    lowers-are = upper-adds lowersOnly upperLinks upperValues links values k .more-x y z g c (in-4096 g c i) (h .lowers-are) (p .lowers-are);
-    leaves-are = upper-adds leavesOnly upperLinks upperValues links values k .more-x y z g c (in-4096 g c i) (h .leaves-are) (p .leaves-are);
+  -- the next cell, as its own contract says
+  pub turn : {r v : Float} {u w : List ℕ} {at next : ℕ} → Gathered a counting end m t lo r u at → Cut side at end next → end ≤ lo / S * S + S
+      → Joined r f (P (part at next)) v × (counting ≡ true → More u w 0 (U (part at next)) (L (part at next)) (W (part at next)))
+      → Gathered a counting end m t lo v w next
+  turn {at = at} {next = next} g k i n = record {
+    going = going (g .going) k;
+    joined = joined-more (a .join lo at next (g .going .low) (omega (arith, k .more))) (g .joined) (n .0);
+    more = λ c. equal refl (a .uppers .more (g .going) k i) (a .lowers .more (g .going) k i) (a .leaves .more (g .going) k i) (and (g .more c) (n .1 c));
   }
 
-  pub upper-till-x : {y z : Span} {lo end at l n : ℕ} {m : Float} → Going 128 lo end at → end ≤ at
-      → UpperHolds upperLinks upperValues links values leaf k (record { lo = lo; hi = at }) y z m l n
-      → UpperHolds upperLinks upperValues links values leaf k (record { lo = lo; hi = end }) y z m l n
-  upper-till-x {y} {z} {lo} {end} {at} {l} {n} {m} g i =
-      subst (λ (e : ℕ). UpperHolds upperLinks upperValues links values leaf k (record { lo = lo; hi = e }) y z m l n) (done g i)
-
-  pub upper-none-y : (x z : Span) (a : ℕ) → UpperHolds upperLinks upperValues links values leaf k x (record { lo = a; hi = a }) z (ofBits binary32 0) 0 0
-  upper-none-y x z a = record {
-    most = none (λ p q r s. omega arith);
-    lowers-are = upper-adds lowersOnly upperLinks upperValues links values k .none-y x z a;
-    leaves-are = upper-adds leavesOnly upperLinks upperValues links values k .none-y x z a;
-  }
-
-  pub upper-more-y : {x z : Span} {lo end at next l n d w : ℕ} {m v r : Float} → Going 128 lo end at → Cut 128 at end next
-      → end ≤ lo / 4096 * 4096 + 4096 → UpperHolds upperLinks upperValues links values leaf k x (record { lo = lo; hi = at }) z m l n
-      → UpperHolds upperLinks upperValues links values leaf k x (record { lo = at; hi = next }) z v d w → r ≡ greater m v
-      → UpperHolds upperLinks upperValues links values leaf k x (record { lo = lo; hi = next }) z r (l + d) (n + w)
-  upper-more-y {x} {z} g c i h p e = record {
-    most = join-y (g .low) (omega (arith, c .more)) (h .most) (p .most) e;
-    lowers-are = upper-adds lowersOnly upperLinks upperValues links values k .more-y x z g c (in-4096 g c i) (h .lowers-are) (p .lowers-are);
-    leaves-are = upper-adds leavesOnly upperLinks upperValues links values k .more-y x z g c (in-4096 g c i) (h .leaves-are) (p .leaves-are);
-  }
-
-  pub upper-till-y : {x z : Span} {lo end at l n : ℕ} {m : Float} → Going 128 lo end at → end ≤ at
-      → UpperHolds upperLinks upperValues links values leaf k x (record { lo = lo; hi = at }) z m l n
-      → UpperHolds upperLinks upperValues links values leaf k x (record { lo = lo; hi = end }) z m l n
-  upper-till-y {x} {z} {lo} {end} {at} {l} {n} {m} g i =
-      subst (λ (e : ℕ). UpperHolds upperLinks upperValues links values leaf k x (record { lo = lo; hi = e }) z m l n) (done g i)
-
-  pub upper-none-z : (x y : Span) (a : ℕ) → UpperHolds upperLinks upperValues links values leaf k x y (record { lo = a; hi = a }) (ofBits binary32 0) 0 0
-  upper-none-z x y a = record {
-    most = none (λ p q r s. omega arith);
-    lowers-are = upper-adds lowersOnly upperLinks upperValues links values k .none-z x y a;
-    leaves-are = upper-adds leavesOnly upperLinks upperValues links values k .none-z x y a;
-  }
-
-  pub upper-more-z : {x y : Span} {lo end at next l n d w : ℕ} {m v r : Float} → Going 128 lo end at → Cut 128 at end next
-      → end ≤ lo / 4096 * 4096 + 4096 → UpperHolds upperLinks upperValues links values leaf k x y (record { lo = lo; hi = at }) m l n
-      → UpperHolds upperLinks upperValues links values leaf k x y (record { lo = at; hi = next }) v d w → r ≡ greater m v
-      → UpperHolds upperLinks upperValues links values leaf k x y (record { lo = lo; hi = next }) r (l + d) (n + w)
-  upper-more-z {x} {y} g c i h p e = record {
-    most = join-z (g .low) (omega (arith, c .more)) (h .most) (p .most) e;
-    lowers-are = upper-adds lowersOnly upperLinks upperValues links values k .more-z x y g c (in-4096 g c i) (h .lowers-are) (p .lowers-are);
-    leaves-are = upper-adds leavesOnly upperLinks upperValues links values k .more-z x y g c (in-4096 g c i) (h .leaves-are) (p .leaves-are);
-  }
-
-  pub upper-till-z : {x y : Span} {lo end at l n : ℕ} {m : Float} → Going 128 lo end at → end ≤ at
-      → UpperHolds upperLinks upperValues links values leaf k x y (record { lo = lo; hi = at }) m l n
-      → UpperHolds upperLinks upperValues links values leaf k x y (record { lo = lo; hi = end }) m l n
-  upper-till-z {x} {y} {lo} {end} {at} {l} {n} {m} g i =
-      subst (λ (e : ℕ). UpperHolds upperLinks upperValues links values leaf k x y (record { lo = lo; hi = e }) m l n) (done g i)
+  -- at the end, as the loop's own contract says
+  pub till : {r : Float} {u : List ℕ} {at : ℕ} → Gathered a counting end m t lo r u at → end ≤ at
+      → Joined m f (P (part lo end)) r × (counting ≡ true → More t u 0 (U (part lo end)) (L (part lo end)) (W (part lo end)))
+  till {r} {u} g i =
+      subst (λ (e : ℕ). Joined m f (P (part lo e)) r × (counting ≡ true → More t u 0 (U (part lo e)) (L (part lo e)) (W (part lo e))))
+      (omega (arith, g .going .high)) (g .joined, g .more)

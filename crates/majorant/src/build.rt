@@ -67,6 +67,7 @@ fn first_maximum(
         (now («leaf_values» .entry)) in
         ⌜ r ≡ boxMaximum (readIn g) (firstBox x y z) ⌝ }
 {
+    let mut uncounted: [u64; 5] = [0; 5];
     range_max(
         background,
         blocks,
@@ -83,6 +84,8 @@ fn first_maximum(
         x.first_hi,
         y.first_hi,
         z.first_hi,
+        false,
+        &mut uncounted,
     )
 }
 
@@ -110,6 +113,7 @@ fn second_maximum(
         (now («leaf_values» .entry)) in
         ⌜ r ≡ boxMaximum (readIn g) (secondBox x y z) ⌝ }
 {
+    let mut uncounted: [u64; 5] = [0; 5];
     range_max(
         background,
         blocks,
@@ -126,6 +130,8 @@ fn second_maximum(
         x.second_hi,
         y.second_hi,
         z.second_hi,
+        false,
+        &mut uncounted,
     )
 }
 

@@ -16,9 +16,7 @@ mod build;
 mod class_walk;
 mod classes;
 mod maxima;
-mod node_count;
 mod node_max;
-mod range_count;
 mod range_max;
 
 use build::build_fault;
@@ -29,7 +27,6 @@ use lent::zero_f32;
 use maxima::maxima_each;
 use maxima::maxima_fault;
 use medium::Medium;
-use range_count::range_max_counted;
 use range_max::range_max;
 use sparse_grid::Answer;
 use sparse_grid::validate;
@@ -88,6 +85,7 @@ pub fn box_maximum(
     if fault != 0 {
         return Answer::Refused(fault);
     }
+    let mut uncounted: [u64; 5] = [0; 5];
     let maximum = range_max(
         background,
         blocks,
@@ -104,6 +102,8 @@ pub fn box_maximum(
         hx,
         hy,
         hz,
+        false,
+        &mut uncounted,
     );
     Answer::Value(maximum)
 }
@@ -146,7 +146,8 @@ pub fn box_maximum_counted(
     if invalid != 0 {
         return CountedAnswer::Refused(invalid);
     }
-    let found = range_max_counted(
+    let mut counts: [u64; 5] = [0; 5];
+    let maximum = range_max(
         background,
         blocks,
         root_links,
@@ -162,8 +163,17 @@ pub fn box_maximum_counted(
         hx,
         hy,
         hz,
+        true,
+        &mut counts,
     );
-    CountedAnswer::Value(found)
+    CountedAnswer::Value(Counted {
+        maximum: maximum,
+        roots: counts[0],
+        upper: counts[1],
+        lower: counts[2],
+        high: counts[3],
+        low: counts[4],
+    })
 }
 
 // A maximum for each box of a list, six numbers a box, minima first, and the greatest of them. The grid is validated once. After a refusal its number,

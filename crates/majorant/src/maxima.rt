@@ -76,6 +76,7 @@ fn maximum_at(
         ⌜ r ≡ boxMaximum (readIn g) (boxAt (now (boxes .entry)) i) ⌝ }
 {
     let at = 6 * i;
+    let mut uncounted: [u64; 5] = [0; 5];
     range_max(
         background,
         blocks,
@@ -92,6 +93,8 @@ fn maximum_at(
         boxes[at + 3],
         boxes[at + 4],
         boxes[at + 5],
+        false,
+        &mut uncounted,
     )
 }
 

@@ -1,13 +1,28 @@
-// The greatest of +0.0 and what a part of a box reads below a node. Each place of the part is met once: a part is cut along the cells of the node.
+// The walk of a box below a root: what a part of it reads below a node is joined to a maximum, and counted where the caller wants that.
+// Each place of the part is met once: a part is cut along the cells of the node.
 ghost use mathlib.Core.Path.{_≡_};
-ghost use Prim.Native.Nat.{_+_, _*_, _/_, _<_, _≤_};
+ghost use mathlib.Core.Bool.{true, false};
+ghost use Prim.Native.Nat.{ℕ, _+_, _-_, _*_, _/_, _<_, _≤_};
 ghost use lib.ListN.{length};
+ghost use lib.Ieee.{lt};
+ghost use Rattle.float.specs.Zero.{+0};
 ghost use Rattle.boxes.specs.Boxes.{greater as greaterS};
-ghost use Rattle.boxes.specs.Most.{Most, Inside};
-ghost use Rattle.boxes.specs.RangeMax.{Within, Full, Cut, InCell, entryRead, leafRead, lowerRead, upperRead, LowerIn, UpperIn, Linked, childIn};
+ghost use Rattle.boxes.specs.Most.{Most, Joined, Inside};
+ghost use Rattle.boxes.specs.RangeMax.{Within, Full, Cut, InCell, leafRead, lowerRead, upperRead, LowerIn, UpperIn};
+ghost use Rattle.walk.specs.Walk.{Price, uppersOnly, lowersOnly, leavesOnly};
+ghost use Rattle.walk.specs.Counts.{AllIn, More, lowerCount, upperCount};
 use boxes::Span;
 use sparse_grid::Entry;
 use sparse_grid::entry_of;
+
+// The places of the counts: upper entries and lower entries; leaf values have two words.
+const UPPER: usize = 1;
+
+const LOWER: usize = 2;
+
+const HIGH: usize = 3;
+
+const LOW: usize = 4;
 
 // b where a is less, and a otherwise.
 pub(crate) fn greater(a: f32, b: f32) -> f32
@@ -79,6 +94,35 @@ pub(crate) fn leaf_max(leaf_values: &[f32], k: usize, x: Span, y: Span, z: Span)
     maximum
 }
 
+// ---- counts. Sums that nobody wants are not made, and what is read is counted by the walk that reads it.
+
+// One entry more: an upper one where the place is UPPER, a lower one where it is LOWER.
+fn tally(counting: bool, counts: &mut [u64; 5], place: usize)
+    requires { ⌜ (0 < place) × (place < 3) ⌝ }
+    ensures { λ r. ⌜ (counting ≡ true → More (now (counts .entry)) (now (counts .exit)) 0 (2 - place) (place - 1) 0) ⌝ }
+{
+    if counting {
+        counts[place] = std::num::wrapping_add_u64(counts[place], 1);
+    }
+}
+
+// The values of a part of a leaf more.
+fn tally_values(counting: bool, counts: &mut [u64; 5], x: Span, y: Span, z: Span)
+    requires { ⌜ Full x y z × AllIn 8 x y z ⌝ }
+    ensures { λ r.
+        let size = (x .hi - x .lo) * (y .hi - y .lo) * (z .hi - z .lo) in
+        ⌜ (counting ≡ true → More (now (counts .entry)) (now (counts .exit)) 0 0 0 size) ⌝ }
+{
+    if counting {
+        let size = ((x.hi - x.lo) * (y.hi - y.lo) * (z.hi - z.lo)) as u64;
+        let low = std::num::wrapping_add_u64(counts[LOW], size);
+        if low < size {
+            counts[HIGH] = std::num::wrapping_add_u64(counts[HIGH], 1);
+        }
+        counts[LOW] = low;
+    }
+}
+
 // ---- lower node k: 16 cells of 8 coordinates a side
 
 fn lower_cell(
@@ -89,14 +133,25 @@ fn lower_cell(
     x: Span,
     y: Span,
     z: Span,
+    maximum: f32,
+    counting: bool,
+    counts: &mut [u64; 5],
 ) -> f32
-    requires { ⌜ LowerIn (now «lower_links») (now «lower_values») (now «leaf_values») k × Full x y z × InCell 8 x × InCell 8 y × InCell 8 z ⌝ }
-    ensures { λ r. ⌜ Most (lowerRead (now («lower_links» .entry)) (now («lower_values» .entry)) (now («leaf_values» .entry)) k) (Within x y z) r ⌝ }
+    requires { ⌜ LowerIn (now «lower_links») (now «lower_values») (now «leaf_values») k × Full x y z
+        × AllIn 8 x y z × (lt maximum +0 ≡ false) ⌝ }
+    ensures { λ r.
+        let count : Price → ℕ = λ p. lowerCount p (now («lower_links» .entry)) (now («lower_values» .entry)) k x y z in
+        ⌜ Joined maximum (lowerRead (now («lower_links» .entry)) (now («lower_values» .entry)) (now («leaf_values» .entry)) k) (Within x y z) r
+        × (counting ≡ true → More (now (counts .entry)) (now (counts .exit)) 0 0 (count lowersOnly) (count leavesOnly)) ⌝ }
 {
+    tally(counting, counts, LOWER);
     let i = 4096 * k + table_index(x.lo % 128 / 8, y.lo % 128 / 8, z.lo % 128 / 8, 16);
     match entry_of(lower_links[i], lower_values[i]) {
-        Entry::Child(j) => leaf_max(leaf_values, j as usize, x, y, z),
-        Entry::Tile(v) => greater(0.0f32, v),
+        Entry::Child(j) => {
+            tally_values(counting, counts, x, y, z);
+            greater(maximum, leaf_max(leaf_values, j as usize, x, y, z))
+        }
+        Entry::Tile(v) => greater(maximum, v),
     }
 }
 
@@ -108,23 +163,38 @@ fn lower_row(
     x: Span,
     y: Span,
     z: Span,
+    maximum: f32,
+    counting: bool,
+    counts: &mut [u64; 5],
 ) -> f32
-    requires { ⌜ LowerIn (now «lower_links») (now «lower_values») (now «leaf_values») k × Full x y z × InCell 8 x × InCell 8 y ⌝ }
-    ensures { λ r. ⌜ Most (lowerRead (now («lower_links» .entry)) (now («lower_values» .entry)) (now («leaf_values» .entry)) k) (Within x y z) r ⌝ }
+    requires { ⌜ LowerIn (now «lower_links») (now «lower_values») (now «leaf_values») k × Full x y z
+        × InCell 8 x × InCell 8 y × InCell 128 z × (lt maximum +0 ≡ false) ⌝ }
+    ensures { λ r.
+        let count : Price → ℕ = λ p. lowerCount p (now («lower_links» .entry)) (now («lower_values» .entry)) k x y z in
+        ⌜ Joined maximum (lowerRead (now («lower_links» .entry)) (now («lower_values» .entry)) (now («leaf_values» .entry)) k) (Within x y z) r
+        × (counting ≡ true → More (now (counts .entry)) (now (counts .exit)) 0 0 (count lowersOnly) (count leavesOnly)) ⌝ }
 {
     let end = z.hi;
-    let mut maximum = 0.0f32;
+    let mut held = maximum;
     let mut at = z.lo;
     while at < end {
         let next = cell_end(at, end, 8);
         let cell = Span { lo: at, hi: next };
-        maximum = greater(
-            maximum,
-            lower_cell(lower_links, lower_values, leaf_values, k, x, y, cell),
+        held = lower_cell(
+            lower_links,
+            lower_values,
+            leaf_values,
+            k,
+            x,
+            y,
+            cell,
+            held,
+            counting,
+            counts,
         );
         at = next;
     }
-    maximum
+    held
 }
 
 fn lower_plane(
@@ -135,23 +205,38 @@ fn lower_plane(
     x: Span,
     y: Span,
     z: Span,
+    maximum: f32,
+    counting: bool,
+    counts: &mut [u64; 5],
 ) -> f32
-    requires { ⌜ LowerIn (now «lower_links») (now «lower_values») (now «leaf_values») k × Full x y z × InCell 8 x ⌝ }
-    ensures { λ r. ⌜ Most (lowerRead (now («lower_links» .entry)) (now («lower_values» .entry)) (now («leaf_values» .entry)) k) (Within x y z) r ⌝ }
+    requires { ⌜ LowerIn (now «lower_links») (now «lower_values») (now «leaf_values») k × Full x y z
+        × InCell 8 x × InCell 128 y × InCell 128 z × (lt maximum +0 ≡ false) ⌝ }
+    ensures { λ r.
+        let count : Price → ℕ = λ p. lowerCount p (now («lower_links» .entry)) (now («lower_values» .entry)) k x y z in
+        ⌜ Joined maximum (lowerRead (now («lower_links» .entry)) (now («lower_values» .entry)) (now («leaf_values» .entry)) k) (Within x y z) r
+        × (counting ≡ true → More (now (counts .entry)) (now (counts .exit)) 0 0 (count lowersOnly) (count leavesOnly)) ⌝ }
 {
     let end = y.hi;
-    let mut maximum = 0.0f32;
+    let mut held = maximum;
     let mut at = y.lo;
     while at < end {
         let next = cell_end(at, end, 8);
         let cell = Span { lo: at, hi: next };
-        maximum = greater(
-            maximum,
-            lower_row(lower_links, lower_values, leaf_values, k, x, cell, z),
+        held = lower_row(
+            lower_links,
+            lower_values,
+            leaf_values,
+            k,
+            x,
+            cell,
+            z,
+            held,
+            counting,
+            counts,
         );
         at = next;
     }
-    maximum
+    held
 }
 
 fn lower_max(
@@ -162,23 +247,38 @@ fn lower_max(
     x: Span,
     y: Span,
     z: Span,
+    maximum: f32,
+    counting: bool,
+    counts: &mut [u64; 5],
 ) -> f32
-    requires { ⌜ LowerIn (now «lower_links») (now «lower_values») (now «leaf_values») k × Full x y z ⌝ }
-    ensures { λ r. ⌜ Most (lowerRead (now («lower_links» .entry)) (now («lower_values» .entry)) (now («leaf_values» .entry)) k) (Within x y z) r ⌝ }
+    requires { ⌜ LowerIn (now «lower_links») (now «lower_values») (now «leaf_values») k × Full x y z
+        × AllIn 128 x y z × (lt maximum +0 ≡ false) ⌝ }
+    ensures { λ r.
+        let count : Price → ℕ = λ p. lowerCount p (now («lower_links» .entry)) (now («lower_values» .entry)) k x y z in
+        ⌜ Joined maximum (lowerRead (now («lower_links» .entry)) (now («lower_values» .entry)) (now («leaf_values» .entry)) k) (Within x y z) r
+        × (counting ≡ true → More (now (counts .entry)) (now (counts .exit)) 0 0 (count lowersOnly) (count leavesOnly)) ⌝ }
 {
     let end = x.hi;
-    let mut maximum = 0.0f32;
+    let mut held = maximum;
     let mut at = x.lo;
     while at < end {
         let next = cell_end(at, end, 8);
         let cell = Span { lo: at, hi: next };
-        maximum = greater(
-            maximum,
-            lower_plane(lower_links, lower_values, leaf_values, k, cell, y, z),
+        held = lower_plane(
+            lower_links,
+            lower_values,
+            leaf_values,
+            k,
+            cell,
+            y,
+            z,
+            held,
+            counting,
+            counts,
         );
         at = next;
     }
-    maximum
+    held
 }
 
 // ---- upper node k: 32 cells of 128 coordinates a side
@@ -193,18 +293,36 @@ fn upper_cell(
     x: Span,
     y: Span,
     z: Span,
+    maximum: f32,
+    counting: bool,
+    counts: &mut [u64; 5],
 ) -> f32
     requires { ⌜ UpperIn (now «upper_links») (now «upper_values») (now «lower_links») (now «lower_values») (now «leaf_values») k
-        × Full x y z × InCell 128 x × InCell 128 y × InCell 128 z ⌝ }
+        × Full x y z × AllIn 128 x y z × (lt maximum +0 ≡ false) ⌝ }
     ensures { λ r.
         let read = upperRead (now («upper_links» .entry)) (now («upper_values» .entry)) (now («lower_links» .entry))
         (now («lower_values» .entry)) (now («leaf_values» .entry)) k in
-        ⌜ Most read (Within x y z) r ⌝ }
+        let count : Price → ℕ = λ p. upperCount p (now («upper_links» .entry)) (now («upper_values» .entry)) (now («lower_links» .entry))
+        (now («lower_values» .entry)) k x y z in
+        ⌜ Joined maximum read (Within x y z) r
+        × (counting ≡ true → More (now (counts .entry)) (now (counts .exit)) 0 (count uppersOnly) (count lowersOnly) (count leavesOnly)) ⌝ }
 {
+    tally(counting, counts, UPPER);
     let i = 32768 * k + table_index(x.lo % 4096 / 128, y.lo % 4096 / 128, z.lo % 4096 / 128, 32);
     match entry_of(upper_links[i], upper_values[i]) {
-        Entry::Child(j) => lower_max(lower_links, lower_values, leaf_values, j as usize, x, y, z),
-        Entry::Tile(v) => greater(0.0f32, v),
+        Entry::Child(j) => lower_max(
+            lower_links,
+            lower_values,
+            leaf_values,
+            j as usize,
+            x,
+            y,
+            z,
+            maximum,
+            counting,
+            counts,
+        ),
+        Entry::Tile(v) => greater(maximum, v),
     }
 }
 
@@ -218,37 +336,43 @@ fn upper_row(
     x: Span,
     y: Span,
     z: Span,
+    maximum: f32,
+    counting: bool,
+    counts: &mut [u64; 5],
 ) -> f32
     requires { ⌜ UpperIn (now «upper_links») (now «upper_values») (now «lower_links») (now «lower_values») (now «leaf_values») k
-        × Full x y z × InCell 128 x × InCell 128 y ⌝ }
+        × Full x y z × InCell 128 x × InCell 128 y × InCell 4096 z × (lt maximum +0 ≡ false) ⌝ }
     ensures { λ r.
         let read = upperRead (now («upper_links» .entry)) (now («upper_values» .entry)) (now («lower_links» .entry))
         (now («lower_values» .entry)) (now («leaf_values» .entry)) k in
-        ⌜ Most read (Within x y z) r ⌝ }
+        let count : Price → ℕ = λ p. upperCount p (now («upper_links» .entry)) (now («upper_values» .entry)) (now («lower_links» .entry))
+        (now («lower_values» .entry)) k x y z in
+        ⌜ Joined maximum read (Within x y z) r
+        × (counting ≡ true → More (now (counts .entry)) (now (counts .exit)) 0 (count uppersOnly) (count lowersOnly) (count leavesOnly)) ⌝ }
 {
     let end = z.hi;
-    let mut maximum = 0.0f32;
+    let mut held = maximum;
     let mut at = z.lo;
     while at < end {
         let next = cell_end(at, end, 128);
         let cell = Span { lo: at, hi: next };
-        maximum = greater(
-            maximum,
-            upper_cell(
-                upper_links,
-                upper_values,
-                lower_links,
-                lower_values,
-                leaf_values,
-                k,
-                x,
-                y,
-                cell,
-            ),
+        held = upper_cell(
+            upper_links,
+            upper_values,
+            lower_links,
+            lower_values,
+            leaf_values,
+            k,
+            x,
+            y,
+            cell,
+            held,
+            counting,
+            counts,
         );
         at = next;
     }
-    maximum
+    held
 }
 
 fn upper_plane(
@@ -261,39 +385,46 @@ fn upper_plane(
     x: Span,
     y: Span,
     z: Span,
+    maximum: f32,
+    counting: bool,
+    counts: &mut [u64; 5],
 ) -> f32
-    requires { ⌜ UpperIn (now «upper_links») (now «upper_values») (now «lower_links») (now «lower_values») (now «leaf_values») k × Full x y z × InCell 128 x ⌝ }
+    requires { ⌜ UpperIn (now «upper_links») (now «upper_values») (now «lower_links») (now «lower_values») (now «leaf_values») k
+        × Full x y z × InCell 128 x × InCell 4096 y × InCell 4096 z × (lt maximum +0 ≡ false) ⌝ }
     ensures { λ r.
         let read = upperRead (now («upper_links» .entry)) (now («upper_values» .entry)) (now («lower_links» .entry))
         (now («lower_values» .entry)) (now («leaf_values» .entry)) k in
-        ⌜ Most read (Within x y z) r ⌝ }
+        let count : Price → ℕ = λ p. upperCount p (now («upper_links» .entry)) (now («upper_values» .entry)) (now («lower_links» .entry))
+        (now («lower_values» .entry)) k x y z in
+        ⌜ Joined maximum read (Within x y z) r
+        × (counting ≡ true → More (now (counts .entry)) (now (counts .exit)) 0 (count uppersOnly) (count lowersOnly) (count leavesOnly)) ⌝ }
 {
     let end = y.hi;
-    let mut maximum = 0.0f32;
+    let mut held = maximum;
     let mut at = y.lo;
     while at < end {
         let next = cell_end(at, end, 128);
         let cell = Span { lo: at, hi: next };
-        maximum = greater(
-            maximum,
-            upper_row(
-                upper_links,
-                upper_values,
-                lower_links,
-                lower_values,
-                leaf_values,
-                k,
-                x,
-                cell,
-                z,
-            ),
+        held = upper_row(
+            upper_links,
+            upper_values,
+            lower_links,
+            lower_values,
+            leaf_values,
+            k,
+            x,
+            cell,
+            z,
+            held,
+            counting,
+            counts,
         );
         at = next;
     }
-    maximum
+    held
 }
 
-fn upper_max(
+pub(crate) fn upper_max(
     upper_links: &[u32],
     upper_values: &[f32],
     lower_links: &[u32],
@@ -303,71 +434,41 @@ fn upper_max(
     x: Span,
     y: Span,
     z: Span,
+    maximum: f32,
+    counting: bool,
+    counts: &mut [u64; 5],
 ) -> f32
-    requires { ⌜ UpperIn (now «upper_links») (now «upper_values») (now «lower_links») (now «lower_values») (now «leaf_values») k × Full x y z ⌝ }
+    requires { ⌜ UpperIn (now «upper_links») (now «upper_values») (now «lower_links») (now «lower_values») (now «leaf_values») k
+        × Full x y z × AllIn 4096 x y z × (lt maximum +0 ≡ false) ⌝ }
     ensures { λ r.
         let read = upperRead (now («upper_links» .entry)) (now («upper_values» .entry)) (now («lower_links» .entry))
         (now («lower_values» .entry)) (now («leaf_values» .entry)) k in
-        ⌜ Most read (Within x y z) r ⌝ }
+        let count : Price → ℕ = λ p. upperCount p (now («upper_links» .entry)) (now («upper_values» .entry)) (now («lower_links» .entry))
+        (now («lower_values» .entry)) k x y z in
+        ⌜ Joined maximum read (Within x y z) r
+        × (counting ≡ true → More (now (counts .entry)) (now (counts .exit)) 0 (count uppersOnly) (count lowersOnly) (count leavesOnly)) ⌝ }
 {
     let end = x.hi;
-    let mut maximum = 0.0f32;
+    let mut held = maximum;
     let mut at = x.lo;
     while at < end {
         let next = cell_end(at, end, 128);
         let cell = Span { lo: at, hi: next };
-        maximum = greater(
-            maximum,
-            upper_plane(
-                upper_links,
-                upper_values,
-                lower_links,
-                lower_values,
-                leaf_values,
-                k,
-                cell,
-                y,
-                z,
-            ),
-        );
-        at = next;
-    }
-    maximum
-}
-
-// ---- a root's entry
-
-pub(crate) fn root_max(
-    entry: Entry,
-    upper_links: &[u32],
-    upper_values: &[f32],
-    lower_links: &[u32],
-    lower_values: &[f32],
-    leaf_values: &[f32],
-    x: Span,
-    y: Span,
-    z: Span,
-) -> f32
-    requires { ⌜ childIn entry (length (now «upper_links»))
-        × Linked (now «upper_links») (now «upper_values») (now «lower_links») (now «lower_values») (now «leaf_values»)
-        × Full x y z ⌝ }
-    ensures { λ r.
-        let read = upperRead (now («upper_links» .entry)) (now («upper_values» .entry)) (now («lower_links» .entry))
-        (now («lower_values» .entry)) (now («leaf_values» .entry)) in
-        ⌜ Most (λ a b c. entryRead entry (λ j. read j a b c)) (Within x y z) r ⌝ }
-{
-    match entry {
-        Entry::Child(j) => upper_max(
+        held = upper_plane(
             upper_links,
             upper_values,
             lower_links,
             lower_values,
             leaf_values,
-            j as usize,
-            x,
+            k,
+            cell,
             y,
             z,
-        ),
-        Entry::Tile(v) => greater(0.0f32, v),
+            held,
+            counting,
+            counts,
+        );
+        at = next;
     }
+    held
 }

@@ -1,9 +1,10 @@
-// The greatest of +0.0 and the voxels of a box, over the lent tables of a grid that passed validate.
+// The greatest of +0.0 and the voxels of a box, over the lent tables of a grid that passed validate, and what is read for it where the caller counts.
 // Coordinates here are biased: a coordinate plus 2^31, so that blocks and slots are plain quotients and remainders.
 ghost use mathlib.Core.Path.{_≡_};
+ghost use mathlib.Core.Bool.{true};
 ghost use Prim.Native.Nat.{ℕ, _+_, _*_, _<_, _≤_};
 ghost use lib.ListN.{length};
-ghost use Rattle.sparse_grid.specs.Tables.{gridOf};
+ghost use Rattle.sparse_grid.specs.Tables.{gridOf, blockAt};
 ghost use Rattle.sparse_grid.specs.Validate.{validate};
 ghost use Rattle.sparse_grid.specs.Lookup.{readIn};
 ghost use Rattle.sparse_grid.specs.Biased.{raised};
@@ -11,9 +12,13 @@ ghost use Rattle.sparse_grid.specs.Sound.{Sound};
 ghost use Rattle.boxes.specs.Boxes.{boxMaximum, between};
 ghost use Rattle.boxes.specs.Most.{Most};
 ghost use Rattle.boxes.specs.RangeMax.{Within, Full, Ends, Clip, apart, empty, readAt, wide as wideS, CoveredIn};
+ghost use Rattle.walk.specs.Walk.{Price, steps, rootSteps, rootsOnly, uppersOnly, lowersOnly, leavesOnly};
+ghost use Rattle.walk.specs.Walk.{rootsRead, uppersRead, lowersRead, leavesRead};
+ghost use Rattle.walk.specs.Counts.{More, zoneIn};
 use crate::node_max::greater;
-use crate::node_max::root_max;
+use crate::node_max::upper_max;
 use boxes::Span;
+use sparse_grid::Entry;
 use sparse_grid::biased;
 use sparse_grid::entry_of;
 use sparse_grid::lifted;
@@ -96,6 +101,8 @@ fn cover(
     x: Span,
     y: Span,
     z: Span,
+    counting: bool,
+    counts: &mut [u64; 5],
 ) -> Covered
     requires { let g = gridOf background (now blocks) (now «root_links») (now «root_values») (now «upper_links») (now «upper_values»)
         (now «lower_links») (now «lower_values») (now «leaf_values») in
@@ -104,7 +111,9 @@ fn cover(
         let g = gridOf background (now (blocks .entry)) (now («root_links» .entry)) (now («root_values» .entry))
         (now («upper_links» .entry)) (now («upper_values» .entry)) (now («lower_links» .entry)) (now («lower_values» .entry))
         (now («leaf_values» .entry)) in
-        ⌜ CoveredIn g (i + 1) x y z (r .maximum) (r .blocks) ⌝ }
+        let step : Price → ℕ = λ p. rootSteps p g (zoneIn x y z) i (blockAt g i) in
+        ⌜ CoveredIn g (i + 1) x y z (r .maximum) (r .blocks) × (r .blocks ≡ covered .blocks + step rootsOnly)
+        × (counting ≡ true → More (now (counts .entry)) (now (counts .exit)) 0 (step uppersOnly) (step lowersOnly) (step leavesOnly)) ⌝ }
 {
     let bx = blocks[3 * i];
     if is_apart(bx, x) {
@@ -118,22 +127,23 @@ fn cover(
     if is_apart(bz, z) {
         return covered;
     }
-    let cx = intersect_bounds(bx, x);
-    let cy = intersect_bounds(by, y);
-    let cz = intersect_bounds(bz, z);
-    let entry = entry_of(root_links[i], root_values[i]);
-    let held = root_max(
-        entry,
-        upper_links,
-        upper_values,
-        lower_links,
-        lower_values,
-        leaf_values,
-        cx,
-        cy,
-        cz,
-    );
-    let maximum = greater(covered.maximum, held);
+    let maximum = match entry_of(root_links[i], root_values[i]) {
+        Entry::Child(k) => upper_max(
+            upper_links,
+            upper_values,
+            lower_links,
+            lower_values,
+            leaf_values,
+            k as usize,
+            intersect_bounds(bx, x),
+            intersect_bounds(by, y),
+            intersect_bounds(bz, z),
+            covered.maximum,
+            counting,
+            counts,
+        ),
+        Entry::Tile(v) => greater(covered.maximum, v),
+    };
     let count = covered.blocks + 1;
     Covered {
         maximum: maximum,
@@ -147,6 +157,15 @@ pub(crate) fn blocks_along(span: Span) -> usize
     ensures { λ r. ⌜ (r ≡ wideS (span .lo) (span .hi)) × (r ≤ 1048576) ⌝ }
 {
     (span.hi - 1) / 4096 - span.lo / 4096 + 1
+}
+
+// So many roots more.
+fn tally_roots(counting: bool, counts: &mut [u64; 5], roots: usize)
+    ensures { λ r. ⌜ (counting ≡ true → More (now (counts .entry)) (now (counts .exit)) roots 0 0 0) ⌝ }
+{
+    if counting {
+        counts[0] = std::num::wrapping_add_u64(counts[0], roots as u64);
+    }
 }
 
 // The roots in order. Where they cover fewer blocks than the box has, some place of it lies in no root, and the background counts.
@@ -163,6 +182,8 @@ fn roots_max(
     x: Span,
     y: Span,
     z: Span,
+    counting: bool,
+    counts: &mut [u64; 5],
 ) -> f32
     requires { let g = gridOf background (now blocks) (now «root_links») (now «root_values») (now «upper_links») (now «upper_values»)
         (now «lower_links») (now «lower_values») (now «leaf_values») in
@@ -171,7 +192,10 @@ fn roots_max(
         let g = gridOf background (now (blocks .entry)) (now («root_links» .entry)) (now («root_values» .entry))
         (now («upper_links» .entry)) (now («upper_values» .entry)) (now («lower_links» .entry)) (now («lower_values» .entry))
         (now («leaf_values» .entry)) in
-        ⌜ Most (readAt g) (Within x y z) r ⌝ }
+        let count : Price → ℕ = λ p. steps p g (zoneIn x y z) in
+        ⌜ Most (readAt g) (Within x y z) r
+        × (counting ≡ true → More (now (counts .entry)) (now (counts .exit))
+        (count rootsOnly) (count uppersOnly) (count lowersOnly) (count leavesOnly)) ⌝ }
 {
     let mut covered = Covered {
         maximum: 0.0f32,
@@ -194,11 +218,14 @@ fn roots_max(
             x,
             y,
             z,
+            counting,
+            counts,
         );
         i += 1;
     }
     let maximum = covered.maximum;
     let count = covered.blocks;
+    tally_roots(counting, counts, count);
     let total = blocks_along(x) * (blocks_along(y) * blocks_along(z));
     if count < total {
         return greater(maximum, background);
@@ -223,6 +250,8 @@ pub(crate) fn range_max(
     hx: i32,
     hy: i32,
     hz: i32,
+    counting: bool,
+    counts: &mut [u64; 5],
 ) -> f32
     requires { let g = gridOf background (now blocks) (now «root_links») (now «root_values») (now «upper_links») (now «upper_values»)
         (now «lower_links») (now «lower_values») (now «leaf_values») in
@@ -231,7 +260,9 @@ pub(crate) fn range_max(
         let g = gridOf background (now (blocks .entry)) (now («root_links» .entry)) (now («root_values» .entry))
         (now («upper_links» .entry)) (now («upper_values» .entry)) (now («lower_links» .entry)) (now («lower_values» .entry))
         (now («leaf_values» .entry)) in
-        ⌜ r ≡ boxMaximum (readIn g) (between lx ly lz hx hy hz) ⌝ }
+        let b = between lx ly lz hx hy hz in
+        ⌜ (r ≡ boxMaximum (readIn g) b)
+        × (counting ≡ true → More (now (counts .entry)) (now (counts .exit)) (rootsRead g b) (uppersRead g b) (lowersRead g b) (leavesRead g b)) ⌝ }
 {
     let x = span_of(lx, hx);
     let y = span_of(ly, hy);
@@ -252,5 +283,7 @@ pub(crate) fn range_max(
         x,
         y,
         z,
+        counting,
+        counts,
     )
 }

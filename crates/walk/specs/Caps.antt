@@ -21,7 +21,6 @@ use Rattle.walk.specs.Walk.{
   zoneOf,
   meets,
   touches,
-  leafSteps,
   lowerSteps,
   upperSteps,
   rootSteps,
@@ -38,11 +37,9 @@ use Rattle.walk.specs.Walk.{
 use Rattle.walk.specs.Bound.{
   Axial,
   prod,
-  leaf-is,
   lower-le,
   upper-le,
   root-le,
-  values8,
   values128,
   values4096,
   lowers128,
@@ -50,7 +47,7 @@ use Rattle.walk.specs.Bound.{
   uppers4096,
   rootTop,
 }
-use Rattle.walk.specs.Axes.{Counts, counts-values8, counts-values128, counts-values4096, counts-lowers128, counts-lowers4096, counts-uppers4096}
+use Rattle.walk.specs.Axes.{Counts, counts-values128, counts-values4096, counts-lowers128, counts-lowers4096, counts-uppers4096}
 
 -- ---- one node, whatever the zone
 
@@ -62,9 +59,6 @@ prod-cap s r f h q a b c = mul-le-mul (mul-le-mul (axis-cap s r f h (q .x0) (q .
     (axis-cap s r f h (q .z0) (q .z1) c)
 
 module _ (p : Price) (g : Grid) (q : Zone) where
-  pub leaf-cap : (k a b c : ℕ) → leafSteps p q k a b c ≤ p .leaf * 512
-  leaf-cap k a b c = let e = leaf-is p g q k a b c in let m = mul-le-mul-left (p .leaf) (prod-cap 1 8 values8 counts-values8 q a b c) in omega arith
-
   pub lower-cap : (k a b c : ℕ) → lowerSteps p g q k a b c ≤ p .lower * 4096 + p .leaf * 2097152
   lower-cap k a b c =
       let e = lower-le p g q k a b c in
@@ -79,10 +73,10 @@ module _ (p : Price) (g : Grid) (q : Zone) where
       let n = mul-le-mul-left (p .leaf) (prod-cap 1 4096 values4096 counts-values4096 q a b c) in omega arith
 
   -- a root and all that is below it
-  abbrev pub rootCap : ℕ
+  abbrev rootCap : ℕ
   rootCap = p .root + p .upper * 32768 + p .lower * 134217728 + p .leaf * 68719476736
 
-  pub root-cap : (i : ℕ) (b : Coord) → rootSteps p g q i b ≤ rootCap
+  root-cap : (i : ℕ) (b : Coord) → rootSteps p g q i b ≤ rootCap
   root-cap i b =
       let h = root-le p g q i b in
       let x = raised (b .x) in let y = raised (b .y) in let z = raised (b .z) in
@@ -96,13 +90,13 @@ module _ (p : Price) (g : Grid) (q : Zone) where
       capped true u v h = h
       capped false u v h = omega arith
 
-  pub steps-cap : steps p g q ≤ length (g .rootLinks) * rootCap
+  steps-cap : steps p g q ≤ length (g .rootLinks) * rootCap
   unfolding steps
   steps-cap = sum-most (length (g .rootLinks)) rootCap _ (λ i l. root-cap i (blockAt g i))
 
 -- ---- a valid grid
 
-pub few-roots : (g : Grid) → validate g ≡ 0 → length (g .rootLinks) < 4294967296
+few-roots : (g : Grid) → validate g ≡ 0 → length (g .rootLinks) < 4294967296
 unfolding shapeFault
 few-roots g v =
     let r = ltb (length (g .rootLinks)) (2 ^ 32) in
@@ -125,14 +119,3 @@ held g b v =
       lowers = let h = steps-cap lowersOnly g (zoneOf b) in omega arith;
       leaves = let h = steps-cap leavesOnly g (zoneOf b) in omega arith;
     }
-
--- ---- two words
-
--- d more in the low word, which wraps: a carry where it got smaller
-pub carries : (lo d : ℕ) → lo < 18446744073709551616 → d < 18446744073709551616 → (lo + d) % 18446744073709551616 < lo
-    → lo + d ≡ 18446744073709551616 + (lo + d) % 18446744073709551616
-carries lo d h k l = omega arith
-
-pub stays : (lo d : ℕ) → lo < 18446744073709551616 → d < 18446744073709551616 → lo ≤ (lo + d) % 18446744073709551616
-    → lo + d ≡ (lo + d) % 18446744073709551616
-stays lo d h k l = omega arith

@@ -24,6 +24,8 @@ pub mod Local
 pub mod NodeWalk
 pub mod ByRoots
 pub mod TalliedLaws
+pub mod MoreLaws
+pub mod WordLaws
 pub mod CountLaws
 -- Worked examples.
 pub mod WalkExamples

@@ -27,17 +27,18 @@ unfolding publicMaximum
 returns c = ap (said +0) (stopped _ (c .before .validate .ensures) (c .if1 .taken))
 
 range-max-requires : tie.Need-range-max-requires
-range-max-requires c κs = sym (c .before .validate .ensures) ∙ c .if1 .left
+range-max-requires c κs = let e = c .before in sym (e .before .validate .ensures) ∙ e .if1 .left
 
 -- the corners are handed on as their bits, which stand for the same numbers
 returns-2 : tie.Need-returns-2
 unfolding publicMaximum
 returns-2 c =
-    let p = at-start (c .before .before) in
+    let e = c .before .before in
+    let p = at-start (e .before) in
     let f = p .fits in
     ap (said +0)
-    (passed (c .before .before .validate .ensures) (c .before .if1 .left)
-    (c .range-max .ensures
+    (passed (e .before .validate .ensures) (e .if1 .left)
+    (c .range-max .ensures .0
     ∙ (λ j. boxMaximum (readIn (grid p))
     (between (seen (f .lx) j) (seen (f .ly) j) (seen (f .lz) j) (seen (f .hx) j) (seen (f .hy) j) (seen (f .hz) j)))))
 

@@ -10,7 +10,7 @@ use Rattle.majorant.proofs.build.first_maximum.Statement.{statement}
 use Rattle.majorant.proofs.build.first_maximum.Tie as tie
 
 abbrev at-tables : tie.After-struct-told6 → tie.After-shared-slice-known7
-at-tables c = c .before .before .before .before .before .before
+at-tables c = c .before .before .before .before .before .before .before
 
 abbrev start : tie.After-struct-told6 → tie.Start
 start c = at-tables c .before .before .before .before .before .before .before
@@ -32,7 +32,7 @@ small c =
 returns : tie.Need-returns
 returns c =
     let b = start (c .before) in
-    c .range-max .ensures
+    c .range-max .ensures .0
     ∙ ap (boxMaximum (readIn (grid b))) (box-handed (firstBox (b .args .x) (b .args .y) (b .args .z)) (small (c .before)))
 
 pub first-maximum-spec : {M : Type 1} → statement M

@@ -1,7 +1,6 @@
 -- `majorant::maxima::maximum_at` meets its contract: what is handed on are the six numbers of the list. Assumes nothing.
 use Prim.Native.Nat.{ℕ, _+_, _*_, _<_}
 use mathlib.Core.Path.{_≡_, _∙_}
-use native.Mathlib.Omega.{arith}
 use lib.IntN.{ℤ, pos}
 use lib.ListN.{getD}
 use lib.Signed.{mag}
@@ -37,7 +36,7 @@ handed c k f = seen {z = number c k} (record { sfits = f })
 
 returns : tie.Need-returns
 returns c =
-    let six = c .before in
+    let six = c .before .before in
     let two = at-second six in
     let s = start (two .before) in
     let at = 6 * s .args .i in
@@ -47,7 +46,7 @@ returns c =
     let hx = handed s (at + 3) (six .before .before .range-max-arg4 .given) in
     let hy = handed s (at + 4) (six .before .range-max-arg5 .given) in
     let hz = handed s (at + 5) (six .range-max-arg6 .given) in
-    c .range-max .ensures ∙ (λ j. boxMaximum (readIn (grid s)) (between (lx j) (ly j) (lz j) (hx j) (hy j) (hz j)))
+    c .range-max .ensures .0 ∙ (λ j. boxMaximum (readIn (grid s)) (between (lx j) (ly j) (lz j) (hx j) (hy j) (hz j)))
 
 pub maximum-at-spec : {M : Type 1} → statement M
 maximum-at-spec =

@@ -1,40 +1,39 @@
--- `majorant::node_max::upper_max` meets its contract. The invariant: the greatest of the planes before `at`. Assumes nothing.
-use Prim.Native.Nat.{_-_, _≤_}
+-- `majorant::node_max::upper_max` meets its contract. The invariant: what the planes before `at` hold. Assumes nothing.
+use Prim.Native.Nat.{_-_}
 use native.Mathlib.Omega.{arith}
-use borrow.Author.Needs.{needs}
-use Rattle.boxes.specs.Most.{Most, Inside}
-use Rattle.boxes.specs.RangeMax.{upperRead}
 use Rattle.boxes.specs.NodeCells.{cut-x}
-use Rattle.boxes.specs.MostLaws.{none, join-x, till-x}
+use Rattle.boxes.specs.JoinedLaws.{joined-not-below}
+use Rattle.majorant.proofs.Turns.{upper, along-x, Gathered, first, turn, till}
 use Rattle.majorant.proofs.node_max.upper_max.Statement.{statement}
 use Rattle.majorant.proofs.node_max.upper_max.Tie as tie
 
 abbrev Inv-loop : tie.InvT-loop
-Inv-loop upper-links upper-values lower-links lower-values leaf-values k y z end maximum₀ at₀ maximum at =
-    let read = upperRead upper-links upper-values lower-links lower-values leaf-values k in
-    (at₀ ≤ at) × (at ≤ end) × Most read (Inside at₀ at (y .lo) (y .hi) (z .lo) (z .hi)) maximum
+Inv-loop upper-links upper-values lower-links lower-values leaf-values k y z maximum counting counts₀ end held₀ at₀ counts held at =
+    Gathered (along-x (upper upper-links upper-values lower-links lower-values leaf-values k) y z) counting end held₀ counts₀ at₀ held counts at
 
 abbrev μ-loop : tie.MeasureT-loop
-μ-loop upper-links upper-values lower-links lower-values leaf-values k y z end maximum₀ at₀ maximum at = end - at
+μ-loop upper-links upper-values lower-links lower-values leaf-values k y z maximum counting counts₀ end held₀ at₀ counts held at = end - at
+
+-- places: the loop, and the cell's end
+abbrev begin : tie.After-shared-slice-known5 Inv-loop μ-loop → tie.Start Inv-loop μ-loop
+begin c = c .before .before .before .before .before
 
 abbrev start : tie.In-loop Inv-loop μ-loop → tie.Start Inv-loop μ-loop
-start c = c .before .before .before .before .before .before .before
+start c = begin (c .before .before)
+
+abbrev at-cell : tie.After-upper-plane Inv-loop μ-loop → tie.After-cell-end Inv-loop μ-loop
+at-cell c = c .before .before
+
+abbrev at-loop : tie.After-upper-plane Inv-loop μ-loop → tie.In-loop Inv-loop μ-loop
+at-loop c = at-cell c .before
 
 upper-plane-requires : tie.Need-upper-plane-requires Inv-loop μ-loop
 upper-plane-requires c κs =
-    let p = start (c .before) .pre in
-    let k = c .cell-end .ensures in
-    (p .0, cut-x (p .1) k, k .cell)
-
-loop-again : tie.Need-loop-again Inv-loop μ-loop
-loop-again c =
-    let e = c .before .before in
-    let k = e .cell-end .ensures in
-    let w = e .before .before .loop in
-    (omega arith, k .within, join-x (w .inv .0) (omega arith) (w .inv .2) (c .before .upper-plane .ensures) (c .greater .ensures))
-
-returns : tie.Need-returns Inv-loop μ-loop
-returns c = till-x (c .before .loop .inv .1) (c .loop-test .left) (c .before .loop .inv .2)
+    let l = c .before .before in
+    let p = start l .pre in
+    let k = c .before .cell-end .ensures in
+    let w = l .before .loop .inv in
+    (p .0, cut-x (p .1) k, k .cell, p .2 .1, p .2 .2, joined-not-below (p .3) (w .joined))
 
 pub upper-max-spec : {M : Type 1} → statement M
 upper-max-spec =
@@ -42,10 +41,9 @@ upper-max-spec =
     (tie.spec
     Inv-loop
     μ-loop
-    (λ c. (omega arith, omega arith, none (λ a b d s. omega arith)))
+    (λ c. first (omega arith) (begin c .pre .3))
     (λ c κs. (omega arith, omega arith, omega arith, omega arith))
     upper-plane-requires
-    (λ c κs. search needs)
-    (λ c. let k = c .before .before .cell-end .ensures in omega arith)
-    loop-again
-    returns)
+    (λ c. let k = at-cell c .cell-end .ensures in omega arith)
+    (λ c. turn (at-loop c .before .loop .inv) (at-cell c .cell-end .ensures) (start (at-loop c) .pre .2 .0) (c .upper-plane .ensures))
+    (λ c. till (c .before .loop .inv) (c .loop-test .left)))

@@ -1,5 +1,5 @@
 -- `majorant::range_max::range_max` meets its contract: what is greatest by biased coordinates is the maximum of the box,
--- since only one number is. Assumes nothing.
+-- since only one number is, and what is read by them is what is read for the box. Assumes nothing.
 use mathlib.Core.Path.{sym, _∙_}
 use lib.Dec.{T}
 use lib.Ieee.{binary32, fits}
@@ -10,11 +10,14 @@ use Rattle.sparse_grid.specs.Tables.{Grid, gridOf}
 use Rattle.sparse_grid.specs.Lookup.{readIn}
 use Rattle.sparse_grid.specs.Sound.{sound}
 use Rattle.majorant.specs.FitLaws.{read-fits, fine}
-use Rattle.majorant.proofs.Corners.{Spans, filled, seen-ends, is-none, is-maximum}
+use Rattle.majorant.proofs.Corners.{Spans, filled, seen-ends, is-none, is-maximum, no-more, all-more}
 use Rattle.majorant.proofs.range_max.range_max.Statement.{statement}
 use Rattle.majorant.proofs.range_max.range_max.Tie as tie
 
 -- places
+abbrev at-span-3 : tie.After-roots-max → tie.After-span-of3
+at-span-3 c = c .before .before .before .before
+
 abbrev at-spans : tie.After-span-of3 → tie.After-shared-slice-known7
 at-spans c = c .before .before .before
 
@@ -57,17 +60,20 @@ reads-fit c k =
 returns : tie.Need-returns
 returns c =
     let s = c .before .before in
-    is-none (grid (start s)) (spans s) (sym (c .before .is-empty .ensures) ∙ c .if1 .taken) (reads-fit (at-spans s))
+    let h = sym (c .before .is-empty .ensures) ∙ c .if1 .taken in
+    (is-none (grid (start s)) (spans s) h (reads-fit (at-spans s)), λ o. no-more (spans s) (grid (start s)) h)
 
 roots-max-requires : tie.Need-roots-max-requires
 roots-max-requires c κs =
-    let s = c .before .before in
-    (sound (grid (start s)) (start s .pre), filled (spans s) (sym (c .before .is-empty .ensures) ∙ c .if1 .left))
+    let t = c .before in
+    let s = t .before .before in
+    (sound (grid (start s)) (start s .pre), filled (spans s) (sym (t .before .is-empty .ensures) ∙ t .if1 .left))
 
 returns-2 : tie.Need-returns-2
 returns-2 c =
-    let s = c .before .before .before in
-    is-maximum (grid (start s)) (spans s) (reads-fit (at-spans s)) (c .roots-max .ensures)
+    let s = at-span-3 c in
+    let h = c .roots-max .ensures in
+    (is-maximum (grid (start s)) (spans s) (reads-fit (at-spans s)) (h .0), λ o. all-more (spans s) (grid (start s)) (h .1 o))
 
 pub range-max-spec : {M : Type 1} → statement M
 range-max-spec =
