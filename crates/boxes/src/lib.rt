@@ -1,5 +1,6 @@
 // Boxes of voxels, the greatest of what is read in one, and the parts of a box in roots, nodes and cells: definitions and laws.
 // Coordinates in a span are biased: a coordinate plus 2^31, so that blocks and slots are plain quotients and remainders.
+#![tactic(auto)]
 
 // Biased coordinates from lo up to below hi.
 #[derive(Drop)]

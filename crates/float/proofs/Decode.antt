@@ -58,6 +58,8 @@ round_of_value f t m u d s a c C D e h = ap (λ (b : Bool). round f b (m * u) d)
 
 pub narrow_at : (x : Float) (s : Bool) (a c : ℕ) → 0 < c → HasValue x s a c → narrow x ≡ round binary32 s a c
 unfolding narrow
+narrow_at nan s a c C h = elim h [ ]
+narrow_at (inf _) s a c C h = elim h [ ]
 narrow_at (fin t m e) s a c C h = round_of_value binary32 t m (up e) (down e) s a c C (down_pos e) h.0 h.1
 
 -- one more factor of 2 ^ j over and under

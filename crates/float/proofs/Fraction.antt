@@ -1,6 +1,6 @@
 -- `fma` of three finite values, by the fractions that they equal, and of three finite patterns, by their fields.
 use Rattle.std.proofs.Common.{◌≡◌, ℕ, ◌+◌, ◌*◌, ◌^◌, ◌<◌, Bool, leb, ℤ, sym, ap, ◌∙◌, mul_assoc, mul_comm, mul-pos, mul_left_comm, pow_pos, pow-add}
-use lib.Ieee.{Float, fin, Format, binary32, up, down, unlike, sum, of_bits}
+use lib.Ieee.{Float, nan, inf, fin, Format, binary32, up, down, unlike, sum, of_bits}
 use lib.Ieee.Fits.{down_pos}
 use lib.Ieee.Exact.{HasValue}
 use Rattle.float.specs.Fused.{plus, fma}
@@ -35,6 +35,12 @@ fin_at f s' m e t' n d u' k g s t u A B C L LP es p et q eu r =
 fma_at : (f : Format) (x y z : Float) (s t u : Bool) (A B C L : ℕ) → 0 < L → HasValue x s A L → HasValue y t B L → HasValue z u C L
     → fma f x y z ≡ sum f (unlike s t) (A * B) u (C * L) (L * L)
 unfolding fma plus
+fma_at f nan y z s t u A B C L LP p q r = elim p [ ]
+fma_at f (inf _) y z s t u A B C L LP p q r = elim p [ ]
+fma_at f (fin s' m e) nan z s t u A B C L LP p q r = elim q [ ]
+fma_at f (fin s' m e) (inf _) z s t u A B C L LP p q r = elim q [ ]
+fma_at f (fin s' m e) (fin t' n d) nan s t u A B C L LP p q r = elim r [ ]
+fma_at f (fin s' m e) (fin t' n d) (inf _) s t u A B C L LP p q r = elim r [ ]
 fma_at f (fin s' m e) (fin t' n d) (fin u' k g) s t u A B C L LP p q r =
     fin_at f s' m e t' n d u' k g s t u A B C L LP p.0 p.1 q.0 q.1 r.0 r.1
 

@@ -71,6 +71,8 @@ left f x y z s e = ap (λ (v : Float). fma f v y z) e ∙ left_inf f s y z ∙ s
 
 right_inf : (f : Format) (x z : Float) (t s : Bool) (a c : ℕ) → HasValue x s a c → fma f x (inf t) z ≡ add f (mul f x (inf t)) z
 unfolding fma
+right_inf f nan z t s a c h = elim h [ ]
+right_inf f (inf _) z t s a c h = elim h [ ]
 right_inf f (fin u m e) z t s a c h = refl
 
 pub right : (f : Format) (x y z : Float) (t s : Bool) (a c : ℕ) → HasValue x s a c → y ≡ inf t → fma f x y z ≡ add f (mul f x y) z
@@ -78,6 +80,10 @@ right f x y z t s a c h e = ap (λ (v : Float). fma f x v z) e ∙ right_inf f x
 
 last_inf : (f : Format) (x y : Float) (s t u : Bool) (a b c d : ℕ) → HasValue x s a c → HasValue y t b d → fma f x y (inf u) ≡ inf u
 unfolding fma plus
+last_inf f nan y s t u a b c d p q = elim p [ ]
+last_inf f (inf _) y s t u a b c d p q = elim p [ ]
+last_inf f (fin s' m e) nan s t u a b c d p q = elim q [ ]
+last_inf f (fin s' m e) (inf _) s t u a b c d p q = elim q [ ]
 last_inf f (fin s' m e) (fin t' n i) s t u a b c d p q = refl
 
 pub last : (f : Format) (x y z : Float) (s t u : Bool) (a b c d : ℕ) → HasValue x s a c → HasValue y t b d → z ≡ inf u → fma f x y z ≡ z

@@ -13,13 +13,15 @@ use lib.Ieee.Scale.{round_same}
 use Rattle.float.specs.Fused.{trunc}
 use Rattle.float.proofs.Packing.{word_of}
 use Rattle.float.specs.Tests.{yes_or_no}
-use Rattle.float.specs.Patterns.{nan_bits, read_nan}
+use Rattle.float.specs.Patterns.{nan_bits_lem, read_nan}
 use Rattle.float.specs.Fields.{field_of, digits_of, place_of}
 use Rattle.float.proofs.Decode.{bits_value, bits_top, zero_bits, significand_lt}
 
 -- of a value that is a / c
 trunc_at : (f : Format) (x : Float) (s : Bool) (a c : ℕ) → 0 < c → HasValue x s a c → trunc f x ≡ round f s (a / c) 1
 unfolding trunc
+trunc_at f nan s a c C h = elim h [ ]
+trunc_at f (inf _) s a c C h = elim h [ ]
 trunc_at f (fin t m e) s a c C h =
     ap (λ (b : Bool). round f b (m * up e / down e) 1) h.0 ∙ ap (λ (n : ℕ). round f s n 1) (div_same (m * up e) (down e) a c (down_pos e) C h.1)
 
@@ -195,7 +197,7 @@ trunc_special f s x (inr e) = ap (trunc f) e ∙ sym e
 
 pub trunc_nan : (b : ℕ) → 9218868437227405312 < b % 9223372036854775808 → 9221120237041090560 ≡ to_bits binary64 (trunc binary64 (of_bits binary64 b))
 trunc_nan b h =
-    nan_bits binary64 ∙ sym (ap (to_bits binary64) (trunc_special binary64 false (of_bits binary64 b) (inl (read_nan binary64 b h)) ∙ read_nan binary64 b h))
+    nan_bits_lem binary64 ∙ sym (ap (to_bits binary64) (trunc_special binary64 false (of_bits binary64 b) (inl (read_nan binary64 b h)) ∙ read_nan binary64 b h))
 
 -- an infinity
 pub trunc_inf : (b : ℕ) → b < 2 ^ 64 → b % 9223372036854775808 ≤ 9218868437227405312 → 2047 ≤ field_of binary64 b

@@ -31,6 +31,8 @@ round_zero f s a c C e = subst (λ (x : Float). T (is_zero x)) (sym (round_none 
 
 pub narrow_zero : (x : Float) → T (is_zero x) → T (is_zero (narrow x))
 unfolding narrow
+narrow_zero nan h = elim h [ ]
+narrow_zero (inf _) h = elim h [ ]
 narrow_zero (fin s m e) h = round_zero binary32 s (m * up e) (down e) (down_pos e) (ap (λ (k : ℕ). k * up e) (eqb→eq m 0 h) ∙ zero-mul (up e))
 
 -- nothing, or something
@@ -54,6 +56,12 @@ sum_nothing f s t a b c C e = elim (some a) [
 -- x * r + 0 is x * r
 pub fma_plain : (f : Format) (x r z : Float) → T (finite x) → T (finite r) → T (is_zero z) → Alike (fma f x r z) (mul f x r)
 unfolding fma plus mul
+fma_plain f nan r z p q h = elim p [ ]
+fma_plain f (inf _) r z p q h = elim p [ ]
+fma_plain f (fin s m e) nan z p q h = elim q [ ]
+fma_plain f (fin s m e) (inf _) z p q h = elim q [ ]
+fma_plain f (fin s m e) (fin t n d) nan p q h = elim h [ ]
+fma_plain f (fin s m e) (fin t n d) (inf _) p q h = elim h [ ]
 fma_plain f (fin s m e) (fin t n d) (fin u k g) p q h =
     let P = m * up e * (n * up d) in
     let C = down e * down d in
@@ -69,6 +77,10 @@ fma_plain f (fin s m e) (fin t n d) (fin u k g) p q h =
 -- x * 0 + z is z
 pub fma_none : (f : Format) (x r z : Float) → T (finite x) → T (is_zero r) → T (fits f z) → Alike (fma f x r z) z
 unfolding fma plus
+fma_none f nan r z p q h = elim p [ ]
+fma_none f (inf _) r z p q h = elim p [ ]
+fma_none f (fin s m e) nan z p q h = elim q [ ]
+fma_none f (fin s m e) (inf _) z p q h = elim q [ ]
 fma_none f (fin s m e) (fin t n d) nan p q h = inl refl
 fma_none f (fin s m e) (fin t n d) (inf u) p q h = inl refl
 fma_none f (fin s m e) (fin t n d) (fin u k g) p q h =
@@ -87,6 +99,8 @@ fma_none f (fin s m e) (fin t n d) (fin u k g) p q h =
 -- 0 + y is y, whatever the sign of the 0
 pub add_nothing : (f : Format) (x : Float) (t : Bool) (n : ℕ) (d : ℤ) → T (is_zero x) → add f x (fin t (suc n) d) ≡ round f t (suc n * up d) (down d)
 unfolding add
+add_nothing f nan t n d h = elim h [ ]
+add_nothing f (inf _) t n d h = elim h [ ]
 add_nothing f (fin s m e) t n d h =
     let Y = suc n * up d in
     let C = down e * down d in
@@ -120,6 +134,8 @@ less_same x y (inr (a, b)) =
 -- ---- the floor of a zero is a zero
 floor_is : (x : Float) → T (is_zero x) → (s : Bool) × (floor binary64 x ≡ fin s 0 (pos 0))
 unfolding floor
+floor_is nan h = elim h [ ]
+floor_is (inf _) h = elim h [ ]
 floor_is (fin false m e) h = (
   false,
   round_none binary64 false (m * up e / down e) 1 (zero-lt-suc 0)

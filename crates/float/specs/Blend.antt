@@ -128,6 +128,8 @@ either_sign f false true a c h = subst (λ (x : Float). T (finite x)) (sym (roun
 -- x by a number from 0 to 1: finite
 pub shrunk : (f : Format) (t x : Float) → Unit01 t → T (finite x) → T (fits f x) → T (finite (mul f t x))
 unfolding mul
+shrunk f t nan h p q = elim p [ ]
+shrunk f t (inf _) h p q = elim p [ ]
 shrunk f t (fin s m e) h p q = go t h.real (finite_between (mul f +0 x') (mul f t x') x' (zero_finite (mul f +0 x') (mul_none f x' tt)) tt
     (mul_rises f +0 t x' tt h.real tt h.low)
     (subst (λ (y : Float). T (le (mul f t x') y)) (mul_unit f x' tt (fits_plain f s m e q)) (mul_rises f t unit x' h.real tt tt h.high)))
@@ -136,6 +138,8 @@ shrunk f t (fin s m e) h p q = go t h.real (finite_between (mul f +0 x') (mul f 
     x' = fin false m e
 
     go : (t : Float) → T (finite t) → T (finite (mul f t (fin false m e))) → T (finite (mul f t (fin s m e)))
+    go nan p h = elim p [ ]
+    go (inf _) p h = elim p [ ]
     go (fin o a j) p h = either_sign f (unlike o false) (unlike o s) (a * up j * (m * up e)) (down j * down e) h
 
 -- ---- (1 - t) * low + t * high

@@ -119,6 +119,8 @@ unit = fin false 1 (pos 0)
 -- 1 * x is x, and 0 * x is a zero
 pub mul_unit : (f : Format) (x : Float) → T (finite x) → T (fits f x) → mul f unit x ≡ x
 unfolding mul
+mul_unit f nan p h = elim p [ ]
+mul_unit f (inf _) p h = elim p [ ]
 mul_unit f (fin s m e) p h =
     ap (λ (b : Bool). round f b (1 * 1 * (m * up e)) (1 * down e)) (left s)
     ∙ round_to f s (1 * 1 * (m * up e)) (1 * down e) m e h (mul-pos (zero-lt-suc 0) (down_pos e))
@@ -130,6 +132,8 @@ mul_unit f (fin s m e) p h =
 
 pub mul_none : (f : Format) (x : Float) → T (finite x) → T (is_zero (mul f +0 x))
 unfolding mul
+mul_none f nan p = elim p [ ]
+mul_none f (inf _) p = elim p [ ]
 mul_none f (fin s m e) p =
     subst (λ (x : Float). T (is_zero x))
     (sym (round_none f (unlike false s) (0 * 1 * (m * up e)) (1 * down e) (mul-pos (zero-lt-suc 0) (down_pos e)) (zero-mul (m * up e)))) tt
@@ -137,6 +141,12 @@ mul_none f (fin s m e) p =
 -- x + 0 and 0 + x are x, as numbers
 pub add_zero : (f : Format) (x z : Float) → T (finite x) → T (fits f x) → T (is_zero z) → T (le (add f x z) x) × T (le x (add f x z))
 unfolding add is_nan
+add_zero f nan _ p h z = elim p [ ]
+add_zero f (inf _) _ p h z = elim p [ ]
+add_zero f (fin s zero e) nan p h z = elim z [ ]
+add_zero f (fin s zero e) (inf _) p h z = elim z [ ]
+add_zero f (fin s (suc m) e) nan p h z = elim z [ ]
+add_zero f (fin s (suc m) e) (inf _) p h z = elim z [ ]
 add_zero f (fin s zero e) (fin t n d) p h z =
     let c = down e * down d in
     let r : add f (fin s 0 e) (fin t n d) ≡ round f (s && t) 0 c = ap (λ (x : ℕ). sum f s (0 * up e * down d) t (x * up d * down e) c) (eqb→eq n 0 z)
@@ -161,6 +171,10 @@ add_zero f (fin s (suc m) e) (fin t n d) p h z =
 -- a sum does not turn on the order
 pub add_comm : (f : Format) (x z : Float) → T (finite x) → T (finite z) → add f x z ≡ add f z x
 unfolding add
+add_comm f nan z p q = elim p [ ]
+add_comm f (inf _) z p q = elim p [ ]
+add_comm f (fin s m e) nan p q = elim q [ ]
+add_comm f (fin s m e) (inf _) p q = elim q [ ]
 add_comm f (fin s m e) (fin t n d) p q =
     sum_comm f s t (m * up e * down d) (n * up d * down e) (down e * down d)
     ∙ ap (λ (c : ℕ). sum f t (n * up d * down e) s (m * up e * down d) c) (mul_comm (down e) (down d))

@@ -98,6 +98,10 @@ floor_sle true m e true n d h =
 
 -- `floor` keeps the order
 pub floor_rises : (f : Format) (x y : Float) → T (finite x) → T (finite y) → T (le x y) → T (le (floor f x) (floor f y))
+floor_rises f nan y p q h = elim p [ ]
+floor_rises f (inf _) y p q h = elim p [ ]
+floor_rises f (fin s m e) nan p q h = elim q [ ]
+floor_rises f (fin s m e) (inf _) p q h = elim q [ ]
 floor_rises f (fin s m e) (fin t n d) p q h =
     subst (λ (v : Float). T (le v (floor f (fin t n d)))) (sym (floor_is f s m e))
     (subst (λ (v : Float). T (le (round f s (whole_of s (m * up e) (down e)) 1) v)) (sym (floor_is f t n d))
@@ -131,6 +135,10 @@ floor_z_is true m e = refl
 
 -- and so does the integer
 pub floor_z_rises : (x y : Float) → T (finite x) → T (finite y) → T (le x y) → T (int_le (floor_z x) (floor_z y))
+floor_z_rises nan y p q h = elim p [ ]
+floor_z_rises (inf _) y p q h = elim p [ ]
+floor_z_rises (fin s m e) nan p q h = elim q [ ]
+floor_z_rises (fin s m e) (inf _) p q h = elim q [ ]
 floor_z_rises (fin s m e) (fin t n d) p q h =
     subst (λ (z : ℤ). T (int_le z (floor_z (fin t n d)))) (sym (floor_z_is s m e))
     (subst (λ (z : ℤ). T (int_le (signed_of s (whole_of s (m * up e) (down e))) z)) (sym (floor_z_is t n d))
@@ -151,6 +159,8 @@ ceil_value f s (suc m) (negsuc a) h =
 -- ---- read as an integer, where it is not past the end
 pub signed_of_lem : (h : ℕ) (x : Float) (s : Bool) (n : ℕ) → HasValue x s n 1 → n < 2 ^ h → to_signed h x ≡ cond s (neg_ℤ (pos n)) (pos n)
 unfolding to_signed
+signed_of_lem h nan s n v l = elim v [ ]
+signed_of_lem h (inf _) s n v l = elim v [ ]
 signed_of_lem h (fin true m e) s n v l =
     ap (λ (k : ℕ). neg_ℤ (pos (min k (2 ^ h)))) (ap (λ (k : ℕ). k / down e) (sym (mul-one (m * up e)) ∙ v.1) ∙ mul-div_cancel n (down_pos e))
     ∙ ap (λ (k : ℕ). neg_ℤ (pos k)) (cap n (2 ^ h) l) ∙ ap (λ (b : Bool). cond b (neg_ℤ (pos n)) (pos n)) v.0

@@ -89,6 +89,8 @@ Factor r = T (unsigned r) ⊎ T (is_zero r)
 -- what is above 0 has no minus sign, and what equals 0 is a zero
 pub positive_unsigned : (v : Float) → T (finite v) → lt +0 v ≡ true → T (unsigned v)
 unfolding lt
+positive_unsigned nan p h = elim p [ ]
+positive_unsigned (inf _) p h = elim p [ ]
 positive_unsigned (fin false m e) p h = tt
 positive_unsigned (fin true m e) p h = absurd (false≢true h)
 
@@ -104,6 +106,8 @@ equals_zero (fin s m e) h =
 
 pub le_self : (x : Float) → T (finite x) → T (le x x)
 unfolding is_nan
+le_self nan h = elim h [ ]
+le_self (inf _) h = elim h [ ]
 le_self (fin s m e) h = le_same (fin s m e) tt
 
 -- one amount taken from both

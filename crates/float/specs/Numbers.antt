@@ -36,6 +36,10 @@ sum_number f s a t b c = go (beq s t) (nat_lt a b)
 -- a sum of finite numbers
 pub add_number : (f : Format) (x y : Float) → T (finite x) → T (finite y) → is_nan (add f x y) ≡ false
 unfolding add
+add_number f nan y p q = elim p [ ]
+add_number f (inf _) y p q = elim p [ ]
+add_number f (fin s m e) nan p q = elim q [ ]
+add_number f (fin s m e) (inf _) p q = elim q [ ]
 add_number f (fin s m e) (fin t n d) p q = sum_number f s (m * up e * down d) t (n * up d * down e) (down e * down d)
 
 -- ---- each fits

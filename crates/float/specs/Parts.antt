@@ -56,6 +56,8 @@ below_ceil f a d D =
 
 portion : (f : Format) (p : Float) → T (finite p) → T (fits f p) → Portion f (sub f p (floor f p))
 unfolding floor
+portion f nan p h = elim p [ ]
+portion f (inf _) p h = elim p [ ]
 portion f (fin false m e) p h =
     let q = m * up e / down e in
     subst (λ (x : Float). Portion f x) (sym (sub_whole f false m e (round f false q 1) q (whole_value f false m e h)))

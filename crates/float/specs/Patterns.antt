@@ -9,20 +9,20 @@ use Rattle.float.specs.Zero.{+0}
 use Rattle.float.specs.Tests.{no}
 
 -- there is one NaN
-pub is_nan : (x : Float) → is_nan x ≡ true → x ≡ nan
+pub is_nan_lem : (x : Float) → is_nan x ≡ true → x ≡ nan
 unfolding is_nan
-is_nan nan e = refl
-is_nan (inf s) e = absurd (false≢true e)
-is_nan (fin s m i) e = absurd (false≢true e)
+is_nan_lem nan e = refl
+is_nan_lem (inf s) e = absurd (false≢true e)
+is_nan_lem (fin s m i) e = absurd (false≢true e)
 
 -- the pattern of a NaN that is worked out: 7fc00000, or 7ff8000000000000
-pub nan_bits : (f : Format) → ones f * hid f + hid f / 2 ≡ to_bits f nan
+pub nan_bits_lem : (f : Format) → ones f * hid f + hid f / 2 ≡ to_bits f nan
 unfolding to_bits
-nan_bits f = refl
+nan_bits_lem f = refl
 
 -- a pattern above the infinity's is a NaN's
 pub read_nan : (f : Format) (b : ℕ) → ones f * hid f < b % top f → of_bits f b ≡ nan
-read_nan f b h = is_nan (of_bits f b) (sym (nan_bits_is f b) ∙ nan_bits_above f b ∙ lt-ltb (ones f * hid f) (b % top f) h)
+read_nan f b h = is_nan_lem (of_bits f b) (sym (nan_bits_is f b) ∙ nan_bits_above f b ∙ lt-ltb (ones f * hid f) (b % top f) h)
 
 -- and no other is
 pub read_number : (f : Format) (b : ℕ) → b % top f ≤ ones f * hid f → T (not (nan_bits f b))

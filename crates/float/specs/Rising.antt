@@ -270,12 +270,22 @@ plus_rises f s s' t t' X e Y d Z g W i E D G I h k =
 pub add_rises : (f : Format) (x y z w : Float) → T (finite x) → T (finite y) → T (finite z) → T (finite w) → T (le x y) → T (le z w)
     → T (le (add f x z) (add f y w))
 unfolding add
+add_rises f nan y z w p q r o h b = elim p [ ]
+add_rises f (inf _) y z w p q r o h b = elim p [ ]
+add_rises f (fin s m e) nan z w p q r o h b = elim q [ ]
+add_rises f (fin s m e) (inf _) z w p q r o h b = elim q [ ]
+add_rises f (fin s m e) (fin t n d) nan w p q r o h b = elim r [ ]
+add_rises f (fin s m e) (fin t n d) (inf _) w p q r o h b = elim r [ ]
+add_rises f (fin s m e) (fin t n d) (fin u k g) nan p q r o h b = elim o [ ]
+add_rises f (fin s m e) (fin t n d) (fin u k g) (inf _) p q r o h b = elim o [ ]
 add_rises f (fin s m e) (fin t n d) (fin u k g) (fin v l i) p q r o h b =
     plus_rises f s t u v (m * up e) (down e) (n * up d) (down d) (k * up g) (down g) (l * up i) (down i) (down_pos e) (down_pos d) (down_pos g)
     (down_pos i) (le→signed s m e t n d h) (le→signed u k g v l i b)
 
 pub finite_neg : (x : Float) → T (finite x) → T (finite (neg x))
 unfolding neg
+finite_neg nan h = elim h [ ]
+finite_neg (inf _) h = elim h [ ]
 finite_neg (fin s m e) h = tt
 
 -- a larger x and a smaller z
@@ -298,6 +308,17 @@ keep false = refl
 pub fma_rises : (f : Format) (x y r z w : Float) → T (finite x) → T (finite y) → T (unsigned r) → T (finite z) → T (finite w) → T (le x y)
     → T (le z w) → T (le (fma f x r z) (fma f y r w))
 unfolding fma plus
+fma_rises f nan y _ _ _ p q r z w h b = elim p [ ]
+fma_rises f (inf _) y _ _ _ p q r z w h b = elim p [ ]
+fma_rises f (fin s m e) nan _ _ _ p q r z w h b = elim q [ ]
+fma_rises f (fin s m e) (inf _) _ _ _ p q r z w h b = elim q [ ]
+fma_rises f (fin s m e) (fin t n d) nan _ _ p q r z w h b = elim r [ ]
+fma_rises f (fin s m e) (fin t n d) (inf _) _ _ p q r z w h b = elim r [ ]
+fma_rises f (fin s m e) (fin t n d) (fin false a j) nan _ p q r z w h b = elim z [ ]
+fma_rises f (fin s m e) (fin t n d) (fin false a j) (inf _) _ p q r z w h b = elim z [ ]
+fma_rises f (fin s m e) (fin t n d) (fin false a j) (fin u k g) nan p q r z w h b = elim w [ ]
+fma_rises f (fin s m e) (fin t n d) (fin false a j) (fin u k g) (inf _) p q r z w h b = elim w [ ]
+fma_rises f (fin s m e) (fin t n d) (fin true a j) _ _ p q r z w h b = elim r [ ]
 fma_rises f (fin s m e) (fin t n d) (fin false a j) (fin u k g) (fin v l i) p q r z w h b =
     subst (λ (o : Bool). T (le (sum f o (m * up e * (a * up j) * down g) u (k * up g * (down e * down j)) (down e * down j * down g))
     (sum f (unlike t false) (n * up d * (a * up j) * down i) v (l * up i * (down d * down j)) (down d * down j * down i)))) (sym (keep s))
@@ -316,6 +337,10 @@ fma_rises f (fin s m e) (fin t n d) (fin false a j) (fin u k g) (fin v l i) p q 
 -- what lies between two finite values is finite
 pub finite_between : (x y z : Float) → T (finite x) → T (finite z) → T (le x y) → T (le y z) → T (finite y)
 unfolding le lt eq
+finite_between nan y z p q h k = elim p [ ]
+finite_between (inf _) y z p q h k = elim p [ ]
+finite_between (fin s m e) (inf false) nan p q h k = elim q [ ]
+finite_between (fin s m e) (inf false) (inf _) p q h k = elim q [ ]
 finite_between (fin s m e) nan z p q h k = absurd h
 finite_between (fin s m e) (inf true) z p q h k = absurd h
 finite_between (fin s m e) (inf false) (fin t n d) p q h k = absurd k

@@ -27,6 +27,8 @@ sized_finite f (fin s m e) R h = tt
 
 -- what fits is a whole number of units
 pub sized_fits : (f : Format) (x : Float) → T (finite x) → T (fits f x) → (R : ℕ) × Sized f x R
+sized_fits f nan p h = elim p [ ]
+sized_fits f (inf _) p h = elim p [ ]
 sized_fits f (fin s m e) p h =
     let r = round_back f false m e (fits_plain f s m e h) in
     let g = round_under f (m * up e) (down e) (subst (λ (z : Float). T (finite z)) (sym r) tt) in
@@ -62,6 +64,8 @@ low_of f (inf s) R v h = v
 low_of f (fin s m e) R v h = λ b. no_size f m e s R v (minus_none m e (subst (λ (o : Bool). T (le +0 (fin o m e))) b h))
 
 pub factor : (x : Float) → T (finite x) → T (le +0 x) → Factor x
+factor nan p h = elim p [ ]
+factor (inf _) p h = elim p [ ]
 factor (fin false m e) p h = inl tt
 factor (fin true m e) p h = inr (eq→eqb (eq_of_mul-eq-mul_right (up e) (up_pos e) m 0 (minus_none m e h ∙ sym (zero-mul (up e)))))
 
@@ -84,6 +88,10 @@ size_le f (inf s) y X Y v w l h = absurd v
 
 -- what is at most F is at most `units_of F`, also where F is no whole number of units
 pub units_le : (x F : Float) (X : ℕ) → Sized binary32 x X → Low x X → T (finite F) → T (le x F) → X ≤ units_of F
+units_le (fin false m e) nan X v l p h = elim p [ ]
+units_le (fin false m e) (inf _) X v l p h = elim p [ ]
+units_le (fin true m e) nan X v l p h = elim p [ ]
+units_le (fin true m e) (inf _) X v l p h = elim p [ ]
 units_le (fin true m e) (fin t n d) X v l p h = le_trans (le_of_eq (l refl)) zero-le
 units_le (fin false m e) (fin t n d) X v l p h =
     let more : m * up e * down d ≤ n * up d * down e = plainly t (m * up e * down d) (n * up d * down e) (le→signed false m e t n d h) in
@@ -101,6 +109,8 @@ under a c q C h = le_trans (div_mono a c q 1 C (lit< tt) h) (le_of_eq (div-one q
 
 -- what is at most 2 ^ k is at most 2 ^ (k + 149) units
 pub units_top : (k : ℕ) (F : Float) → T (finite F) → T (le +0 F) → T (le F (fin false 1 (pos k))) → units_of F ≤ 2 ^ k * 2 ^ 149
+units_top k nan p o h = elim p [ ]
+units_top k (inf _) p o h = elim p [ ]
 units_top k (fin true m e) p o h =
     under (m * up e * 2 ^ 149) (down e) (2 ^ k * 2 ^ 149) (down_pos e)
     (le_trans (le_of_eq (mul-one (m * up e * 2 ^ 149) ∙ ap (λ (x : ℕ). x * 2 ^ 149) (minus_none m e o))) zero-le)

@@ -32,6 +32,10 @@ round_zero f s a c C e = subst (λ (x : Float). T (is_zero x)) (sym (round_none 
 -- zeros of either sign are equal
 pub zero_le_zero : (x y : Float) → T (is_zero x) → T (is_zero y) → T (le x y)
 unfolding le lt eq
+zero_le_zero nan y p q = elim p [ ]
+zero_le_zero (inf _) y p q = elim p [ ]
+zero_le_zero (fin s m e) nan p q = elim q [ ]
+zero_le_zero (fin s m e) (inf _) p q = elim q [ ]
 zero_le_zero (fin s m e) (fin t n d) p q =
     subst (λ (X : ℕ). T (below s X t (n * up d * down e) || level s X t (n * up d * down e))) (sym (flat m (up e) (down d) (eqb→eq m 0 p)))
     (subst (λ (Y : ℕ). T (below s 0 t Y || level s 0 t Y)) (sym (flat n (up d) (down e) (eqb→eq n 0 q))) (go s t))
@@ -48,12 +52,22 @@ zero_le_zero (fin s m e) (fin t n d) p q =
 -- x * 0 is a zero, and so is x * 0 + 0
 pub mul_zero_right : (f : Format) (x z : Float) → T (finite x) → T (is_zero z) → T (is_zero (mul f x z))
 unfolding mul
+mul_zero_right f nan z p q = elim p [ ]
+mul_zero_right f (inf _) z p q = elim p [ ]
+mul_zero_right f (fin s m e) nan p q = elim q [ ]
+mul_zero_right f (fin s m e) (inf _) p q = elim q [ ]
 mul_zero_right f (fin s m e) (fin t n d) p q =
     round_zero f (unlike s t) (m * up e * (n * up d)) (down e * down d) (mul-pos (down_pos e) (down_pos d))
     (ap (λ (k : ℕ). m * up e * (k * up d)) (eqb→eq n 0 q) ∙ ap (λ (k : ℕ). m * up e * k) (zero-mul (up d)) ∙ mul-zero (m * up e))
 
 pub fma_zero : (f : Format) (x r z : Float) → T (finite x) → T (is_zero r) → T (is_zero z) → T (is_zero (fma f x r z))
 unfolding fma plus
+fma_zero f nan _ z p q r = elim p [ ]
+fma_zero f (inf _) _ z p q r = elim p [ ]
+fma_zero f (fin s m e) nan z p q r = elim q [ ]
+fma_zero f (fin s m e) (inf _) z p q r = elim q [ ]
+fma_zero f (fin s m e) (fin t n d) nan p q r = elim r [ ]
+fma_zero f (fin s m e) (fin t n d) (inf _) p q r = elim r [ ]
 fma_zero f (fin s m e) (fin t n d) (fin u k g) p q r =
     let a : m * up e * (n * up d) * down g ≡ 0 =
     ap (λ (x : ℕ). m * up e * (x * up d) * down g) (eqb→eq n 0 q) ∙ ap (λ (x : ℕ). m * up e * x * down g) (zero-mul (up d))
@@ -68,12 +82,26 @@ fma_zero f (fin s m e) (fin t n d) (fin u k g) p q r =
 
 -- a zero is finite
 pub zero_finite : (x : Float) → T (is_zero x) → T (finite x)
+zero_finite nan h = elim h [ ]
+zero_finite (inf _) h = elim h [ ]
 zero_finite (fin s m e) h = tt
 
 -- x * 0 + z, in the order of z
 pub fma_zero_rises : (f : Format) (x y r r' z w : Float) → T (finite x) → T (finite y) → T (is_zero r) → T (is_zero r') → T (finite z) → T (finite w)
     → T (le z w) → T (le (fma f x r z) (fma f y r' w))
 unfolding fma plus
+fma_zero_rises f nan y _ _ _ _ p q r r' z w h = elim p [ ]
+fma_zero_rises f (inf _) y _ _ _ _ p q r r' z w h = elim p [ ]
+fma_zero_rises f (fin s m e) nan _ _ _ _ p q r r' z w h = elim q [ ]
+fma_zero_rises f (fin s m e) (inf _) _ _ _ _ p q r r' z w h = elim q [ ]
+fma_zero_rises f (fin s m e) (fin t n d) nan _ _ _ p q r r' z w h = elim r [ ]
+fma_zero_rises f (fin s m e) (fin t n d) (inf _) _ _ _ p q r r' z w h = elim r [ ]
+fma_zero_rises f (fin s m e) (fin t n d) (fin o a j) nan _ _ p q r r' z w h = elim r' [ ]
+fma_zero_rises f (fin s m e) (fin t n d) (fin o a j) (inf _) _ _ p q r r' z w h = elim r' [ ]
+fma_zero_rises f (fin s m e) (fin t n d) (fin o a j) (fin o' a' j') nan _ p q r r' z w h = elim z [ ]
+fma_zero_rises f (fin s m e) (fin t n d) (fin o a j) (fin o' a' j') (inf _) _ p q r r' z w h = elim z [ ]
+fma_zero_rises f (fin s m e) (fin t n d) (fin o a j) (fin o' a' j') (fin u k g) nan p q r r' z w h = elim w [ ]
+fma_zero_rises f (fin s m e) (fin t n d) (fin o a j) (fin o' a' j') (fin u k g) (inf _) p q r r' z w h = elim w [ ]
 fma_zero_rises f (fin s m e) (fin t n d) (fin o a j) (fin o' a' j') (fin u k g) (fin v l i) p q r r' z w h =
     let X : m * up e * (a * up j) ≡ 0 = flat (m * up e) a (up j) (eqb→eq a 0 r) in
     let Y : n * up d * (a' * up j') ≡ 0 = flat (n * up d) a' (up j') (eqb→eq a' 0 r') in
@@ -97,6 +125,13 @@ fma_zero_rises f (fin s m e) (fin t n d) (fin o a j) (fin o' a' j') (fin u k g) 
 -- x * r for an r with no minus sign
 pub mul_rises : (f : Format) (x y r : Float) → T (finite x) → T (finite y) → T (unsigned r) → T (le x y) → T (le (mul f x r) (mul f y r))
 unfolding mul
+mul_rises f nan y _ p q r h = elim p [ ]
+mul_rises f (inf _) y _ p q r h = elim p [ ]
+mul_rises f (fin s m e) nan _ p q r h = elim q [ ]
+mul_rises f (fin s m e) (inf _) _ p q r h = elim q [ ]
+mul_rises f (fin s m e) (fin t n d) nan p q r h = elim r [ ]
+mul_rises f (fin s m e) (fin t n d) (inf _) p q r h = elim r [ ]
+mul_rises f (fin s m e) (fin t n d) (fin true a j) p q r h = elim r [ ]
 mul_rises f (fin s m e) (fin t n d) (fin false a j) p q r h =
     let W = a * up j in
     let J = down j in

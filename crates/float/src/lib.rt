@@ -1,6 +1,8 @@
 // Float work that the language lacks, by bit patterns: widen, narrow, floor, trunc, mul_add, the
 // checked coordinate and the cast to an i32. A pattern is an IEEE 754 binary32 in a u32 or a binary64 in a u64. A NaN that
 // is worked out is 7fc00000, or 7ff8000000000000 in binary64.
+#![tactic(auto)]
+
 mod convert;
 mod fused;
 mod pattern;

@@ -1,5 +1,6 @@
 // What the programs that read one grid share: standard input is read to its end, and a text of the grid is written. One byte more than a text
 // takes is read, so that a longer input is noticed.
+#![tactic(auto)]
 ghost use Rattle.std.specs.Prelude.{◌≤◌, length};
 
 // Either text of the bytes, at the front of `out`.

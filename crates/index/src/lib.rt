@@ -1,4 +1,5 @@
 // The index position of a point, and the ends of a cell's two boxes on one axis (nanovdb.rs, world_to_index_f to build_majorant).
+#![tactic(auto)]
 ghost use Rattle.std.specs.Prelude.{◌≡◌, ◌≤◌, pos};
 ghost use Rattle.std.specs.Float.{binary32};
 ghost use Rattle.std.specs.Float.Ieee.{mul, of_int, to_bits};

@@ -1,4 +1,6 @@
 // The numbers of the refusals, and how tests are joined. README.md says in words what each number means.
+#![tactic(auto)]
+
 ghost use Rattle.std.specs.Prelude.{◌≡◌, ◌&&◌};
 ghost use Rattle.refusals.specs.Faults.{◌then◌};
 

@@ -1,5 +1,6 @@
 // What the replay programs share: a list is read from standard input, in little-endian words of 32 bits, and counts are written.
 // No contract can say what standard input holds, so a read promises only what the library `io` does.
+#![tactic(auto)]
 ghost use Rattle.std.specs.Prelude.{◌≡◌, ◌≤◌, min, length, take};
 
 // How many cases a list may have.

@@ -10,6 +10,7 @@
 //     the question: a coordinate, the low and the high corner of a box of voxels, and a point, 12 words; the answer due: the numbers
 //     of the decode and of the build (the decode's where that is refused), the voxel and the maximum, zeros after a refused decode,
 //     and the cell and its figure, zeros after a refused build.
+#![tactic(auto)]
 ghost use Rattle.std.specs.Prelude.{◌≤◌};
 
 use claim::{Asked, Question};

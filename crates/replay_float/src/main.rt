@@ -1,6 +1,7 @@
 // Replays vectors with the answers of Rust's own operations, and says for each function how many
 // there were and how many answers differ. tests/vectors/float.rs makes the list, which is read from
 // standard input, and says what a record holds.
+#![tactic(auto)]
 ghost use Rattle.std.specs.Prelude.{◌≤◌};
 
 // How many records each function has.

@@ -1,6 +1,7 @@
 // Replays small tables, valid and damaged, with the answers of sparse_grid.rs on them, and says how many cases and
 // lookups there were and how many answers differ. tests/vectors/grid.rs makes the list, which is read from standard
 // input, and says what a case holds.
+#![tactic(auto)]
 ghost use Rattle.std.specs.Prelude.{◌≤◌};
 
 use replay::{

@@ -1,6 +1,7 @@
 // Runs the fields, the reads and the mask bits at every boundary of their bytes and compares each answer with the value listed here:
 // no bytes, one byte short, just enough, one byte more, and places near 2^64, where place and width pass 2^64.
 // A field past the end counts its missing bytes as 0; a read of one is refused with 5.
+#![tactic(auto)]
 use layout::{ReadF32, ReadF64, ReadI32, ReadI64, ReadU32, ReadU64};
 use replay::{first_bytes, report};
 use std::num::wrapping_add_u32;

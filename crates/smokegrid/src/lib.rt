@@ -1,4 +1,5 @@
 // The C interface (include/smokegrid.h). A slice passes as a pointer and a length, a `&mut f32` as a pointer; each function may be called with anything.
+#![tactic(auto)]
 ghost use Rattle.std.specs.Prelude.{◌≡◌, length};
 ghost use Rattle.refusals.specs.Results.{number_of, value_or};
 ghost use Rattle.float.specs.Zero.{+0};

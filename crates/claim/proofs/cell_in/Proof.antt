@@ -59,10 +59,10 @@ met : (c : tie.Else3) → Met (at-start c)
 met c = record { x = omega (arith, c.before.before.if1.false); y = omega (arith, c.before.if2.false); z = omega (arith, c.if3.false) }
 
 row_fits : (c : tie.Else3) → (at-start c).args.z * (at-start c).args.ny ≤ 16384
-row_fits c = let s = at-start c in row_small (n s) s.args.x s.args.y s.args.z s.pre (met c).z
+row_fits c = let s = at-start c in row_small (n s) s.args.x s.args.y s.args.z s.requires (met c).z
 
 cell-fits : (c : tie.Else3) → ((at-start c).args.z * (at-start c).args.ny + (at-start c).args.y) * (at-start c).args.nx ≤ 2113536
-cell-fits c = let s = at-start c in cell-small (n s) s.args.x s.args.y s.args.z s.pre (met c).y (met c).z
+cell-fits c = let s = at-start c in cell-small (n s) s.args.x s.args.y s.args.z s.requires (met c).y (met c).z
 
 -- ---- the ways out
 x-past : tie.Need-returns

@@ -75,10 +75,10 @@ seen-in-spec =
     tie.close
     (tie.spec
     refused_out
-    (λ c. omega (arith, (room c.before).upper_links, (at-start c.before).well-formed))
-    (λ c. omega (arith, (room c.before.before).lower_links, (at-start c.before.before).well-formed))
-    (λ c. omega (arith, (room c.before.before.before).leaf_values, (at-start c.before.before.before).well-formed))
-    (λ c. omega (arith, (room (at-else c)).blocks, (at-start (at-else c)).well-formed))
+    (λ c. omega (arith, (room c.before).upper_links, (at-start c.before).well_formed))
+    (λ c. omega (arith, (room c.before.before).lower_links, (at-start c.before.before).well_formed))
+    (λ c. omega (arith, (room c.before.before.before).leaf_values, (at-start c.before.before.before).well_formed))
+    (λ c. omega (arith, (room (at-else c)).blocks, (at-start (at-else c)).well_formed))
     (λ c. sym (length-take-le _ _ (room (from-1 c)).blocks))
     (λ c. sym (length-take-le _ _ (room (from-2 c)).root_links))
     (λ c. sym (length-take-le _ _ (room (from-3 c)).root_values))

@@ -21,10 +21,10 @@ abbrev refusal-start : tie.After-read → tie.Start
 refusal-start c = c.before.before.before
 
 add-f32-at : tie.Need-overflow-add-f32-at
-add-f32-at c = let r = at_read c in omega (arith, subst RootIn r.read2.given.1 (read-start r).pre)
+add-f32-at c = let r = at_read c in omega (arith, subst RootIn r.read2.given.1 (read-start r).requires)
 
 medium-at-requires : tie.Need-medium-at-requires
-medium-at-requires c κs = let r = at_read c.before in subst RootIn r.read2.given.1 (read-start r).pre
+medium-at-requires c κs = let r = at_read c.before in subst RootIn r.read2.given.1 (read-start r).requires
 
 returns : tie.Need-returns
 returns c =

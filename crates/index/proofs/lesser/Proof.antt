@@ -4,10 +4,10 @@ use Rattle.index.proofs.lesser.Statement.{statement}
 use Rattle.index.proofs.lesser.Tie as tie
 
 returns : tie.Need-returns
-returns c = let b = c.before in lesser_first b.args.a b.args.b b.well-formed.0 b.well-formed.1.0 c.if1.true
+returns c = let b = c.before in lesser_first b.args.a b.args.b b.well_formed.0 b.well_formed.1.0 c.if1.true
 
 returns-2 : tie.Need-returns-2
-returns-2 c = let b = c.before in lesser_second b.args.a b.args.b b.well-formed.0 b.well-formed.1.0 c.if1.false
+returns-2 c = let b = c.before in lesser_second b.args.a b.args.b b.well_formed.0 b.well_formed.1.0 c.if1.false
 
 pub lesser-spec : {M : Type 1} → statement M
 lesser-spec = tie.close (tie.spec returns returns-2)

@@ -22,7 +22,7 @@ at-start c = c.before.before.before.before.before.before.before.before
 add-differ : tie.Need-overflow-add-differ invariant-loop decreases-loop
 add-differ c =
     let t = c.before in
-    omega (arith, t.loop-test.true, t.before.loop.invariant.1, c.lookup.ensures, (at-start t.before).fits.n)
+    omega (arith, t.loop-test.true, t.before.loop.invariant.1, c.lookup.ensures, (at-start t.before).ranges.n)
 
 loop-again : tie.Need-loop-preserved invariant-loop decreases-loop
 loop-again c = (omega (arith, c.before.loop-test.true), omega (arith, c.before.before.loop.invariant.1, c.lookup.ensures))

@@ -26,7 +26,7 @@ at_head c = c.before.before.before
 put-rows-requires : tie.Need-put-rows-requires
 put-rows-requires c κs =
     let m = at_most (at_head c) in
-    let pre = (at-start m).pre in
+    let pre = (at-start m).requires in
     let greatest = most_finite +0 (at-start m).args.layer.now tt (yes pre.1) in
     (pre.0, pre.1, is_true _ (subst (λ (v : Float). T (finite v)) (sym m.most.ensures) greatest))
 

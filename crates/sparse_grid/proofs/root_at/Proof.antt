@@ -20,7 +20,7 @@ returns c =
     let x : SFits w32 b.x = record { sfits = p.x.given } in
     let y : SFits w32 b.y = record { sfits = (at-z c).before.y.given } in
     let z : SFits w32 b.z = record { sfits = (at-z c).z.given } in
-    let e = c.entry_of_lem.ensures ∙ entry_read_lem a.links.now a.values.now a.i (at-start p).pre.value in
+    let e = c.entry_of_lem.ensures ∙ entry_read_lem a.links.now a.values.now a.i (at-start p).requires.value in
     λ k. record { x = seen x k; y = seen y k; z = seen z k; entry = e k }
 
 pub root-at-spec : {M : Type 1} → statement M

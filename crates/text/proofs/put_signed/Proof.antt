@@ -22,7 +22,7 @@ returns : tie.Need-returns
 returns c =
     let b = c.before.before.before in
     let p = at-minus b in
-    (signed_below (sym (to_z-of_z (at-start p).fits.n) ∙ b.below.ensures) (wrote p.put_byte.ensures)
+    (signed_below (sym (to_z-of_z (at-start p).ranges.n) ∙ b.below.ensures) (wrote p.put_byte.ensures)
     (wrote c.before.before.put_decimal.ensures)).is
 
 above-requires : tie.Need-above-requires

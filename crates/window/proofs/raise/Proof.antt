@@ -31,7 +31,7 @@ loop-again c =
     let at = (at-loop c).loop in
     let s = at-start (at-loop c) in
     let room : at.i < length s.args.answer.now = omega arith in
-    let place : at.i < length s.args.table.now = omega (arith, s.pre) in (
+    let place : at.i < length s.args.table.now = omega (arith, s.requires) in (
       omega arith,
       simp length-set at.inv.1,
       raise_more s.args.answer.now s.args.table.now at.answer at.i nan _ at.inv.2 c.greater.ensures room place,
@@ -42,7 +42,7 @@ returns c =
     let at = c.before.loop in
     let s = at-start c.before in
     let end : at.i ≡ length s.args.answer.now = omega arith in
-    at.invariant.2 ∙ ap (λ (k : ℕ). front k s.args.answer.now s.args.table.now) end ∙ front_all _ _ s.pre
+    at.invariant.2 ∙ ap (λ (k : ℕ). front k s.args.answer.now s.args.table.now) end ∙ front_all _ _ s.requires
 
 pub raise-spec : {M : Type 1} → statement M
 raise-spec =

@@ -43,14 +43,14 @@ loop-again c =
     let room : at.i < length s.args.answer.now = omega arith in (
       omega arith,
       simp length-set at.inv.1,
-      four_more s.args.answer.now s.args.a.now s.args.b.now s.args.c.now s.args.d.now s.pre at.answer at.i nan
+      four_more s.args.answer.now s.args.a.now s.args.b.now s.args.c.now s.args.d.now s.requires at.answer at.i nan
           _ _ _ _ room at.inv.2 g.greater.ensures (second (third c)).greater2.ensures (third c).greater3.ensures c.greater4.ensures,
     )
 
 returns : tie.Need-returns invariant-loop decreases-loop
 returns c =
     let at = c.before.loop in
-    let (na, nb, nc, nd) = (at-start c.before).pre in
+    let (na, nb, nc, nd) = (at-start c.before).requires in
     at.invariant.2 ∙ fronts_all _ _ _ _ _ na nb nc nd at.i (omega arith)
 
 pub raise-four-spec : {M : Type 1} → statement M

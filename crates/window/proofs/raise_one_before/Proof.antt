@@ -21,7 +21,7 @@ at_place c = c.before.before.before
 room : (c : tie.After-before2) → let n = length (start c).args.answer.now in c.before2.result * n + n ≤ length (start c).args.memory.now
 room c =
     let s = start c in
-    ring_room (length s.args.answer.now) s.args.w c.before2.result _ (stepped _ _ _ c.before2.ensures s.pre.0) s.pre.1
+    ring_room (length s.args.answer.now) s.args.w c.before2.result _ (stepped _ _ _ c.before2.ensures s.requires.0) s.requires.1
 
 raise-requires : tie.Need-raise-requires
 raise-requires c κs =

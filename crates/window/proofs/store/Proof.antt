@@ -29,7 +29,7 @@ loop-again : tie.Need-loop-preserved invariant-loop decreases-loop
 loop-again c =
     let at = (at-loop c).loop in
     let s = at-start (at-loop c) in
-    let room : s.args.at + at.i < length s.args.memory.now = omega (arith, s.pre) in (
+    let room : s.args.at + at.i < length s.args.memory.now = omega (arith, s.requires) in (
       omega arith,
       simp length-set at.inv.1,
       paste_more s.args.memory.now s.args.at s.args.table.now at.memory at.i nan at.inv.2 room c.before.loop-test.true,

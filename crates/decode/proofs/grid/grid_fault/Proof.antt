@@ -86,16 +86,16 @@ tree-fault c =
 
 -- ---- the lengths of the used parts fit a usize
 mul-upper : tie.Need-overflow-mul-upper
-mul-upper c = let s = from-upper c in omega (arith, s.pre.1.upper_links_in, s.good.1.1.1.1.1.1)
+mul-upper c = let s = from-upper c in omega (arith, s.requires.1.upper_links_in, s.good.1.1.1.1.1.1)
 
 mul-lower : tie.Need-overflow-mul-lower
-mul-lower c = let s = from-lower c in omega (arith, s.pre.1.lower_links_in, s.good.1.1.1.1.1.1.1.1)
+mul-lower c = let s = from-lower c in omega (arith, s.requires.1.lower_links_in, s.good.1.1.1.1.1.1.1.1)
 
 mul-leaf : tie.Need-overflow-mul-leaf
-mul-leaf c = let s = from-leaf c in omega (arith, s.pre.1.leaf_values_in, s.good.1.1.1.1.1.1.1.1.1.1)
+mul-leaf c = let s = from-leaf c in omega (arith, s.requires.1.leaf_values_in, s.good.1.1.1.1.1.1.1.1.1.1)
 
 mul-validate : tie.Need-overflow-mul-validate
-mul-validate c = let s = start c in omega (arith, s.pre.1.blocks_in_lem, s.good.1.1.1)
+mul-validate c = let s = start c in omega (arith, s.requires.1.blocks_in_lem, s.good.1.1.1)
 
 -- ---- the ways out: a scalar grid, and a density grid
 returns : tie.Need-returns
@@ -114,9 +114,9 @@ grid-fault-spec =
     mul-upper
     mul-lower
     mul-leaf
-    (λ c. let s = from_place c in omega (arith, s.pre.1.place, s.pre.0))
+    (λ c. let s = from_place c in omega (arith, s.requires.1.place, s.requires.0))
     (λ c κs. search rules)
-    (λ c κs. let s = from_place c.before in omega (arith, s.pre.1.place, s.pre.0))
+    (λ c κs. let s = from_place c.before in omega (arith, s.requires.1.place, s.requires.0))
     mul-validate
     (λ c. sym (length-take-le _ _ (omega (arith, (from-arg c).requires.1.blocks_in_lem))))
     (λ c. sym (length-take-le _ _ (omega (arith, (from-arg2 c).requires.1.root_links_in))))

@@ -229,7 +229,7 @@ module _ (t : ℕ) where
   node-requires : At lts.Need-node-requires
   node-requires c κs =
       let a = to-aim (args-to c) in let k = aimed a in let s = loop-start (run-loop (aim-run a)) in
-      (omega (arith, s, k.node.above), (s.pre.1.0, omega (arith, s), k.turn.fit))
+      (omega (arith, s, k.node.above), (s.requires.1.0, omega (arith, s), k.turn.fit))
 
   link-requires : At lts.Need-link-requires
   link-requires c κs =

@@ -31,7 +31,7 @@ start c = at-start (at_count c)
 
 -- what is known there: the number is small, what `enter` has answered, and that a new node lies in the bytes
 small : (c : tie.After-count-of) → c.count_of.result < 4294967295
-small c = let s = at-start c in omega (arith, number_small s.pre.3 s.args.level, c.count_of.ensures)
+small c = let s = at-start c in omega (arith, number_small s.requires.3 s.args.level, c.count_of.ensures)
 
 entering : (c : tie.After-enter) → let s = start c in let a = s.args in
     Entering a.bytes.now a.source a.level a.st (at_count c).count_of.result a.work.now c.enter.new.1.0 c.enter.result
@@ -42,10 +42,10 @@ inside c = omega (arith, fresh-whole (entering (at-fresh c)) c.next.given.1, (st
 
 -- the calls
 enter-requires : tie.Need-enter-requires
-enter-requires c κs = let n = c.before.before in let s = at-start n in (s.pre.2, s.pre.1, small n)
+enter-requires c κs = let n = c.before.before in let s = at-start n in (s.requires.2, s.requires.1, small n)
 
 grown-requires : tie.Need-grown-requires
-grown-requires c κs = let s = start (at-fresh (at_next c)) in let few = s.pre.3 in (omega arith, omega arith, omega arith)
+grown-requires c κs = let s = start (at-fresh (at_next c)) in let few = s.requires.3 in (omega arith, omega arith, omega arith)
 
 base : tie.Need-overflow-mul-t25
 base c =

@@ -15,7 +15,7 @@ upper-start c = c.before.before.before.before
 run-requires : tie.Need-run-requires
 run-requires c κs =
     let s = lower-start c.before in let a = s.args in
-    let (above, whole, order, last, room) = s.pre in
+    let (above, whole, order, last, room) = s.requires in
     let (inside, fits) = lower_inside (length a.bytes.now) a.source a.base a.to (length a.uv.now) (length a.lv.now) a.level
     c.before.if1.true whole last room in
     (order, inside, fits)
@@ -23,7 +23,7 @@ run-requires c κs =
 run-requires-2 : tie.Need-run-requires-2
 run-requires-2 c κs =
     let s = upper-start c.before in let a = s.args in
-    let (above, whole, order, last, room) = s.pre in
+    let (above, whole, order, last, room) = s.requires in
     let (inside, fits) = upper_inside (length a.bytes.now) a.source a.base a.to (length a.uv.now) (length a.lv.now) a.level
     above c.before.if1.false whole last room in
     (order, inside, fits)
@@ -36,7 +36,7 @@ returns c =
 returns-2 : tie.Need-returns-2
 returns-2 c =
     let r = c.before.before in let u = r.before.before in let s = upper-start u in
-    upper_run s.args.bytes.now s.args.source s.args.level s.pre.0 u.if1.false r.run2.ensures
+    upper_run s.args.bytes.now s.args.source s.args.level s.requires.0 u.if1.false r.run2.ensures
 
 pub tiles-between-spec : {M : Type 1} → statement M
 tiles-between-spec =

@@ -36,7 +36,7 @@ met c is = rw (← (at_size (at-inside c)).size_of.ensures.0) (sym c.meets.ensur
 
 -- ---- the calls
 meets-requires : tie.Need-meets-requires
-meets-requires c κs = let z = at_size c.before in ((start z).pre.0, omega (arith, z.size_of.ensures.1))
+meets-requires c κs = let z = at_size c.before in ((start z).requires.0, omega (arith, z.size_of.ensures.1))
 
 push-requires : tie.Need-push-requires
 push-requires c κs =

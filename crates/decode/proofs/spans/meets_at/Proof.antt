@@ -25,7 +25,7 @@ last : (c : tie.At-loop invariant-loop decreases-loop) → ((at-start c).args.en
 last c = let z = c.before.before in quot_small ((at-start c).args.end - 1) z.size_of.result (omega arith) z.size_of.ensures.1.0
 
 chain-requires : tie.Need-chain-requires invariant-loop decreases-loop
-chain-requires c κs = let s = at-start c.before in (omega (arith, s.pre.0.room), (omega (arith, last c.before), s.pre.1.0))
+chain-requires c κs = let s = at-start c.before in (omega (arith, s.requires.0.room), (omega (arith, last c.before), s.requires.1.0))
 
 loop-holds : tie.Need-loop-init invariant-loop decreases-loop
 loop-holds c =
@@ -60,7 +60,7 @@ meets-at-spec =
     (λ c κs. omega (arith, c.size_of.ensures.1))
     loop-holds
     chain-requires
-    (λ c κs. ((at-start c.before.before).pre.0, c.chain.ensures.1))
+    (λ c κs. ((at-start c.before.before).requires.0, c.chain.ensures.1))
     returns
     (λ c. omega (arith, last (at-loop c)))
     (λ c. omega arith)

@@ -35,13 +35,13 @@ loop-less : tie.Need-loop-smaller invariant-loop decreases-loop
 unfolding chain_link
 loop-less c =
     let l = at_turn c.before.before in
-    walk_less (at-start l.before).pre.0 l.loop-test.taken l.before.loop.inv
+    walk_less (at-start l.before).requires.0 l.loop-test.taken l.before.loop.inv
 
 loop-again : tie.Need-loop-preserved invariant-loop decreases-loop
 unfolding chain_link
 loop-again c =
     let l = at_turn c.before.before in
-    walk_next (at-start l.before).pre.0 l.loop-test.taken l.before.loop.inv (sym (tested c.before.before) ∙ c.before.if1.false)
+    walk_next (at-start l.before).requires.0 l.loop-test.taken l.before.loop.inv (sym (tested c.before.before) ∙ c.before.if1.false)
 
 returns : tie.Need-returns invariant-loop decreases-loop
 returns c =

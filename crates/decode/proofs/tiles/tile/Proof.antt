@@ -118,7 +118,7 @@ add-u64-at : tie.Need-overflow-add-u64-at
 add-u64-at c = omega (arith, (start c).requires.1, (start c).requires.2)
 
 add-f32-at : tie.Need-overflow-add-f32-at
-add-f32-at c = let s = start (at_value c).before.before in omega (arith, s.pre.1, s.pre.2)
+add-f32-at c = let s = start (at_value c).before.before in omega (arith, s.requires.1, s.requires.2)
 
 put-root-requires : tie.Need-put-root-requires
 put-root-requires c κs = places (start (at_value c.before).before.before)
@@ -129,7 +129,7 @@ child-target-requires c κs = (start c.before.before).requires.1
 node-requires : tie.Need-node-requires
 node-requires c κs =
     let s = start (at_target (at-args c)).before.before.before in
-    (s.pre.0, omega arith, s.pre.6)
+    (s.requires.0, omega arith, s.requires.6)
 
 add-put-root : tie.Need-overflow-add-put-root
 add-put-root c =
@@ -146,7 +146,7 @@ returns c = tile_out_key c.before.before.u64-at.ensures (sym c.before.key-passes
 returns-2 : tie.Need-returns-2
 returns-2 c =
     let p = at-put c in let w = at-word p in let e = w.before.before in
-    tile_out_value (keyed e) (start e).pre.6 w.before.u64-at2.ensures w.if2.taken p.before.f32-at.ensures (put-value p)
+    tile_out_value (keyed e) (start e).requires.6 w.before.u64-at2.ensures w.if2.taken p.before.f32-at.ensures (put-value p)
 
 returns-3 : tie.Need-returns-3
 returns-3 c = tile_out_off (aimed c.before.before.before) c.before.e.given.1

@@ -81,17 +81,17 @@ keeps c = let p = at-refusal c in kept_on (turn p).before.loop.inv.kept (tile-ke
 tile-requires : tie.Need-tile-requires invariant-loop decreases-loop
 tile-requires c κs =
     let l = at_turn c in let s = start l.before in let kept = l.before.loop.inv.kept in (
-      s.pre.0,
-      s.pre.1,
-      omega (arith, l.loop-test.taken, s.pre.2),
-      omega (arith, l.loop-test.taken, kept.blocks, s.pre.3, s.pre.4),
-      omega (arith, l.loop-test.taken, kept.root_links, s.pre.4),
-      kept.root_values ∙ s.pre.5 ∙ sym kept.root_links,
+      s.requires.0,
+      s.requires.1,
+      omega (arith, l.loop-test.taken, s.requires.2),
+      omega (arith, l.loop-test.taken, kept.blocks, s.requires.3, s.requires.4),
+      omega (arith, l.loop-test.taken, kept.root_links, s.requires.4),
+      kept.root_values ∙ s.requires.5 ∙ sym kept.root_links,
       l.before.loop.inv.fit,
     )
 
 add-i : tie.Need-overflow-add-i invariant-loop decreases-loop
-add-i c = let l = turn (at-tile c.before) in omega (arith, l.loop-test.taken, (start l.before).pre.2)
+add-i c = let l = turn (at-tile c.before) in omega (arith, l.loop-test.taken, (start l.before).requires.2)
 
 loop-again : tie.Need-loop-preserved invariant-loop decreases-loop
 loop-again c =

@@ -139,7 +139,7 @@ add-begin-2 c = let r = c.before.before in omega (arith, r.if3.false, (root-star
 tiles-requires : tie.Need-tiles-requires
 tiles-requires c κs =
     let e = at_places c in let p = at-claim (at-spans e) in
-    let (short, blocks, links, upper, lower) = (start p).pre in (
+    let (short, blocks, links, upper, lower) = (start p).requires in (
       short,
       omega (arith, (at-root p).if3.left, short),
       omega (arith, p.before.before.u32-at.ok),

@@ -12,10 +12,10 @@ returns : tie.Need-returns
 returns c =
     let d = c.before.before in
     let x = d.before.args.x in
-    let read = read_back binary64 d.f64-bits.result x d.f64-bits.ensures (yes d.before.well-formed.0.1) in
+    let read = read_back binary64 d.f64_bits.result x d.f64_bits.ensures (yes d.before.well_formed.0.1) in
     c.float_of.ensures
-    ∙ read_back binary32 c.before.narrow-bits.result (narrow x)
-    (c.before.narrow-bits.ensures ∙ ap (λ (v : Float). to_bits binary32 (narrow v)) read) (narrow_fits x)
+    ∙ read_back binary32 c.before.narrow_bits.result (narrow x)
+    (c.before.narrow_bits.ensures ∙ ap (λ (v : Float). to_bits binary32 (narrow v)) read) (narrow_fits x)
 
-pub narrow-spec : {M : Type 1} → statement M
-narrow-spec = tie.close (tie.spec (λ c κs. search rules) (λ c κs. search rules) (λ c κs. search rules) returns)
+pub narrow_spec : {M : Type 1} → statement M
+narrow_spec = tie.close (tie.spec (λ c κs. search rules) (λ c κs. search rules) (λ c κs. search rules) returns)

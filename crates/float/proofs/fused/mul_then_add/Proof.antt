@@ -9,13 +9,13 @@ use Rattle.float.proofs.fused.mul_then_add.Tie as tie
 rest : (c : tie.Start) → (nan_bits binary32 c.args.b || nan_bits binary32 c.args.c) ≡ false
 rest c = neither_r (nan_bits binary32 c.args.a) (nan_bits binary32 c.args.b || nan_bits binary32 c.args.c) c.requires
 
-float-from-bits-bits-of : tie.Need-float-from-bits-bits-of
+float-from-bits-bits-of : tie.Need-float_from_bits-a
 float-from-bits-bits-of c =
     let a = nan_bits binary32 c.args.a in
     no a (neither_l a (nan_bits binary32 c.args.b || nan_bits binary32 c.args.c) c.requires)
 
-pub mul-then-add-spec : {M : Type 1} → statement M
-mul-then-add-spec =
+pub mul_then_add_spec : {M : Type 1} → statement M
+mul_then_add_spec =
     tie.close
     (tie.spec
     float-from-bits-bits-of

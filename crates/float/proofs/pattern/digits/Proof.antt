@@ -8,5 +8,5 @@ returns c =
     c.significand.ensures ∙ ap (λ (x : ℕ). cond (eqb x 0) (c.before.before.args.b % 8388608) (8388608 + c.before.before.args.b % 8388608))
     c.before.field.ensures
 
-pub digits-spec : {M : Type 1} → statement M
-digits-spec = tie.close (tie.spec (λ c κs. search rules) (λ c. search rules) (λ c. search rules) (λ c κs. search rules) returns)
+pub digits_spec : {M : Type 1} → statement M
+digits_spec = tie.close (tie.spec (λ c κs. search rules) (λ c. search rules) (λ c. search rules) (λ c κs. search rules) returns)

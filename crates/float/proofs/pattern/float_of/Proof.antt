@@ -5,11 +5,11 @@ use Rattle.float.specs.Patterns.{read_nan, read_number, zero_by_zero}
 use Rattle.float.proofs.pattern.float_of.Statement.{statement}
 use Rattle.float.proofs.pattern.float_of.Tie as tie
 
-float-from-bits-result : tie.Need-float-from-bits-result
-float-from-bits-result c = read_number binary32 c.before.args.b c.if1.false
+float-from-bits-result : tie.Need-float_from_bits-result
+float-from-bits-result c = read_number binary32 c.before.args.b c.if-b-gt-INFINITY.false
 
-returns : tie.Need-returns
-returns c = zero_by_zero binary32 ∙ sym (read_nan binary32 c.before.args.b c.if1.true)
+returns : tie.Need-returns-then-b-gt-INFINITY
+returns c = zero_by_zero binary32 ∙ sym (read_nan binary32 c.before.args.b c.if-b-gt-INFINITY.true)
 
-pub float-of-spec : {M : Type 1} → statement M
-float-of-spec = tie.close (tie.spec float-from-bits-result returns (λ c. search rules))
+pub float_of_spec : {M : Type 1} → statement M
+float_of_spec = tie.close (tie.spec float-from-bits-result returns (λ c. search rules))

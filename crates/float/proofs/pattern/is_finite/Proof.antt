@@ -13,7 +13,7 @@ returns c =
     ap (λ (y : ℕ). ltb y 255) c.field.ensures
     ∙ finite_test c.before.bits_of.result
     ∙ ap finite (read_back binary32 c.before.bits_of.result c.before.before.args.x c.before.bits_of.ensures
-    (yes c.before.before.well-formed.0.1))
+    (yes c.before.before.well_formed.0.1))
 
-pub is-finite-spec : {M : Type 1} → statement M
-is-finite-spec = tie.close (tie.spec (λ c κs. search rules) (λ c κs. search rules) returns)
+pub is_finite_spec : {M : Type 1} → statement M
+is_finite_spec = tie.close (tie.spec (λ c κs. search rules) (λ c κs. search rules) returns)

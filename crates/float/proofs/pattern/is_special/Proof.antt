@@ -6,5 +6,5 @@ use Rattle.float.proofs.pattern.is_special.Tie as tie
 returns : tie.Need-returns
 returns c = ap (leb 255) c.field.ensures
 
-pub is-special-spec : {M : Type 1} → statement M
-is-special-spec = tie.close (tie.spec (λ c κs. search rules) returns)
+pub is_special_spec : {M : Type 1} → statement M
+is_special_spec = tie.close (tie.spec (λ c κs. search rules) returns)

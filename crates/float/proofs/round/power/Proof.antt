@@ -7,5 +7,5 @@ use Rattle.float.proofs.round.power.Tie as tie
 returns : tie.Need-returns
 returns c = one_shl c.args.t c.requires
 
-pub power-spec : {M : Type 1} → statement M
-power-spec = tie.close (tie.spec (λ c. search rules) returns)
+pub power_spec : {M : Type 1} → statement M
+power_spec = tie.close (tie.spec (λ c. search rules) returns)

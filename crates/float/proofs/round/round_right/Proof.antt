@@ -5,10 +5,10 @@ use Rattle.float.proofs.Near.{closest_none}
 use Rattle.float.proofs.round.round_right.Statement.{statement}
 use Rattle.float.proofs.round.round_right.Tie as tie
 
-nearest-even-requires : tie.Need-nearest-even-requires
+nearest-even-requires : tie.Need-nearest_even-requires
 nearest-even-requires c κs = (c.before.before.requires, subst (λ (x : ℕ). 0 < x) (sym c.power.ensures) (pow_pos c.before.before.args.t))
 
-returns : tie.Need-returns
+returns : tie.Need-returns-then-t-gt63
 returns c =
     let t = c.before.args.t in
     let l : 64 ≤ t = omega arith in
@@ -17,8 +17,8 @@ returns c =
     twice : (w : ℕ) → w < 2 ^ 63 → w * 2 < 2 ^ 64
     twice w h = omega arith
 
-returns-2 : tie.Need-returns-2
-returns-2 c = c.nearest-even.ensures ∙ ap (λ (x : ℕ). closest c.before.before.before.args.w x) c.before.power.ensures
+returns-2 : tie.Need-returns-else-t-gt63
+returns-2 c = c.nearest_even.ensures ∙ ap (λ (x : ℕ). closest c.before.before.before.args.w x) c.before.power.ensures
 
-pub round-right-spec : {M : Type 1} → statement M
-round-right-spec = tie.close (tie.spec (λ c κs. search rules) nearest-even-requires returns returns-2)
+pub round_right_spec : {M : Type 1} → statement M
+round_right_spec = tie.close (tie.spec (λ c κs. search rules) nearest-even-requires returns returns-2)

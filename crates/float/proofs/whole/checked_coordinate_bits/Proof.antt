@@ -7,8 +7,8 @@ use Rattle.float.proofs.whole.checked_coordinate_bits.Statement.{statement}
 use Rattle.float.proofs.whole.checked_coordinate_bits.Tie as tie
 
 returns : tie.Need-returns
-returns c = c.checked-coordinate.ensures ∙ ap (λ (v : Float). said (pos 0) (coordinate v)) c.before.f64-of.ensures
+returns c = c.checked_coordinate.ensures ∙ ap (λ (v : Float). said (pos 0) (coordinate v)) c.before.f64_of.ensures
 
-pub checked-coordinate-bits-spec : {M : Type 1} → statement M
-checked-coordinate-bits-spec =
+pub checked_coordinate_bits_spec : {M : Type 1} → statement M
+checked_coordinate_bits_spec =
     tie.close (tie.spec (λ c κs. search rules) (λ c κs. search rules) returns)

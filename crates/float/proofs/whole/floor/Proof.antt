@@ -11,17 +11,17 @@ one : of_bits binary64 0x3ff0_0000_0000_0000 ≡ fin false 1 (pos 0)
 unfolding of_bits
 one = refl
 
-returns : tie.Need-returns
+returns : tie.Need-returns-then-x-t
 returns c =
     let x = c.before.before.args.x in
-    ap (λ (v : Float). sub binary64 v (of_bits binary64 0x3ff0_0000_0000_0000)) c.before.trunc.ensures
+    ap (λ (v : Float). sub binary64 v (of_bits binary64 0x3ff0_0000_0000_0000)) c.before.trunc-t.ensures
     ∙ ap (sub binary64 (trunc binary64 x)) one
-    ∙ floor_up binary64 x (yes c.before.before.well-formed.0.1) (ap (lt x) (sym c.before.trunc.ensures) ∙ c.if1.true)
+    ∙ floor_up binary64 x (yes c.before.before.well_formed.0.1) (ap (lt x) (sym c.before.trunc-t.ensures) ∙ c.if-x-t.true)
 
-returns-2 : tie.Need-returns-2
+returns-2 : tie.Need-returns-else-x-t
 returns-2 c =
     let x = c.before.before.args.x in
-    c.before.trunc.ensures ∙ floor_flat binary64 x (yes c.before.before.well-formed.0.1) (ap (lt x) (sym c.before.trunc.ensures) ∙ c.if1.false)
+    c.before.trunc-t.ensures ∙ floor_flat binary64 x (yes c.before.before.well_formed.0.1) (ap (lt x) (sym c.before.trunc-t.ensures) ∙ c.if-x-t.false)
 
-pub floor-spec : {M : Type 1} → statement M
-floor-spec = tie.close (tie.spec (λ c κs. search rules) returns returns-2)
+pub floor_spec : {M : Type 1} → statement M
+floor_spec = tie.close (tie.spec (λ c κs. search rules) returns returns-2)

@@ -6,7 +6,7 @@ use Rattle.float.proofs.whole.floor_bits.Statement.{statement}
 use Rattle.float.proofs.whole.floor_bits.Tie as tie
 
 returns : tie.Need-returns
-returns c = c.f64-bits.ensures ∙ ap (to_bits binary64) (c.before.floor.ensures ∙ ap (floor binary64) c.before.before.f64-of.ensures)
+returns c = c.f64_bits.ensures ∙ ap (to_bits binary64) (c.before.floor.ensures ∙ ap (floor binary64) c.before.before.f64_of.ensures)
 
-pub floor-bits-spec : {M : Type 1} → statement M
-floor-bits-spec = tie.close (tie.spec (λ c κs. search rules) (λ c κs. search rules) (λ c κs. search rules) returns)
+pub floor_bits_spec : {M : Type 1} → statement M
+floor_bits_spec = tie.close (tie.spec (λ c κs. search rules) (λ c κs. search rules) (λ c κs. search rules) returns)

@@ -12,10 +12,10 @@ returns : tie.Need-returns
 returns c =
     let d = c.before.before in
     let x = d.before.args.x in
-    let read = read_back binary64 d.f64-bits.result x d.f64-bits.ensures (yes d.before.well-formed.0.1) in
-    c.f64-of.ensures
-    ∙ read_back binary64 c.before.trunc-bits.result (trunc binary64 x)
-    (c.before.trunc-bits.ensures ∙ ap (λ (v : Float). to_bits binary64 (trunc binary64 v)) read) (trunc_fits binary64 x)
+    let read = read_back binary64 d.f64_bits.result x d.f64_bits.ensures (yes d.before.well_formed.0.1) in
+    c.f64_of.ensures
+    ∙ read_back binary64 c.before.trunc_bits.result (trunc binary64 x)
+    (c.before.trunc_bits.ensures ∙ ap (λ (v : Float). to_bits binary64 (trunc binary64 v)) read) (trunc_fits binary64 x)
 
-pub trunc-spec : {M : Type 1} → statement M
-trunc-spec = tie.close (tie.spec (λ c κs. search rules) (λ c κs. search rules) (λ c κs. search rules) returns)
+pub trunc_spec : {M : Type 1} → statement M
+trunc_spec = tie.close (tie.spec (λ c κs. search rules) (λ c κs. search rules) (λ c κs. search rules) returns)

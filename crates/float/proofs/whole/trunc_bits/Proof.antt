@@ -11,7 +11,7 @@ use Rattle.float.proofs.whole.trunc_bits.Tie as tie
 abbrev start : tie.After-power → tie.Start
 start c = c.before.before.before.before
 
-returns-3 : tie.Need-returns-3
+returns-3 : tie.Need-returns-else-x-lt1023
 returns-3 c =
     let b = (start c).args.b in
     let f = (start c).ranges.b.fits in
@@ -21,8 +21,8 @@ returns-3 c =
       | inr t ↦ trunc_inf b f (omega arith) (nltb→le (field_of binary64 b) 2047 t)
     ])
 
-pub trunc-bits-spec : {M : Type 1} → statement M
-trunc-bits-spec =
+pub trunc_bits_spec : {M : Type 1} → statement M
+trunc_bits_spec =
     tie.close
     (tie.spec
     (λ c. search rules)

@@ -54,7 +54,7 @@ kept c = c.row.auto.1.1.1.1.1.1.1.1.1.1.1.1.1.1.0
 places : (c : tie.In-loop invariant-loop decreases-loop) → c.before.loop.at + (start c).args.nx ≤ length (start c).args.majorants.now
 places c =
     let b = start c in
-    omega (arith, b.pre.3, room c.before.loop.j b.args.ny b.args.nx c.loop-test.true, c.before.loop.invariant.0)
+    omega (arith, b.requires.3, room c.before.loop.j b.args.ny b.args.nx c.loop-test.true, c.before.loop.invariant.0)
 
 short : (c : tie.Start invariant-loop decreases-loop) → length c.args.majorants.now < 18446744073709551616
 short c = omega arith
@@ -105,7 +105,7 @@ plane-spec =
     (λ c. let r = c.before.before.before in kept r ∙ (at_test r).before.loop.invariant.1.long)
     returns
     (λ c. let t = at_test c.before.before.before in omega (arith, places t, short (start t)))
-    (λ c. let t = at_test c.before.before.before in omega (arith, t.loop-test.taken, (start t).pre.2))
+    (λ c. let t = at_test c.before.before.before in omega (arith, t.loop-test.taken, (start t).requires.2))
     (λ c. omega (arith, (at_test c.before.before.before).loop-test.taken))
     loop-again
     (λ c. c.before.loop.invariant.1.long)

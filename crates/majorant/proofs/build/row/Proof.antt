@@ -93,13 +93,13 @@ row-spec =
     loop-holds
     (λ c. omega (arith, c.loop-test.true, (start c).requires.1))
     (λ c. omega (arith, c.loop-test.true, (start c).requires.1))
-    (λ c κs. (start c.before).pre.0)
+    (λ c κs. (start c.before).requires.0)
     (λ c. (at_test c.before.before).before.loop.inv.long)
     returns
     (λ c. let t = at_test c.before.before in omega (arith, place t, t.before.loop.inv.long, short (start t)))
     (λ c. let t = at_test c.before.before in omega (arith, place t, t.before.loop.inv.long, short (start t)))
     (λ c. omega (arith, place (at_test c.before.before)))
-    (λ c. let t = at_test c.before.before in omega (arith, t.loop-test.taken, (start t).pre.1))
+    (λ c. let t = at_test c.before.before in omega (arith, t.loop-test.taken, (start t).requires.1))
     (λ c. omega (arith, (at_test c.before.before).loop-test.taken))
     loop-again
     (λ c. c.before.loop.invariant.long)

@@ -56,7 +56,7 @@ size c = (start c).args.ny * (start c).args.nx
 places : (c : tie.In-loop invariant-loop decreases-loop) → c.before.loop.at + size c ≤ length (start c).args.majorants.now
 places c =
     let b = start c in
-    omega (arith, b.pre.4, room c.before.loop.k b.args.nz (size c) c.loop-test.true, c.before.loop.invariant.0)
+    omega (arith, b.requires.4, room c.before.loop.k b.args.nz (size c) c.loop-test.true, c.before.loop.invariant.0)
 
 short : (c : tie.Start invariant-loop decreases-loop) → length c.args.majorants.now < 18446744073709551616
 short c = omega arith
@@ -109,7 +109,7 @@ volume-spec =
     returns
     (λ c. let t = at_test c.before.before.before in omega (arith, places t, short (start t)))
     (λ c. let t = at_test c.before.before.before in omega (arith, places t, short (start t)))
-    (λ c. let t = at_test c.before.before.before in omega (arith, t.loop-test.taken, (start t).pre.3))
+    (λ c. let t = at_test c.before.before.before in omega (arith, t.loop-test.taken, (start t).requires.3))
     (λ c. omega (arith, (at_test c.before.before.before).loop-test.taken))
     loop-again
     (λ c. c.before.loop.invariant.1.long)

@@ -70,7 +70,7 @@ leaf-classes-requires : tie.Need-leaf-classes-requires
 leaf-classes-requires c κs =
     let d = at-child c.before in
     let b = start d in
-    let p = b.pre in
+    let p = b.requires in
     let l = child_link (links b) (values b) (slot b) (entry d ∙ c.before.before.j.given.1) in
     let h = p.1.linked (slot b) in
     (p.0, omega arith, p.2, p.5)
@@ -107,7 +107,7 @@ lower-cell-spec =
     (λ c. omega arith)
     leaf-classes-requires
     (λ c. search rules)
-    (λ c κs. let b = start (at-tile c) in (b.pre.2, sides b))
+    (λ c κs. let b = start (at-tile c) in (b.requires.2, sides b))
     (λ c κs. let s = c.before in ready_value s.part-size.result (start (at-tile s.before)).requires.0 s.part-size.ensures)
     (λ c. c.before.before.leaf-classes.auto.1.1.1.1.1.1.0)
     returns

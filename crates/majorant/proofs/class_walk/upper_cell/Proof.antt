@@ -71,7 +71,7 @@ lower-classes-requires : tie.Need-lower-classes-requires
 lower-classes-requires c κs =
     let d = at-child c.before in
     let b = start d in
-    let p = b.pre in
+    let p = b.requires in
     let l = child_link (links b) (values b) (slot b) (entry d ∙ c.before.before.j.given.1) in
     let h = p.1.tables.upper_linked (slot b) in
     (p.0, record { room = omega arith; pair = p.1.tables.lower; linked = p.1.tables.lower_linked }, p.2)
@@ -108,7 +108,7 @@ upper-cell-spec =
     (λ c. omega arith)
     lower-classes-requires
     (λ c. search rules)
-    (λ c κs. let b = start (at-tile c) in (b.pre.2, sides b))
+    (λ c κs. let b = start (at-tile c) in (b.requires.2, sides b))
     (λ c κs. let s = c.before in ready_value s.part-size.result (start (at-tile s.before)).requires.0 s.part-size.ensures)
     (λ c. c.before.before.lower-classes.auto.1.1.1.1.1.1.1.1.0)
     returns

@@ -38,7 +38,7 @@ upper-row-requires c κs =
     let e = c.before in
     let k = e.cell-end.ensures in
     let b = start e.before in
-    let p = b.pre in
+    let p = b.requires in
     let w = e.before.before.loop in
     (ready_y (part b) w.invariant.0 (omega (arith, k.more)) k.within p.0 w.invariant.2 w.invariant.3, p.1, cut_y p.2 k, p.3, k.cell)
 

@@ -44,14 +44,14 @@ returns : tie.Need-returns
 returns c =
     let s = c.before.before in
     let b = start s in
-    λ k l. b.pre.4 k l
+    λ k l. b.requires.4 k l
     ∙ sym (counts_none (fit b) (spans s) (grid b) b.args.limits.now k (sym c.before.is-empty.ensures ∙ c.if1.true))
 
 roots-classes-requires : tie.Need-roots-classes-requires
 roots-classes-requires c κs =
     let s = c.before.before.before in
     let b = start s in
-    let p = b.pre in (
+    let p = b.requires in (
       sound (grid b) p.0,
       filled (spans s) (sym c.before.before.is-empty.ensures ∙ c.before.if1.false),
       sides_few (fit b) (spans s) p.1,

@@ -75,19 +75,19 @@ entry-is c =
     c.entry_of_lem.ensures ∙ entry_read_lem b.args.root-links.now b.args.root-values.now b.args.i (value_in_lem (rooted b))
 
 returns : tie.Need-returns
-returns c = let s = start c.before in gone_misses (rooted s) (inl (sym c.before.is-apart.ensures ∙ c.if1.true)) s.pre.6
+returns c = let s = start c.before in gone_misses (rooted s) (inl (sym c.before.is-apart.ensures ∙ c.if1.true)) s.requires.6
 
 returns-2 : tie.Need-returns-2
-returns-2 c = let s = start-2 c.before in gone_misses (rooted s) (inr (inl (sym c.before.is-apart2.ensures ∙ c.if2.true))) s.pre.6
+returns-2 c = let s = start-2 c.before in gone_misses (rooted s) (inr (inl (sym c.before.is-apart2.ensures ∙ c.if2.true))) s.requires.6
 
 returns-3 : tie.Need-returns-3
-returns-3 c = let s = start-3 c.before in gone_misses (rooted s) (inr (inr (sym c.before.is-apart3.ensures ∙ c.if3.true))) s.pre.6
+returns-3 c = let s = start-3 c.before in gone_misses (rooted s) (inr (inr (sym c.before.is-apart3.ensures ∙ c.if3.true))) s.requires.6
 
 root-classes-requires : tie.Need-root-classes-requires
 root-classes-requires c κs =
     let e = c.before in
     let b = start-4 (at-clips e) in
-    let p = b.pre in
+    let p = b.requires in
     let s = p.0 in
     let k = clips (at-clips e) in (
       part_ready (rooted b) p.2 p.3 k p.6 p.4 p.5,
@@ -102,13 +102,13 @@ part-size-requires c κs =
     let e = at_entry c.before.before in
     let b = start-4 (at-clips e) in
     let k = clips (at-clips e) in
-    (part b.pre.2 k, part_sides (rooted b) b.pre.2 b.pre.3 k b.pre.6)
+    (part b.requires.2 k, part_sides (rooted b) b.requires.2 b.requires.3 k b.requires.6)
 
 add-result : tie.Need-overflow-add-result
 add-result c =
     let e = at_entry c.before.before.before in
     let b = start-4 (at-clips e) in
-    let p = b.pre in
+    let p = b.requires in
     let h = covered_few (rooted b) p.2 p.3 (clips (at-clips e)) p.6 c.part-size.result c.part-size.ensures in
     omega (arith, h)
 
@@ -117,7 +117,7 @@ returns-4 c =
     let r = c.before.before.before in
     let e = at_entry r in
     let b = start-4 (at-clips e) in
-    let p = b.pre in
+    let p = b.requires in
     gone_meets (rooted b) p.2 p.3 (clips (at-clips e)) p.6 c.part-size.result (entry-is e) r.root-classes.ensures c.part-size.ensures
 
 pub cover-classes-spec : {M : Type 1} → statement M
@@ -132,21 +132,21 @@ cover-classes-spec =
     (λ c. omega arith)
     (λ c. omega arith)
     (λ c. omega arith)
-    (λ c. let s = start c.before in omega (arith, s.pre.0.blocks, s.pre.1))
+    (λ c. let s = start c.before in omega (arith, s.requires.0.blocks, s.requires.1))
     (λ c κs. (start c.before.before).requires.2.y_some)
     returns-2
     (λ c. omega arith)
     (λ c. omega arith)
     (λ c. omega arith)
-    (λ c. let s = start-2 c.before in omega (arith, s.pre.0.blocks, s.pre.1))
+    (λ c. let s = start-2 c.before in omega (arith, s.requires.0.blocks, s.requires.1))
     (λ c κs. (start-2 c.before.before).requires.2.z_some)
     returns-3
     (λ c κs. search rules)
     (λ c κs. search rules)
     (λ c κs. search rules)
-    (λ c. let s = start-4 c in omega (arith, s.pre.1, s.good))
+    (λ c. let s = start-4 c in omega (arith, s.requires.1, s.good))
     (λ c. (start-4 c.before).requires.1)
-    (λ c. let s = start-4 c.before in omega (arith, s.pre.1, s.good))
+    (λ c. let s = start-4 c.before in omega (arith, s.requires.1, s.good))
     (λ c. value_in_lem (rooted (start-4 c.before.before)))
     (λ c κs. search rules)
     root-classes-requires

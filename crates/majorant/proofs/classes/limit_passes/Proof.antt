@@ -16,7 +16,7 @@ returns : tie.Need-returns
 returns c =
     let t = c.before in
     let s = start t in
-    limit_first s.args.limits.now s.args.i nan s.pre t.if1.true c.is_finite.ensures
+    limit_first s.args.limits.now s.args.i nan s.requires t.if1.true c.is_finite.ensures
 
 returns-2 : tie.Need-returns-2
 returns-2 c =
@@ -25,7 +25,7 @@ returns-2 c =
     let s = start-2 t in
     let l = s.args.limits.now in
     let i = s.args.i in
-    limit_next l i nan s.pre t.if1.false
+    limit_next l i nan s.requires t.if1.false
     (c.both.ensures ∙ ap (λ (b : Bool). b && lt (get_or l (i - 1) nan) (get_or l i nan)) f.is-finite2.ensures)
 
 pub limit-passes-spec : {M : Type 1} → statement M

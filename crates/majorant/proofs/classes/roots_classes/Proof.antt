@@ -78,7 +78,7 @@ returns c =
     let d = c.before.before in
     let s = at_end d in
     let l = s.before in
-    let p = (ended l).pre in
+    let p = (ended l).requires in
     gone_all p.0 p.2 (gone l) d.add-value.new.1.1.1.0 s.part-size.result s.part-size.ensures d.add-value.ensures
 
 pub roots-classes-spec : {M : Type 1} → statement M
@@ -89,7 +89,7 @@ roots-classes-spec =
     decreases-loop
     (λ c.
     let b = begin c in
-    (omega arith, refl, gone_none (grid b) b.args.limits.now (zone_in b.args.x b.args.y b.args.z) b.args.counts.now b.pre.5))
+    (omega arith, refl, gone_none (grid b) b.args.limits.now (zone_in b.args.x b.args.y b.args.z) b.args.counts.now b.requires.5))
     cover-classes-requires
     (λ c. omega (arith, (at_test c.before.before).loop-test.taken))
     (λ c. omega (arith, (at_test c.before.before).loop-test.taken))

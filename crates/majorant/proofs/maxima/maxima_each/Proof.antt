@@ -36,7 +36,7 @@ loop-holds c = let a = (start c).args in (omega arith, refl, none_yet (maximum (
 
 maximum-at-requires : tie.Need-maximum-at-requires invariant-loop decreases-loop
 maximum-at-requires c κs =
-    let p = (start c.before.before).pre in
+    let p = (start c.before.before).requires in
     (p.0, omega (arith, c.loop-test.true, c.before.loop.invariant.1, p.1))
 
 loop-again : tie.Need-loop-preserved invariant-loop decreases-loop

@@ -70,7 +70,7 @@ unfolding leaf_read
 returns c =
     let b = begin c.before.before in
     let u = c.before.loop.invariant in
-    row b.pre.1 b.args.x b.args.y u.eight
+    row b.requires.1 b.args.x b.args.y u.eight
     (λ z. u.joined (z % 8) (omega arith)
     ∙ ap (λ (n : ℕ). greater (maximum_at b.args.maxima.now z) (get_or b.args.leaf-values.now n +0))
     (omega (arith, c.before.before.table-index.ensures)))

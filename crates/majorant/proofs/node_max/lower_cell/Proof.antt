@@ -82,8 +82,8 @@ leaf-max-requires c κs =
     let d = m.before.before in
     let b = start d in
     let l = child_link (links b) (values b) (slot b) (entry d ∙ m.j.given.1) in
-    let h = b.pre.0.linked (slot b) in
-    (omega arith, b.pre.1, b.pre.3)
+    let h = b.requires.0.linked (slot b) in
+    (omega arith, b.requires.1, b.requires.3)
 
 returns : tie.Need-returns
 returns c =
@@ -103,7 +103,7 @@ returns-2 c =
     let e = m.before.before in
     let b = start e in
     let q = entry e ∙ m.v.given.1 in (
-      cell_tile (below b) b.args.x b.args.y b.args.z (same b) b.pre.1 q b.pre.3 c.greater.ensures,
+      cell_tile (below b) b.args.x b.args.y b.args.z (same b) b.requires.1 q b.requires.3 c.greater.ensures,
       λ w. equal refl refl (counted b lowers_only q) (counted b leaves_only q) ((at-tally (at-index e)).tally.ensures w),
     )
 
@@ -121,7 +121,7 @@ lower-cell-spec =
     (λ c. (slot-in c.before.before).1)
     (λ c κs. search rules)
     (λ c. search rules)
-    (λ c κs. let m = c.before.before in let b = start m.before.before in (b.pre.1, b.pre.2))
+    (λ c κs. let m = c.before.before in let b = start m.before.before in (b.requires.1, b.requires.2))
     (λ c. omega arith)
     leaf-max-requires
     (λ c. search rules)

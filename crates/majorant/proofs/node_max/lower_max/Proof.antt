@@ -44,5 +44,5 @@ lower-max-spec =
     (λ c κs. (omega arith, omega arith, omega arith, omega arith))
     lower-plane-requires
     (λ c. let k = (at-cell c).cell-end.ensures in omega arith)
-    (λ c. turn (at-loop c).before.loop.invariant (at-cell c).cell-end.ensures (start (at-loop c)).pre.2.0 c.lower-plane.ensures)
+    (λ c. turn (at-loop c).before.loop.invariant (at-cell c).cell-end.ensures (start (at-loop c)).requires.2.0 c.lower-plane.ensures)
     (λ c. till c.before.loop.invariant c.loop-test.false))

@@ -81,7 +81,7 @@ lower-max-requires c κs =
     let m = at-child c in
     let d = m.before.before in
     let b = start d in
-    let p = b.pre in
+    let p = b.requires in
     let l = child_link (links b) (values b) (slot b) (entry d ∙ m.j.given.1) in
     let h = p.0.tables.upper_linked (slot b) in
     (record { room = omega arith; pair = p.0.tables.lower; linked = p.0.tables.lower_linked }, p.1, p.2, p.3)
@@ -104,7 +104,7 @@ returns-2 c =
     let e = m.before.before in
     let b = start e in
     let q = entry e ∙ m.v.given.1 in (
-      cell_tile (below b) b.args.x b.args.y b.args.z (same b) b.pre.1 q b.pre.3 c.greater.ensures,
+      cell_tile (below b) b.args.x b.args.y b.args.z (same b) b.requires.1 q b.requires.3 c.greater.ensures,
       λ w. equal refl (counted b uppers_only q) (counted b lowers_only q) (counted b leaves_only q) ((at-tally (at-index e)).tally.ensures w),
     )
 

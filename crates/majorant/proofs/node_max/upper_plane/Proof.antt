@@ -44,5 +44,5 @@ upper-plane-spec =
     (λ c κs. (omega arith, omega arith, omega arith, omega arith))
     upper-row-requires
     (λ c. let k = (at-cell c).cell-end.ensures in omega arith)
-    (λ c. turn (at-loop c).before.loop.invariant (at-cell c).cell-end.ensures (start (at-loop c)).pre.3 c.upper-row.ensures)
+    (λ c. turn (at-loop c).before.loop.invariant (at-cell c).cell-end.ensures (start (at-loop c)).requires.3 c.upper-row.ensures)
     (λ c. till c.before.loop.invariant c.loop-test.false))

@@ -44,5 +44,5 @@ upper-row-spec =
     (λ c κs. (omega arith, omega arith, omega arith, omega arith))
     upper-cell-requires
     (λ c. let k = (at-cell c).cell-end.ensures in omega arith)
-    (λ c. turn (at-loop c).before.loop.invariant (at-cell c).cell-end.ensures (start (at-loop c)).pre.4 c.upper-cell.ensures)
+    (λ c. turn (at-loop c).before.loop.invariant (at-cell c).cell-end.ensures (start (at-loop c)).requires.4 c.upper-cell.ensures)
     (λ c. till c.before.loop.invariant c.loop-test.false))

@@ -71,33 +71,33 @@ entry-is c =
 returns : tie.Need-returns
 returns c =
     let s = start c.before in
-    misses (rooted s) s.pre.2 s.pre.3 (inl (sym c.before.is-apart.ensures ∙ c.if1.true))
+    misses (rooted s) s.requires.2 s.requires.3 (inl (sym c.before.is-apart.ensures ∙ c.if1.true))
 
 returns-2 : tie.Need-returns-2
 returns-2 c =
     let s = start-2 c.before in
-    misses (rooted s) s.pre.2 s.pre.3 (inr (inl (sym c.before.is-apart2.ensures ∙ c.if2.true)))
+    misses (rooted s) s.requires.2 s.requires.3 (inr (inl (sym c.before.is-apart2.ensures ∙ c.if2.true)))
 
 returns-3 : tie.Need-returns-3
 returns-3 c =
     let s = start-3 c.before in
-    misses (rooted s) s.pre.2 s.pre.3 (inr (inr (sym c.before.is-apart3.ensures ∙ c.if3.true)))
+    misses (rooted s) s.requires.2 s.requires.3 (inr (inr (sym c.before.is-apart3.ensures ∙ c.if3.true)))
 
 upper-max-requires : tie.Need-upper-max-requires
 upper-max-requires c κs =
     let k = at-child c in
     let e = at_entry k in
     let b = start-5 e in
-    let s = b.pre.0 in
+    let s = b.requires.0 in
     let p = clipped (touched (at-tests e)) c.before.before.before.intersect-bounds.ensures
     c.before.before.intersect-bounds2.ensures c.before.intersect-bounds3.ensures in (
       record {
         room = child_in_lem (rooted b) (sym k.before.k.given.1 ∙ entry-is e);
         tables = record { upper = s.upper; lower = s.lower; upper_linked = s.upper_linked; lower_linked = s.lower_linked };
       },
-      part b.pre.2 p,
-      part_in b.pre.2 p,
-      most_not_below b.pre.3.most,
+      part b.requires.2 p,
+      part_in b.requires.2 p,
+      most_not_below b.requires.3.most,
     )
 
 returns-4 : tie.Need-returns-4
@@ -106,8 +106,8 @@ returns-4 c =
     let b = start-5 e in
     let t = touched (at-tests e) in
     let r = rooted b in
-    let f = b.pre.2 in
-    let v = b.pre.3 in
+    let f = b.requires.2 in
+    let v = b.requires.3 in
     ⊎_elim
     (λ w. step_as r f v w.9 w.8
     (meets_child r f v (sym w.1.given.1 ∙ entry-is e) (clipped t w.3.ensures w.4.ensures w.5.ensures)
@@ -127,18 +127,18 @@ cover-spec =
     (λ c. omega arith)
     (λ c. omega arith)
     (λ c. omega arith)
-    (λ c. let s = start c.before in omega (arith, s.pre.0.blocks, s.pre.1))
+    (λ c. let s = start c.before in omega (arith, s.requires.0.blocks, s.requires.1))
     (λ c κs. (start c.before.before).requires.2.y_some)
     returns-2
     (λ c. omega arith)
     (λ c. omega arith)
     (λ c. omega arith)
-    (λ c. let s = start-2 c.before in omega (arith, s.pre.0.blocks, s.pre.1))
+    (λ c. let s = start-2 c.before in omega (arith, s.requires.0.blocks, s.requires.1))
     (λ c κs. (start-2 c.before.before).requires.2.z_some)
     returns-3
     (λ c. omega arith)
     (λ c. (start-4 c.before).requires.1)
-    (λ c. let s = start-4 c.before in omega (arith, s.pre.1, s.good))
+    (λ c. let s = start-4 c.before in omega (arith, s.requires.1, s.good))
     (λ c. value_in_lem (rooted (start-4 c.before.before)))
     (λ c κs. search rules)
     (λ c. search rules)
@@ -149,5 +149,5 @@ cover-spec =
     upper-max-requires
     (λ c. search rules)
     (λ c κs. search rules)
-    (λ c. let b = start-5 c.before.before in omega (arith, b.pre.3.small, b.pre.1, b.good))
+    (λ c. let b = start-5 c.before.before in omega (arith, b.requires.3.small, b.requires.1, b.good))
     returns-4)

@@ -51,7 +51,7 @@ reads_fit : (c : tie.After-shared-slice-known7) (k : Coord) → T (fits binary32
 reads_fit c k =
     let a = (begin c).args in
     let u = at_upper_lem c in
-    read_fits (grid (begin c)) k (yes (begin c).well-formed.0.1)
+    read_fits (grid (begin c)) k (yes (begin c).well_formed.0.1)
     (fine a.root-values.now u.before.before.shared-slice-known2.given) (fine a.upper-values.now u.shared-slice-known4.given)
     (fine a.lower-values.now c.before.shared-slice-known6.given) (fine a.leaf-values.now c.shared-slice-known7.given)
 

@@ -57,8 +57,8 @@ ended c =
     let l = at_end c in
     let b = start l in
     record {
-      sound = b.pre.0;
-      full = b.pre.1;
+      sound = b.requires.0;
+      full = b.requires.1;
       all =
           subst (λ (n : ℕ). CoveredIn (grid b) n b.args.x b.args.y b.args.z (held c).maximum (held c).blocks) (all-gone l)
           l.before.loop.inv.1;
@@ -79,7 +79,7 @@ cover-requires : tie.Need-cover-requires invariant-loop decreases-loop
 cover-requires c κs =
     let t = c.before in
     let b = begin t.before.before in
-    (b.pre.0, t.loop-test.true, b.pre.1, t.before.loop.invariant.1)
+    (b.requires.0, t.loop-test.true, b.requires.1, t.before.loop.invariant.1)
 
 loop-again : tie.Need-loop-preserved invariant-loop decreases-loop
 loop-again c = (omega arith, c.cover.ensures.0, counted_next c.before.before.before.loop.invariant.2 c.cover.ensures.1 c.cover.ensures.2)
@@ -119,9 +119,9 @@ roots-max-spec =
     (λ c. omega arith)
     loop-again
     (λ c κs. search rules)
-    (λ c κs. let b = start c.before.before in (b.pre.1.x_some, b.pre.1.x_top))
-    (λ c κs. let b = start c.before.before.before in (b.pre.1.y_some, b.pre.1.y_top))
-    (λ c κs. let b = start (at-tally-2 c).before.before in (b.pre.1.z_some, b.pre.1.z_top))
+    (λ c κs. let b = start c.before.before in (b.requires.1.x_some, b.requires.1.x_top))
+    (λ c κs. let b = start c.before.before.before in (b.requires.1.y_some, b.requires.1.y_top))
+    (λ c κs. let b = start (at-tally-2 c).before.before in (b.requires.1.z_some, b.requires.1.z_top))
     mul-total
     mul-total-2
     (λ c κs. search rules)

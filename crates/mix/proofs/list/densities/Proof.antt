@@ -42,7 +42,7 @@ loop-holds c = let s = start c in filled_none (density s) s.args.points.now s.ar
 
 density-at-requires : tie.Need-density-at-requires invariant-loop decreases-loop
 density-at-requires c κs =
-    let p = (start c.before.before).pre in
+    let p = (start c.before.before).requires in
     (p.0, omega (arith, c.loop-test.true, c.before.loop.invariant.long, p.1))
 
 -- the place of the point lies in the list

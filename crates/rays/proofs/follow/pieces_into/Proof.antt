@@ -78,7 +78,7 @@ slice-write-figures : tie.Need-slice-write-figures invariant-loop decreases-loop
 slice-write-figures c = c.if3.false
 
 add-i : tie.Need-overflow-add-i invariant-loop decreases-loop
-add-i c = let t = piece-at c in omega (arith, t.before.before.loop-test.taken, (start (head t)).fits.most.fits)
+add-i c = let t = piece-at c in omega (arith, t.before.before.loop-test.taken, (start (head t)).ranges.most.fits)
 
 loop-less : tie.Need-loop-smaller invariant-loop decreases-loop
 loop-less c = omega (arith, (piece-at c).before.before.loop-test.true)

@@ -38,7 +38,7 @@ returns c =
     let told = at_told c in
     let t = as_track (start told).args.t in
     let forth = step_forth t.step (step_fits c.before.before) c.before.if1.true in
-    ap (λ (z : ℤ). eqb (nat_abs z + 1) t.cells) (seen (cell-fits told)) ∙ leaves_forth t.cell t.cells (sound_cell t (start told).pre.fine)
+    ap (λ (z : ℤ). eqb (nat_abs z + 1) t.cells) (seen (cell-fits told)) ∙ leaves_forth t.cell t.cells (sound_cell t (start told).requires.fine)
     ∙ ap (λ (s : ℤ). eq_z (t.cell +ℤ s) (limit s t.cells)) (sym forth)
 
 returns-2 : tie.Need-returns-2

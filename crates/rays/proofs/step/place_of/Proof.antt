@@ -30,7 +30,7 @@ index-of-requires-2 : tie.Need-index-of-requires-2
 index-of-requires-2 c κs = let s = c.before.before.before in held (as_track s.args.y) (y-fits c) s.requires.1.0.fine
 
 index-of-requires-3 : tie.Need-index-of-requires-3
-index-of-requires-3 c κs = let s = from-z c in held (as_track s.args.z) (z-fits c) s.pre.1.1.fine
+index-of-requires-3 c κs = let s = from-z c in held (as_track s.args.z) (z-fits c) s.requires.1.1.fine
 
 returns : tie.Need-returns
 returns c =

@@ -69,17 +69,17 @@ told c = told_of (decoded (at-start (at-known c))).medium (low c) (high c) c.cou
 slice-aggregate-count-classes : tie.Need-slice-aggregate-count-classes
 slice-aggregate-count-classes c =
     let s = at-start c.before in
-    sym (length-take-le (3 * s.args.d.roots) s.args.blocks.now (omega (arith, s.pre.0, s.pre.1)))
+    sym (length-take-le (3 * s.args.d.roots) s.args.blocks.now (omega (arith, s.requires.0, s.requires.1)))
 
 slice-aggregate-count-classes-2 : tie.Need-slice-aggregate-count-classes-2
 slice-aggregate-count-classes-2 c =
     let s = at-start c.before.before in
-    sym (length-take-le s.args.d.roots s.args.links.now (omega (arith, s.pre.0, s.pre.2)))
+    sym (length-take-le s.args.d.roots s.args.links.now (omega (arith, s.requires.0, s.requires.2)))
 
 slice-aggregate-count-classes-3 : tie.Need-slice-aggregate-count-classes-3
 slice-aggregate-count-classes-3 c =
     let s = at-start c.before.before.before in
-    sym (length-take-le s.args.d.roots s.args.values.now (omega (arith, s.pre.0, s.pre.3)))
+    sym (length-take-le s.args.d.roots s.args.values.now (omega (arith, s.requires.0, s.requires.3)))
 
 -- ---- the ways out: a refusal, and the lines
 returns : tie.Need-returns

@@ -12,7 +12,7 @@ returns : tie.Need-returns
 returns c =
     let p = c.before.before in
     let b = at-blank p in
-    (put_coordinate b.before.before.before.fits.n (wrote b.put_byte.ensures) (wrote p.put-signed.ensures)).is
+    (put_coordinate b.before.before.before.ranges.n (wrote b.put_byte.ensures) (wrote p.put-signed.ensures)).is
 
 pub put-coordinate-spec : {M : Type 1} → statement M
 put-coordinate-spec =

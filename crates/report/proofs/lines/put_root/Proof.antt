@@ -47,7 +47,7 @@ returns c =
     let a = (at-start w).args in
     (wrote w.put-bytes.ensures
     then held_triple (fit b) (wrote b.put_triple.ensures)
-    then read_bits a.values.now a.i (omega (arith, (at-start w).pre)) (wrote v.put_bits.ensures)
+    then read_bits a.values.now a.i (omega (arith, (at-start w).requires)) (wrote v.put_bits.ensures)
     then wrote p.put_byte.ensures).is
 
 pub put-root-spec : {M : Type 1} → statement M

@@ -24,7 +24,7 @@ returns-2 c = let s = (at-start c.before).args in none_far s.a s.b s.s c.if2.tru
 returns-3 : tie.Need-returns-3
 returns-3 c =
     let s = at-start c.before in
-    some_far s.args.a s.args.b s.args.s s.pre.0 c.if2.false c.before.if1.false
+    some_far s.args.a s.args.b s.args.s s.requires.0 c.if2.false c.before.if1.false
 
 pub below-shifted-spec : {M : Type 1} → statement M
 below-shifted-spec = tie.close (tie.spec (λ c κs. search rules) mul-result returns returns-2 returns-3)

@@ -35,7 +35,7 @@ great c = let g = (at-start c).args.g in g.digits * 2 ^ g.place
 
 -- k times the digits of the greatest is small, and the test is that of the two numbers
 most : (c : tie.In-loop invariant-loop decreases-loop) → c.before.loop.k * (at-start c.before).args.g.digits < 2 ^ 28
-most c = let s = at-start c.before in times_most c.before.loop.k s.args.g.digits c.loop-test.true s.pre.1
+most c = let s = at-start c.before in times_most c.before.loop.k s.args.g.digits c.loop-test.true s.requires.1
 
 same : (c : tie.After-at-most invariant-loop decreases-loop)
     → let t = (at_turn (at_test c)).before in c.at_most.result ≡ leb (small t * 9) (t.loop.k * great t)
@@ -49,7 +49,7 @@ unfolding grade
 loop-holds c = (omega arith, omega arith, refl, refl)
 
 at-most-requires : tie.Need-at-most-requires invariant-loop decreases-loop
-at-most-requires c κs = (omega (arith, (at-start (at_turn c).before).pre), most (at_turn c))
+at-most-requires c κs = (omega (arith, (at-start (at_turn c).before).requires), most (at_turn c))
 
 returns : tie.Need-returns invariant-loop decreases-loop
 returns c =

@@ -20,7 +20,7 @@ returns c =
     let v = (at-start c).args.v in
     let b = (at-bits-of c).bits_of.ensures in
     let whole = ap (λ (n : ℕ). digits_of binary32 n * 2 ^ place_of binary32 n) b in (
-      (λ i. c.before.digits.ensures i * 2 ^ c.place.ensures i) ∙ whole ∙ units_bits v (yes (at-start c).well-formed.0.1) (at-start c).requires,
+      (λ i. c.before.digits.ensures i * 2 ^ c.place.ensures i) ∙ whole ∙ units_bits v (yes (at-start c).well_formed.0.1) (at-start c).requires,
       subst (λ (n : ℕ). n < 2 ^ 24) (sym c.before.digits.ensures) (digits_lt (at-bits-of c).bits_of.result),
     )
 

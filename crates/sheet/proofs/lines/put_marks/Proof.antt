@@ -38,7 +38,7 @@ mark-requires : tie.Need-mark-requires invariant-loop decreases-loop
 mark-requires c κs =
     let t = at_turn c in
     let s = at-start t.before in
-    (is_true _ (every_at finite s.args.row.now (yes s.pre.0) t.before.loop.i nan t.loop-test.taken), s.pre.1)
+    (is_true _ (every_at finite s.args.row.now (yes s.requires.0) t.before.loop.i nan t.loop-test.taken), s.requires.1)
 
 loop-again : tie.Need-loop-preserved invariant-loop decreases-loop
 loop-again c =

@@ -38,7 +38,7 @@ row c = c.before.loop.left - 1
 room : (c : tie.In-loop invariant-loop decreases-loop) → let s = (at-start c.before).args in row c * s.x + s.x ≤ length s.layer.now
 room c =
     let s = at-start c.before in
-    le_trans (place_in s.args.x s.args.y (row c) (omega (arith, c.before.loop.invariant.0))) s.pre.0
+    le_trans (place_in s.args.x s.args.y (row c) (omega (arith, c.before.loop.invariant.0))) s.requires.0
 
 loop-holds : tie.Need-loop-init invariant-loop decreases-loop
 loop-holds c = (omega arith, refl)
@@ -48,8 +48,8 @@ put-row-requires c κs =
     let t = at_turn c in
     let s = at-start t.before in
     let start = row t * s.args.x in
-    let rest = every_drop finite start s.args.layer.now (yes s.pre.1) in
-    (is_true _ (every_take finite (start + s.args.x - start) _ rest), s.pre.2)
+    let rest = every_drop finite start s.args.layer.now (yes s.requires.1) in
+    (is_true _ (every_take finite (start + s.args.x - start) _ rest), s.requires.2)
 
 loop-again : tie.Need-loop-preserved invariant-loop decreases-loop
 loop-again c =

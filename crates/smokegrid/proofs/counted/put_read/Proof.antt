@@ -26,7 +26,7 @@ slice-write-counts-5 c = simp length-set (omega (arith, size _ 5 0 c.requires))
 
 -- a word is below 2^64
 low_fits : (c : tie.Start) → c.args.c.low < 18446744073709551616
-low_fits c = omega (arith, c.well-formed)
+low_fits c = omega (arith, c.well_formed)
 
 returns : tie.Need-returns
 returns c = five _ _ _ _ _ _ c.requires

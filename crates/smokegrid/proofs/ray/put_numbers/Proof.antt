@@ -47,7 +47,7 @@ returns c =
     (get_or r.cells 0 0) (get_or r.cells 1 0) (get_or r.cells 2 0)
     third.before.before.to.given third.before.to2.given third.to3.given
     sixth.before.before.to4.given sixth.before.to5.given sixth.to6.given
-    s.pre.1.0 s.pre.1.1.0 s.pre.1.1.1 s.pre.0
+    s.requires.1.0 s.requires.1.1.0 s.requires.1.1.1 s.requires.0
 
 pub put-numbers-spec : {M : Type 1} → statement M
 put-numbers-spec =

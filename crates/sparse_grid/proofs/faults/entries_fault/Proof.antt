@@ -31,7 +31,7 @@ fault c k = let a = (at-start c).args in entry_fault a.count (get_or a.links.now
 -- the fault of the entry that was read
 slot-in : (c : tie.After-entry-fault invariant-loop decreases-loop)
     → let p = (at_turn c).before in p.loop.i < length (at-start p).args.values.now
-slot-in c = omega (arith, (at_turn c).loop-test.true, (at-start (at_turn c).before).pre)
+slot-in c = omega (arith, (at_turn c).loop-test.true, (at-start (at_turn c).before).requires)
 
 here : (c : tie.After-entry-fault invariant-loop decreases-loop)
     → let p = (at_turn c).before in fault p p.loop.i ≡ c.entry-fault.result

@@ -27,7 +27,7 @@ same_x : (c : tie.Else1) → let a = (start c.before).args in eq_z a.root.x a.x 
 same_x c = sym (eqb_bits (fit c.before).x (start c.before).ranges.x) ∙ eq-eqb _ _ c.if1.false
 
 same_y : (c : tie.Else2) → let a = (start (at_x c.before)).args in eq_z a.root.y a.y ≡ true
-same_y c = let p = at_x c.before in sym (eqb_bits (fit p).y (start p).fits.y) ∙ eq-eqb _ _ c.if2.false
+same_y c = let p = at_x c.before in sym (eqb_bits (fit p).y (start p).ranges.y) ∙ eq-eqb _ _ c.if2.false
 
 -- ---- the ways out
 returns : tie.Need-returns
@@ -42,14 +42,14 @@ returns-2 c =
     let p = at_x c.before in
     let a = (start p).args in
     stop_2 (eq_z a.root.x a.x) (eq_z a.root.y a.y) (eq_z a.root.z a.z) (same_x c.before.before.before)
-    (sym (eqb_bits (fit p).y (start p).fits.y) ∙ ne_eqb _ _ c.if2.true)
+    (sym (eqb_bits (fit p).y (start p).ranges.y) ∙ ne_eqb _ _ c.if2.true)
 
 returns-3 : tie.Need-returns-3
 returns-3 c =
     let q = at_y c in
     let p = at_x q in
     let a = (start p).args in
-    eqb_bits (fit p).z (start p).fits.z
+    eqb_bits (fit p).z (start p).ranges.z
     ∙ go_3 (eq_z a.root.x a.x) (eq_z a.root.y a.y) (eq_z a.root.z a.z) (same_x q.before.before) (same_y c.before.before)
 
 pub is-block-spec : {M : Type 1} → statement M

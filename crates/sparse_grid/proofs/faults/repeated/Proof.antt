@@ -44,7 +44,7 @@ same : (c : tie.After-is-block invariant-loop decreases-loop)
 same c =
     let p = (at_turn c).before in
     sym (c.is_Block.ensures
-    ∙ compared {t = roots (start p)} (record { is = (start p).pre.1 }) (fit (at-root p)) (record { is = c.before.root-at.ensures }))
+    ∙ compared {t = roots (start p)} (record { is = (start p).requires.1 }) (fit (at-root p)) (record { is = c.before.root-at.ensures }))
 
 -- ---- the loop
 loop-holds : tie.Need-loop-init invariant-loop decreases-loop

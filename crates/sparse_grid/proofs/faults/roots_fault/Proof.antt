@@ -44,7 +44,7 @@ fault c = fault_at (roots c) (at-start c).args.uppers
 -- ---- what is known there
 has : (c : tie.In-loop invariant-loop decreases-loop) → let t = roots c.before in Has t.blocks t.links t.values c.before.loop.i
 has c =
-    let p = (at-start c.before).pre in
+    let p = (at-start c.before).requires in
     record {
       block = omega (arith, c.loop-test.true, p.0);
       link = c.loop-test.true;

@@ -62,7 +62,7 @@ loop-holds c =
     (omega arith, ap (λ (k : ℕ). root_from (blocks c) k 0 (block c)) e)
 
 stands-at-requires : tie.Need-stands-at-requires invariant-loop decreases-loop
-stands-at-requires c κs = omega (arith, c.loop-test.true, (at-start c.before.before).pre)
+stands-at-requires c κs = omega (arith, c.loop-test.true, (at-start c.before.before).requires)
 
 loop-again : tie.Need-loop-preserved invariant-loop decreases-loop
 loop-again c =

@@ -47,14 +47,14 @@ returns-2 c =
     let p = (at_x c.before).before in
     let a = p.args in
     stop_2 (eq_z (block p).x a.x) (eq_z (block p).y a.y) (eq_z (block p).z a.z) (same_x c.before.before)
-    (sym (eqb_bits (fit-y c.before) p.fits.y) ∙ ne_eqb _ _ c.if2.true)
+    (sym (eqb_bits (fit-y c.before) p.ranges.y) ∙ ne_eqb _ _ c.if2.true)
 
 returns-3 : tie.Need-returns-3
 returns-3 c =
     let q = at_y c in
     let p = (at_x q).before in
     let a = p.args in
-    eqb_bits (fit-z c) p.fits.z
+    eqb_bits (fit-z c) p.ranges.z
     ∙ go_3 (eq_z (block p).x a.x) (eq_z (block p).y a.y) (eq_z (block p).z a.z) (same_x q.before) (same_y c.before)
 
 pub stands-at-spec : {M : Type 1} → statement M
