@@ -1,5 +1,6 @@
 // How many cells the world box is cut into on each axis, and the tests that everything over a table of cells begins with.
 #![tactic(auto)]
+
 ghost use Rattle.std.specs.Prelude.{◌≡◌};
 ghost use Rattle.cells.specs.Cells.{cells, some_cells, cells_fault, table_fault, table_length};
 

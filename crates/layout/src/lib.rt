@@ -1,6 +1,7 @@
 // Little-endian fields of a byte string, and the mask bits of a node.
 // `u32_at` and kin count a byte past the end as 0, for the loops over a node's slots; `read_u32` and kin refuse a field that passes the end.
 #![tactic(auto)]
+
 ghost use Rattle.std.specs.Prelude.{◌≡◌, ◌+◌, ◌*◌, ◌<◌, ◌≤◌, leb, pos, get_or, length};
 ghost use Rattle.float.specs.Zero.{+0};
 ghost use Rattle.refusals.specs.Results.{said};

@@ -1,5 +1,6 @@
 // Fills of lent slices: every element is set to zero.
 #![tactic(auto)]
+
 ghost use Rattle.std.specs.Prelude.{◌≡◌, pos, length, replicate};
 ghost use Rattle.float.specs.Zero.{+0};
 

@@ -6,13 +6,13 @@ use Rattle.layout.proofs.Laws.{past_end}
 use Rattle.layout.proofs.byte_after.Statement.{statement}
 use Rattle.layout.proofs.byte_after.Tie as tie
 
-returns : tie.Need-returns
+returns : tie.Need-returns-then-n-at
 returns c = let a = c.before.before.args in (past_end a.b.now (a.at + a.k) (omega arith), omega arith)
 
-returns-2 : tie.Need-returns-2
+returns-2 : tie.Need-returns-then-n-at-2
 returns-2 c = let a = c.before.before.before.args in (past_end a.b.now (a.at + a.k) (omega arith), omega arith)
 
-pub byte-after-spec : {M : Type 1} → statement M
-byte-after-spec =
+pub byte_after_spec : {M : Type 1} → statement M
+byte_after_spec =
     tie.close
     (tie.spec returns (λ c. search rules) returns-2 (λ c. search rules) (λ c. search rules) (λ c κs. search rules) (λ c. search rules))

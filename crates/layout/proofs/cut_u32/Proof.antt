@@ -9,8 +9,8 @@ use Rattle.layout.proofs.cut_u32.Tie as tie
 returns : tie.Need-returns
 returns c = rw le_four (simp add_assoc (omega arith))
 
-pub cut-u32-spec : {M : Type 1} → statement M
-cut-u32-spec =
+pub cut_u32_spec : {M : Type 1} → statement M
+cut_u32_spec =
     tie.close
     (tie.spec
     (λ c κs. search rules)

@@ -6,7 +6,7 @@ use Rattle.layout.proofs.f32_at.Statement.{statement}
 use Rattle.layout.proofs.f32_at.Tie as tie
 
 returns : tie.Need-returns
-returns c = c.float_of.ensures ∙ ap (of_bits binary32) c.before.u32-at.ensures
+returns c = c.float_of.ensures ∙ ap (of_bits binary32) c.before.u32_at.ensures
 
-pub f32-at-spec : {M : Type 1} → statement M
-f32-at-spec = tie.close (tie.spec (λ c κs. search rules) (λ c κs. search rules) returns)
+pub f32_at_spec : {M : Type 1} → statement M
+f32_at_spec = tie.close (tie.spec (λ c κs. search rules) (λ c κs. search rules) returns)

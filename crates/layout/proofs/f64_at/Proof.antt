@@ -6,7 +6,7 @@ use Rattle.layout.proofs.f64_at.Statement.{statement}
 use Rattle.layout.proofs.f64_at.Tie as tie
 
 returns : tie.Need-returns
-returns c = c.f64-of.ensures ∙ ap (of_bits binary64) c.before.u64-at.ensures
+returns c = c.f64_of.ensures ∙ ap (of_bits binary64) c.before.u64_at.ensures
 
-pub f64-at-spec : {M : Type 1} → statement M
-f64-at-spec = tie.close (tie.spec (λ c κs. search rules) (λ c κs. search rules) returns)
+pub f64_at_spec : {M : Type 1} → statement M
+f64_at_spec = tie.close (tie.spec (λ c κs. search rules) (λ c κs. search rules) returns)

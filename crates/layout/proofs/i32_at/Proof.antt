@@ -8,7 +8,7 @@ use Rattle.layout.proofs.i32_at.Statement.{statement}
 use Rattle.layout.proofs.i32_at.Tie as tie
 
 returns : tie.Need-returns
-returns c = answered w32 _ _ c.signed-u32.type-inv (c.signed-u32.ensures ∙ ap (signed 32) c.before.u32-at.ensures)
+returns c = answered w32 _ _ c.signed_u32.type_inv (c.signed_u32.ensures ∙ ap (signed 32) c.before.u32_at.ensures)
 
-pub i32-at-spec : {M : Type 1} → statement M
-i32-at-spec = tie.close (tie.spec (λ c κs. search rules) (λ c κs. search rules) returns)
+pub i32_at_spec : {M : Type 1} → statement M
+i32_at_spec = tie.close (tie.spec (λ c κs. search rules) (λ c κs. search rules) returns)

@@ -8,7 +8,7 @@ use Rattle.layout.proofs.i64_at.Statement.{statement}
 use Rattle.layout.proofs.i64_at.Tie as tie
 
 returns : tie.Need-returns
-returns c = answered w64 _ _ c.signed-u64.type-inv (c.signed-u64.ensures ∙ ap (signed 64) c.before.u64-at.ensures)
+returns c = answered w64 _ _ c.signed_u64.type_inv (c.signed_u64.ensures ∙ ap (signed 64) c.before.u64_at.ensures)
 
-pub i64-at-spec : {M : Type 1} → statement M
-i64-at-spec = tie.close (tie.spec (λ c κs. search rules) (λ c κs. search rules) returns)
+pub i64_at_spec : {M : Type 1} → statement M
+i64_at_spec = tie.close (tie.spec (λ c κs. search rules) (λ c κs. search rules) returns)

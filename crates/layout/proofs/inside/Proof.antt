@@ -5,11 +5,11 @@ use Rattle.layout.proofs.Laws.{end_test, past_test}
 use Rattle.layout.proofs.inside.Statement.{statement}
 use Rattle.layout.proofs.inside.Tie as tie
 
-returns : tie.Need-returns
+returns : tie.Need-returns-then-n-width
 returns c = let a = c.before.args in past_test (a.at + a.width) a.n (omega arith)
 
-returns-2 : tie.Need-returns-2
-returns-2 c = end_test _ _ _ c.if1.false
+returns-2 : tie.Need-returns
+returns-2 c = end_test _ _ _ c.if-n-width.false
 
-pub inside-spec : {M : Type 1} → statement M
-inside-spec = tie.close (tie.spec returns returns-2)
+pub inside_spec : {M : Type 1} → statement M
+inside_spec = tie.close (tie.spec returns returns-2)

@@ -8,5 +8,5 @@ use Rattle.layout.proofs.mask_bit.Tie as tie
 returns : tie.Need-returns
 returns c = ap (λ (n : ℕ). n / 2 ^ (c.before.before.args.i % 8) % 2) c.byte_after.ensures.0
 
-pub mask-bit-spec : {M : Type 1} → statement M
-mask-bit-spec = tie.close (tie.spec (λ c κs. search rules) (λ c. search rules) (λ c. search rules) returns)
+pub mask_bit_spec : {M : Type 1} → statement M
+mask_bit_spec = tie.close (tie.spec (λ c κs. search rules) (λ c. search rules) (λ c. search rules) returns)

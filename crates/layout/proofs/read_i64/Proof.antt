@@ -8,11 +8,11 @@ use Rattle.layout.proofs.Laws.{read_value, read_refused}
 use Rattle.layout.proofs.read_i64.Statement.{statement}
 use Rattle.layout.proofs.read_i64.Tie as tie
 
-returns : tie.Need-returns
-returns c = read_value (pos 0) i64_at 8 _ _ c.before.before.inside.ensures c.before.if1.true (answered w64 _ _ c.i64-at.type-inv c.i64-at.ensures)
+returns : tie.Need-returns-then-inside
+returns c = read_value (pos 0) i64_at 8 _ _ c.before.before.inside.ensures c.before.if-inside.true (answered w64 _ _ c.i64_at.type_inv c.i64_at.ensures)
 
-returns-2 : tie.Need-returns-2
-returns-2 c = read_refused (pos 0) i64_at 8 _ _ c.before.inside.ensures c.if1.false
+returns-2 : tie.Need-returns
+returns-2 c = read_refused (pos 0) i64_at 8 _ _ c.before.inside.ensures c.if-inside.false
 
-pub read-i64-spec : {M : Type 1} → statement M
-read-i64-spec = tie.close (tie.spec (λ c κs. search rules) (λ c κs. search rules) returns returns-2)
+pub read_i64_spec : {M : Type 1} → statement M
+read_i64_spec = tie.close (tie.spec (λ c κs. search rules) (λ c κs. search rules) returns returns-2)

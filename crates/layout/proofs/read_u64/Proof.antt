@@ -5,11 +5,11 @@ use Rattle.layout.proofs.Laws.{read_value, read_refused}
 use Rattle.layout.proofs.read_u64.Statement.{statement}
 use Rattle.layout.proofs.read_u64.Tie as tie
 
-returns : tie.Need-returns
-returns c = read_value 0 u64_at 8 _ _ c.before.before.inside.ensures c.before.if1.true c.u64-at.ensures
+returns : tie.Need-returns-then-inside
+returns c = read_value 0 u64_at 8 _ _ c.before.before.inside.ensures c.before.if-inside.true c.u64_at.ensures
 
-returns-2 : tie.Need-returns-2
-returns-2 c = read_refused 0 u64_at 8 _ _ c.before.inside.ensures c.if1.false
+returns-2 : tie.Need-returns
+returns-2 c = read_refused 0 u64_at 8 _ _ c.before.inside.ensures c.if-inside.false
 
-pub read-u64-spec : {M : Type 1} → statement M
-read-u64-spec = tie.close (tie.spec (λ c κs. search rules) (λ c κs. search rules) returns returns-2)
+pub read_u64_spec : {M : Type 1} → statement M
+read_u64_spec = tie.close (tie.spec (λ c κs. search rules) (λ c κs. search rules) returns returns-2)

@@ -7,9 +7,9 @@ use Rattle.layout.proofs.u16_at.Statement.{statement}
 use Rattle.layout.proofs.u16_at.Tie as tie
 
 returns : tie.Need-returns
-returns c = rw le_two (omega (arith, rw add-zero at c.before.byte_after.ensures.0))
+returns c = rw le_two (omega (arith, rw add-zero at c.before.byte_after-low.ensures.0))
 
-pub u16-at-spec : {M : Type 1} → statement M
-u16-at-spec =
+pub u16_at_spec : {M : Type 1} → statement M
+u16_at_spec =
     tie.close
     (tie.spec (λ c κs. search rules) (λ c κs. search rules) (λ c. search rules) (λ c. search rules) (λ c. search rules) returns)

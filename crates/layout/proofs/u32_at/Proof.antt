@@ -5,12 +5,12 @@ use Rattle.layout.proofs.Laws.{within}
 use Rattle.layout.proofs.u32_at.Statement.{statement}
 use Rattle.layout.proofs.u32_at.Tie as tie
 
-whole-u32-requires : tie.Need-whole-u32-requires
-whole-u32-requires c κs = within _ _ c.before.inside.ensures c.if1.true
+whole-u32-requires : tie.Need-whole_u32-requires
+whole-u32-requires c κs = within _ _ c.before.inside.ensures c.if-inside.true
 
-returns-2 : tie.Need-returns-2
-returns-2 c = rw (add-zero) at c.cut-u32.ensures
+returns-2 : tie.Need-returns
+returns-2 c = rw (add-zero) at c.cut_u32.ensures
 
-pub u32-at-spec : {M : Type 1} → statement M
-u32-at-spec =
+pub u32_at_spec : {M : Type 1} → statement M
+u32_at_spec =
     tie.close (tie.spec (λ c κs. search rules) whole-u32-requires (λ c. search rules) (λ c κs. search rules) returns-2)

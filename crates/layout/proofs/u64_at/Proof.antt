@@ -5,14 +5,14 @@ use Rattle.layout.proofs.Laws.{within, cut_halves}
 use Rattle.layout.proofs.u64_at.Statement.{statement}
 use Rattle.layout.proofs.u64_at.Tie as tie
 
-whole-u64-requires : tie.Need-whole-u64-requires
-whole-u64-requires c κs = within _ _ c.before.inside.ensures c.if1.true
+whole-u64-requires : tie.Need-whole_u64-requires
+whole-u64-requires c κs = within _ _ c.before.inside.ensures c.if-inside.true
 
-returns-2 : tie.Need-returns-2
-returns-2 c = c.joined.ensures ∙ cut_halves _ _ _ _ c.before.before.cut-u32.ensures c.before.cut-u322.ensures
+returns-2 : tie.Need-returns
+returns-2 c = c.joined.ensures ∙ cut_halves _ _ _ _ c.before.before.cut_u32.ensures c.before.cut_u32-2.ensures
 
-pub u64-at-spec : {M : Type 1} → statement M
-u64-at-spec =
+pub u64_at_spec : {M : Type 1} → statement M
+u64_at_spec =
     tie.close
     (tie.spec
     (λ c κs. search rules)

@@ -8,8 +8,8 @@ use Rattle.layout.proofs.whole_u32.Tie as tie
 returns : tie.Need-returns
 returns c = rw le_four (omega arith)
 
-pub whole-u32-spec : {M : Type 1} → statement M
-whole-u32-spec =
+pub whole_u32_spec : {M : Type 1} → statement M
+whole_u32_spec =
     tie.close
     (tie.spec
     (λ c. search rules)

@@ -8,7 +8,7 @@ use Rattle.layout.proofs.whole_u64.Tie as tie
 returns : tie.Need-returns
 returns c = rw u64_halves (omega arith)
 
-pub whole-u64-spec : {M : Type 1} → statement M
-whole-u64-spec =
+pub whole_u64_spec : {M : Type 1} → statement M
+whole_u64_spec =
     tie.close
     (tie.spec (λ c κs. search rules) (λ c. search rules) (λ c κs. search rules) (λ c κs. search rules) returns)

@@ -9,26 +9,26 @@ use Rattle.lent.proofs.Fill.{Filled, fill_none, fill_more, fill_all}
 use Rattle.lent.proofs.zero_f32.Statement.{statement}
 use Rattle.lent.proofs.zero_f32.Tie as tie
 
-abbrev invariant-loop : tie.invariant-loop
+abbrev invariant-loop : tie.invariant-loop-i
 invariant-loop values₀ i₀ values i = Filled +0 values₀ i values
 
-abbrev decreases-loop : tie.decreases-loop
+abbrev decreases-loop : tie.decreases-loop-i
 decreases-loop values₀ i₀ values i = length values₀ - i
 
-loop-holds : tie.Need-loop-init invariant-loop decreases-loop
+loop-holds : tie.Need-loop-i-init invariant-loop decreases-loop
 loop-holds c = fill_none
 
-loop-again : tie.Need-loop-preserved invariant-loop decreases-loop
-loop-again c = rw (zero_literal binary32) (fill_more c.before.loop.invariant (omega arith))
+loop-again : tie.Need-loop-i-preserved invariant-loop decreases-loop
+loop-again c = rw (zero_literal binary32) (fill_more c.before.loop-i.invariant (omega arith))
 
-same_length : tie.Need-same-length invariant-loop decreases-loop
-same_length c = c.before.loop.invariant.same
+same_length : tie.Need-shape_of-values invariant-loop decreases-loop
+same_length c = c.before.loop-i.invariant.same
 
 returns : tie.Need-returns invariant-loop decreases-loop
-returns c = fill_all c.before.loop.invariant (omega arith)
+returns c = fill_all c.before.loop-i.invariant (omega arith)
 
-pub zero-f32-spec : {M : Type 1} → statement M
-zero-f32-spec =
+pub zero_f32_spec : {M : Type 1} → statement M
+zero_f32_spec =
     tie.close
     (tie.spec
     invariant-loop

@@ -6,26 +6,26 @@ use Rattle.lent.proofs.Fill.{Filled, fill_none, fill_more, fill_all}
 use Rattle.lent.proofs.zero_u32.Statement.{statement}
 use Rattle.lent.proofs.zero_u32.Tie as tie
 
-abbrev invariant-loop : tie.invariant-loop
+abbrev invariant-loop : tie.invariant-loop-i
 invariant-loop links₀ i₀ links i = Filled 0 links₀ i links
 
-abbrev decreases-loop : tie.decreases-loop
+abbrev decreases-loop : tie.decreases-loop-i
 decreases-loop links₀ i₀ links i = length links₀ - i
 
-loop-holds : tie.Need-loop-init invariant-loop decreases-loop
+loop-holds : tie.Need-loop-i-init invariant-loop decreases-loop
 loop-holds c = fill_none
 
-loop-again : tie.Need-loop-preserved invariant-loop decreases-loop
-loop-again c = fill_more c.before.loop.invariant (omega arith)
+loop-again : tie.Need-loop-i-preserved invariant-loop decreases-loop
+loop-again c = fill_more c.before.loop-i.invariant (omega arith)
 
-same_length : tie.Need-same-length invariant-loop decreases-loop
-same_length c = c.before.loop.invariant.same
+same_length : tie.Need-shape_of-links invariant-loop decreases-loop
+same_length c = c.before.loop-i.invariant.same
 
 returns : tie.Need-returns invariant-loop decreases-loop
-returns c = fill_all c.before.loop.invariant (omega arith)
+returns c = fill_all c.before.loop-i.invariant (omega arith)
 
-pub zero-u32-spec : {M : Type 1} → statement M
-zero-u32-spec =
+pub zero_u32_spec : {M : Type 1} → statement M
+zero_u32_spec =
     tie.close
     (tie.spec
     invariant-loop

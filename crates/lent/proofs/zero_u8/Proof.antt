@@ -6,26 +6,26 @@ use Rattle.lent.proofs.Fill.{Filled, fill_none, fill_more, fill_all}
 use Rattle.lent.proofs.zero_u8.Statement.{statement}
 use Rattle.lent.proofs.zero_u8.Tie as tie
 
-abbrev invariant-loop : tie.invariant-loop
+abbrev invariant-loop : tie.invariant-loop-i
 invariant-loop bytes₀ i₀ bytes i = Filled 0 bytes₀ i bytes
 
-abbrev decreases-loop : tie.decreases-loop
+abbrev decreases-loop : tie.decreases-loop-i
 decreases-loop bytes₀ i₀ bytes i = length bytes₀ - i
 
-loop-holds : tie.Need-loop-init invariant-loop decreases-loop
+loop-holds : tie.Need-loop-i-init invariant-loop decreases-loop
 loop-holds c = fill_none
 
-loop-again : tie.Need-loop-preserved invariant-loop decreases-loop
-loop-again c = fill_more c.before.loop.invariant (omega arith)
+loop-again : tie.Need-loop-i-preserved invariant-loop decreases-loop
+loop-again c = fill_more c.before.loop-i.invariant (omega arith)
 
-same_length : tie.Need-same-length invariant-loop decreases-loop
-same_length c = c.before.loop.invariant.same
+same_length : tie.Need-shape_of-bytes invariant-loop decreases-loop
+same_length c = c.before.loop-i.invariant.same
 
 returns : tie.Need-returns invariant-loop decreases-loop
-returns c = fill_all c.before.loop.invariant (omega arith)
+returns c = fill_all c.before.loop-i.invariant (omega arith)
 
-pub zero-u8-spec : {M : Type 1} → statement M
-zero-u8-spec =
+pub zero_u8_spec : {M : Type 1} → statement M
+zero_u8_spec =
     tie.close
     (tie.spec
     invariant-loop

@@ -3,8 +3,8 @@ use Rattle.std.proofs.Common.{◌≡◌, Bool, false, cond, sym, ap, ◌∙◌, 
 use lib.Ieee.{lt}
 use Rattle.rays.specs.Ray.{exit_at, leaves}
 use Rattle.rays.specs.Answers.{as_track}
-use Rattle.rays.proofs.step.goes_on_lem.Statement.{statement}
-use Rattle.rays.proofs.step.goes_on_lem.Tie as tie
+use Rattle.rays.proofs.step.goes_on.Statement.{statement}
+use Rattle.rays.proofs.step.goes_on.Tie as tie
 
 abbrev start : tie.Else2 → tie.Start
 start c = c.before.before.before.before
