@@ -3,7 +3,7 @@
 #![tactic(auto)]
 
 // Biased coordinates from lo up to below hi.
-#[derive(Drop)]
+#[derive(Clone, Copy)]
 pub struct Span {
     pub lo: usize,
     pub hi: usize,

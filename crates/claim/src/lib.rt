@@ -26,14 +26,14 @@ use medium::Medium;
 use sparse_grid::{Answer, get_value};
 
 // What the decode says, and the number of the build: 0, or the refusal of the build or of the decode before it.
-#[derive(Drop)]
+#[derive(Clone, Copy)]
 pub struct Loaded {
     pub decoded: Decoded,
     pub build: u32,
 }
 
 // What is asked: a voxel's coordinate, the corners of a box of voxels, and a point of the world.
-#[derive(Drop)]
+#[derive(Clone, Copy)]
 pub struct Question {
     pub coordinate: [i32; 3],
     pub low: [i32; 3],
@@ -43,7 +43,7 @@ pub struct Question {
 
 // What the load answers; the voxel, and the greatest of zero and the voxels of the box: zeros after a refused decode; the number
 // and the figure of a cell that encloses the point (the number of cells and zero where none does): zeros after a refused build.
-#[derive(Drop)]
+#[derive(Clone, Copy)]
 pub struct Asked {
     pub loaded: Loaded,
     pub value: f32,
@@ -53,14 +53,14 @@ pub struct Asked {
 }
 
 // What a grid answers.
-#[derive(Drop)]
+#[derive(Clone, Copy)]
 struct Seen {
     value: f32,
     maximum: f32,
 }
 
 // What a table of figures answers.
-#[derive(Drop)]
+#[derive(Clone, Copy)]
 struct Found {
     cell: u32,
     figure: f32,

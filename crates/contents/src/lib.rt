@@ -12,7 +12,7 @@ mod segment;
 use segment::Grid;
 
 // The number of the refusal (0 where there is a grid), and the part: where it starts and how many bytes it has.
-#[derive(Drop)]
+#[derive(Clone, Copy)]
 pub struct Picked {
     pub number: u32,
     pub start: usize,
@@ -20,13 +20,13 @@ pub struct Picked {
 }
 
 // A grid that is looked for: how many grids are to be passed before it, or where it stands.
-#[derive(Drop)]
+#[derive(Clone, Copy)]
 enum Search {
     Left(usize),
     Found(Grid),
 }
 
-#[derive(Drop)]
+#[derive(Clone, Copy)]
 enum Located {
     Refused(u32),
     At(Grid),

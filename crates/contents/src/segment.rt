@@ -11,7 +11,7 @@ const HEADER: usize = 16;
 const ENTRY: usize = 176;
 
 // Where the name of a grid and its body stand.
-#[derive(Drop)]
+#[derive(Clone, Copy)]
 pub struct Grid {
     pub name_start: usize,
     pub name_length: usize,
@@ -20,14 +20,14 @@ pub struct Grid {
 }
 
 // A run over the entries or the bodies of a segment: the fault, 0 for none, and then the place after the last.
-#[derive(Drop)]
+#[derive(Clone, Copy)]
 pub struct Run {
     pub fault: u32,
     pub end: usize,
 }
 
 // A segment: its fault, 0 for none, and then where its bodies start and where it ends.
-#[derive(Drop)]
+#[derive(Clone, Copy)]
 pub struct Segment {
     pub fault: u32,
     pub bodies: usize,

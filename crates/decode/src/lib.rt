@@ -20,7 +20,7 @@ use medium::Medium;
 use tree::TreeRead;
 
 // The number of the refusal (0 where there is a grid), how many roots and nodes are used, the background and the medium.
-#[derive(Drop)]
+#[derive(Clone, Copy)]
 pub struct Decoded {
     pub number: u32,
     pub roots: usize,

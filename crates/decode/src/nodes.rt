@@ -12,7 +12,7 @@ use crate::spans::{Entered, Spans};
 use crate::{spans, values};
 
 // How far the reader has come: the spans that it has claimed, and how many nodes of each level it has numbered.
-#[derive(Drop)]
+#[derive(Clone, Copy)]
 pub struct State {
     pub spans: Spans,
     pub uppers: usize,
@@ -21,14 +21,14 @@ pub struct State {
 }
 
 // A node's number, and the state after it.
-#[derive(Drop)]
+#[derive(Clone, Copy)]
 pub enum Placed {
     Node(u32, State),
     Refused(u32),
 }
 
 // A new node: its number, where its child mask stands, how many entries it has and where they begin in their table, and the state that counts it.
-#[derive(Drop)]
+#[derive(Clone, Copy)]
 pub struct Opening {
     pub number: u32,
     pub mask: usize,
@@ -37,14 +37,14 @@ pub struct Opening {
     pub now: State,
 }
 
-#[derive(Drop)]
+#[derive(Clone, Copy)]
 pub enum Opened {
     Again(u32),
     Fresh(Opening),
     Stop(u32),
 }
 
-#[derive(Drop)]
+#[derive(Clone, Copy)]
 pub enum Target {
     At(usize),
     Refused(u32),

@@ -4,28 +4,28 @@ ghost use Rattle.nanovdb.specs.Spans.{overlaps, seen};
 ghost use Rattle.decode.specs.Inner.WorkTable.{size, spans, nodes, header_span, root_span, chain_in, Rep, MetIn, MetAt, FoundIn, seen_of};
 ghost use Rattle.decode.specs.Inner.WorkTable.{Small, put_s, Pushed, ClaimOut, RootOut, EnterOut};
 
-#[derive(Drop)]
+#[derive(Clone, Copy)]
 pub enum Found {
     At(u32),
     Nothing,
 }
 
 // How many nodes have been claimed, and where the root stands.
-#[derive(Drop)]
+#[derive(Clone, Copy)]
 pub struct Spans {
     pub count: usize,
     pub root: u64,
     pub limit: u64,
 }
 
-#[derive(Drop)]
+#[derive(Clone, Copy)]
 pub enum Entered {
     Again(u32),
     Fresh(Spans),
     Stop(u32),
 }
 
-#[derive(Drop)]
+#[derive(Clone, Copy)]
 pub enum Claimed {
     Done(Spans),
     Refused(u32),

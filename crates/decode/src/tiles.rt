@@ -10,7 +10,7 @@ use crate::nodes;
 use crate::nodes::{Placed, State, Target};
 
 // The state after a tile, or why it is refused.
-#[derive(Drop)]
+#[derive(Clone, Copy)]
 pub enum Step {
     Next(State),
     Stop(u32),

@@ -12,14 +12,14 @@ use crate::{spans, tiles};
 use refusals::both;
 
 // Where the root stands, how many tiles it has, and how many nodes were reached.
-#[derive(Drop)]
+#[derive(Clone, Copy)]
 pub struct Tree {
     pub root: usize,
     pub roots: usize,
     pub nodes: State,
 }
 
-#[derive(Drop)]
+#[derive(Clone, Copy)]
 pub enum TreeRead {
     Read(Tree),
     Refused(u32),

@@ -17,7 +17,7 @@ pub use whole::{
 };
 
 // The whole part of a number as an i32, or the number of its refusal.
-#[derive(Drop)]
+#[derive(Clone, Copy)]
 pub enum Coordinate {
     At(i32),
     Refused(u32),

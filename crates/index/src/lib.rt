@@ -18,14 +18,14 @@ use medium::{Medium, map_fault};
 use refusals::{both, first_fault};
 
 // A point's index position on each axis, as bits: a NaN is 7fc00000. After a refusal its number, and zeros.
-#[derive(Drop)]
+#[derive(Clone, Copy)]
 pub struct Position {
     pub number: u32,
     pub bits: [u32; 3],
 }
 
 // One axis of a medium: the world box, the translation, the place on the map's diagonal, and the index box.
-#[derive(Drop)]
+#[derive(Clone, Copy)]
 pub struct Line {
     pub last: bool,
     pub low: f32,
@@ -37,7 +37,7 @@ pub struct Line {
 }
 
 // The ends of a box on one axis, or the fault.
-#[derive(Drop)]
+#[derive(Clone, Copy)]
 pub struct Range {
     pub fault: u32,
     pub lo: i32,
@@ -45,7 +45,7 @@ pub struct Range {
 }
 
 // The ends of a cell's two boxes on one axis. After a refusal its number, and zeros.
-#[derive(Drop)]
+#[derive(Clone, Copy)]
 pub struct AxisEnds {
     pub fault: u32,
     pub first_lo: i32,

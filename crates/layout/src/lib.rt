@@ -13,37 +13,37 @@ const U32_BYTES: usize = 4;
 const U64_BYTES: usize = 8;
 
 // What a read answers: the field, or the number of its refusal.
-#[derive(Drop)]
+#[derive(Clone, Copy)]
 pub enum ReadU32 {
     Value(u32),
     Refused(u32),
 }
 
-#[derive(Drop)]
+#[derive(Clone, Copy)]
 pub enum ReadU64 {
     Value(u64),
     Refused(u32),
 }
 
-#[derive(Drop)]
+#[derive(Clone, Copy)]
 pub enum ReadI32 {
     Value(i32),
     Refused(u32),
 }
 
-#[derive(Drop)]
+#[derive(Clone, Copy)]
 pub enum ReadI64 {
     Value(i64),
     Refused(u32),
 }
 
-#[derive(Drop)]
+#[derive(Clone, Copy)]
 pub enum ReadF32 {
     Value(f32),
     Refused(u32),
 }
 
-#[derive(Drop)]
+#[derive(Clone, Copy)]
 pub enum ReadF64 {
     Value(f64),
     Refused(u32),

@@ -23,7 +23,7 @@ use refusals::{both, first_fault};
 use sparse_grid::validate_density;
 
 // The figure of a cell, or its fault.
-#[derive(Drop)]
+#[derive(Clone, Copy)]
 pub struct Figure {
     pub fault: u32,
     pub value: f32,

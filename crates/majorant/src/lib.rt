@@ -28,7 +28,7 @@ use range_max::range_max;
 use sparse_grid::{Answer, validate};
 
 // The maximum of a box, and how many root entries, upper entries, lower entries and leaf values (in two words) were read for it.
-#[derive(Drop)]
+#[derive(Clone, Copy)]
 pub struct Counted {
     pub maximum: f32,
     pub roots: u64,
@@ -39,7 +39,7 @@ pub struct Counted {
 }
 
 // The maximum of a box with its counts, or the number of the refusal.
-#[derive(Drop)]
+#[derive(Clone, Copy)]
 pub enum CountedAnswer {
     Value(Counted),
     Refused(u32),
@@ -295,7 +295,7 @@ pub fn build_majorant(
 }
 
 // How many coordinates of a box lie in each class, or the number of a refusal and zeros.
-#[derive(Drop)]
+#[derive(Clone, Copy)]
 pub struct ClassCounts {
     pub number: u32,
     pub counts: [u64; 17],

@@ -18,7 +18,7 @@ use boxes::Span;
 use sparse_grid::{Entry, biased, entry_of, lifted};
 
 // What the roots so far hold of a box: its maximum, and how many blocks of the box it covers.
-#[derive(Drop)]
+#[derive(Clone, Copy)]
 pub struct Covered {
     pub maximum: f32,
     pub blocks: usize,

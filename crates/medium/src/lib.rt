@@ -15,14 +15,14 @@ ghost use Rattle.medium.specs.Record.{point_of, coord_of, nine_of, cells_of, as_
 use refusals::{both, first_fault};
 
 // Whether there is a temperature grid, and what a value of it is read by: (value - offset) * scale. Its tables stand beside.
-#[derive(Drop)]
+#[derive(Clone, Copy)]
 pub struct Temperature {
     pub present: bool,
     pub offset: f32,
     pub scale: f32,
 }
 
-#[derive(Drop)]
+#[derive(Clone, Copy)]
 pub struct Medium {
     pub low: [f32; 3],
     pub high: [f32; 3],

@@ -21,7 +21,7 @@ use refusals::{both, first_fault};
 use sparse_grid::get_spot;
 
 // The voxels on either side of a position on one axis, and the part of the way between them; or the fault.
-#[derive(Drop)]
+#[derive(Clone, Copy)]
 pub struct Side {
     pub fault: u32,
     pub lo: i32,
@@ -30,7 +30,7 @@ pub struct Side {
 }
 
 // The density at a point, or the fault.
-#[derive(Drop)]
+#[derive(Clone, Copy)]
 pub struct Blend {
     pub fault: u32,
     pub value: f32,

@@ -26,7 +26,7 @@ use step::{advanced, axis_of, is_sound, over, place_of, refused, stepped};
 
 // A ray between two pieces: from t_min on, up to t_max. By axis: the t at which it leaves its cell there, t from one crossing
 // to the next, the way that it goes, 1 or -1, the cell, and the number of cells.
-#[derive(Drop)]
+#[derive(Clone, Copy)]
 pub struct Ray {
     pub t_min: f32,
     pub t_max: f32,
@@ -38,14 +38,14 @@ pub struct Ray {
 }
 
 // An opened ray, or the number of a refusal with a zero state.
-#[derive(Drop)]
+#[derive(Clone, Copy)]
 pub struct Opened {
     pub number: u32,
     pub ray: Ray,
 }
 
 // Whether there is a piece, the piece, and the state to go on from. After a refusal its number, and zeros.
-#[derive(Drop)]
+#[derive(Clone, Copy)]
 pub struct Stepped {
     pub number: u32,
     pub some: bool,
@@ -56,7 +56,7 @@ pub struct Stepped {
 }
 
 // How many pieces a whole ray has, or the number of a refusal and 0.
-#[derive(Drop)]
+#[derive(Clone, Copy)]
 pub struct Traced {
     pub number: u32,
     pub count: usize,

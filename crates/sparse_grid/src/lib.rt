@@ -22,14 +22,14 @@ use lookup::{below, place_of, root_for};
 use shared::{in_leaf, refused_spot, root_spot};
 
 // What stands at a slot of a node or beside a root's block: the number of a child, or a value for every coordinate below it.
-#[derive(Drop)]
+#[derive(Clone, Copy)]
 pub enum Entry {
     Child(u32),
     Tile(f32),
 }
 
 // A root record: a block of 4,096 coordinates a side, and what stands there.
-#[derive(Drop)]
+#[derive(Clone, Copy)]
 pub struct Root {
     pub x: i32,
     pub y: i32,
@@ -38,14 +38,14 @@ pub struct Root {
 }
 
 // What a lookup reads, or the number of its refusal.
-#[derive(Drop)]
+#[derive(Clone, Copy)]
 pub enum Answer {
     Value(f32),
     Refused(u32),
 }
 
 // Where a lookup stopped: the node or the table whose value it is, and the background where no root has the block.
-#[derive(Drop)]
+#[derive(Clone, Copy)]
 pub enum Level {
     Background,
     RootTile,
@@ -55,7 +55,7 @@ pub enum Level {
 }
 
 // What a lookup reads and at which level, or the number of its refusal.
-#[derive(Drop)]
+#[derive(Clone, Copy)]
 pub enum Reading {
     Value(f32, Level),
     Refused(u32),
@@ -63,7 +63,7 @@ pub enum Reading {
 
 // Where a lookup ends for all coordinates of a cube of 8: in a leaf, at one value, or at a refusal, whose number is not 0. An enum would be
 // packed into one word and taken apart again, as each of eight voxels is read.
-#[derive(Drop)]
+#[derive(Clone, Copy)]
 pub struct Spot {
     pub number: u32,
     pub in_leaf: bool,

@@ -25,7 +25,7 @@ const LOWER_TILE: u32 = 3;
 const LEAF: u32 = 4;
 
 // A coordinate plus 2^31 on each axis, so that its slots are plain remainders.
-#[derive(Drop)]
+#[derive(Clone, Copy)]
 pub struct Place {
     pub x: u32,
     pub y: u32,

@@ -19,7 +19,7 @@ use sparse_grid::{Answer, get_spot, read_spot};
 
 // The number of the refusal (0 where there is a grid), how many roots and nodes are used, the background, and the temperature
 // that a medium record gains; none after a refusal.
-#[derive(Drop)]
+#[derive(Clone, Copy)]
 pub struct Loaded {
     pub number: u32,
     pub roots: usize,
@@ -31,7 +31,7 @@ pub struct Loaded {
 }
 
 // A reading as bits: a NaN is 7fc00000. After a refusal its number, and zero.
-#[derive(Drop)]
+#[derive(Clone, Copy)]
 pub struct Heat {
     pub number: u32,
     pub bits: u32,

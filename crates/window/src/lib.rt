@@ -16,7 +16,7 @@ use lent::zero_f32;
 use refusals::{TABLES, WINDOW, both};
 
 // w, the three numbers of the cells, the tables held, and the place that the next one takes.
-#[derive(Drop)]
+#[derive(Clone, Copy)]
 pub struct Window {
     pub w: u32,
     pub x: u32,
@@ -27,7 +27,7 @@ pub struct Window {
 }
 
 // The number of a refusal, or 0, and the window.
-#[derive(Drop)]
+#[derive(Clone, Copy)]
 pub struct Pushed {
     pub number: u32,
     pub window: Window,
