@@ -78,7 +78,7 @@ built-out c =
     let s = at-start e in
     let a = s.args in
     let places = length a.majorants.now in
-    let on = passing_on a.d.number (build_into (used_of (decoded a.d) (lent s)) (as_medium a.d.medium) places) e.if1.left in
+    let on = passing_on a.d.number (build_into (used_of (decoded a.d) (lent s)) (as_medium a.d.medium) places) e.if1.false in
     (b.build-majorant.ensures.0 ∙ ap number_of (sym on), b.build-majorant.ensures.1 ∙ ap (value_or (replicate places +0)) (sym on))
 
 pub build-used-spec : {M : Type 1} → statement M

@@ -68,7 +68,7 @@ seen-out : tie.Need-returns-2
 seen-out c =
     let e = from-8 c.before in
     let a = (at-start e).args in
-    c.seen-in-grid.ensures ∙ seen_on a.d.number (used_of (decoded a.d) (lent (at-start e))) (as_question a.q) e.if1.left
+    c.seen-in-grid.ensures ∙ seen_on a.d.number (used_of (decoded a.d) (lent (at-start e))) (as_question a.q) e.if1.false
 
 pub seen-in-spec : {M : Type 1} → statement M
 seen-in-spec =

@@ -8,23 +8,23 @@ use Rattle.contents.proofs.Parts.{name_fits, part_bytes}
 use Rattle.contents.proofs.grid_name.Statement.{statement}
 use Rattle.contents.proofs.grid_name.Tie as tie
 
-abbrev at-start : tie.After-name-part → tie.Start
+abbrev at-start : tie.After-name_part-p → tie.Start
 at-start c = c.before.before
 
-fits : (c : tie.After-name-part) → c.name-part.result.start + c.name-part.result.length ≤ length (at-start c).args.file.now
-fits c = name_fits (at-start c).args.file.now (at-start c).args.n c.name-part.result c.name-part.ensures
+fits : (c : tie.After-name_part-p) → c.name_part-p.result.start + c.name_part-p.result.length ≤ length (at-start c).args.file.now
+fits c = name_fits (at-start c).args.file.now (at-start c).args.n c.name_part-p.result c.name_part-p.ensures
 
-add-end : tie.Need-overflow-add-end
+add-end : tie.Need-overflow_add-end
 add-end c = omega (arith, fits c.before)
 
-part-result-end : tie.Need-slice-bounds-result-end
+part-result-end : tie.Need-slice_bounds-result-end
 part-result-end c = fits c.before
 
 returns : tie.Need-returns
 returns c =
     let p = c.before.before in
     let a = (at-start p).args in
-    part_bytes a.file.now (pick_name a.file.now a.n) p.name-part.result p.name-part.ensures
+    part_bytes a.file.now (pick_name a.file.now a.n) p.name_part-p.result p.name_part-p.ensures
 
-pub grid-name-spec : {M : Type 1} → statement M
-grid-name-spec = tie.close (tie.spec (λ c κs. search rules) add-end (λ c. omega arith) (λ c. omega arith) part-result-end returns)
+pub grid_name_spec : {M : Type 1} → statement M
+grid_name_spec = tie.close (tie.spec (λ c κs. search rules) add-end (λ c. omega arith) (λ c. omega arith) part-result-end returns)

@@ -9,40 +9,40 @@ use Rattle.contents.proofs.past.Statement.{statement}
 use Rattle.contents.proofs.past.Tie as tie
 
 -- the start, from the arm of a grid that is found
-abbrev at-start-found : tie.After-search → tie.Start
+abbrev at-start-found : tie.In-Found-2 → tie.Start
 at-start-found c = c.before.before.before
 
 -- ---- the file and the segment, in the arm of a grid that is still to be found
 
-abbrev at-start : tie.After-known-told2 → tie.Start
+abbrev at-start : tie.In-Left → tie.Start
 at-start c = c.before.before.before.before
 
-abbrev file : tie.After-known-told2 → List ℕ
+abbrev file : tie.In-Left → List ℕ
 file c = (at-start c).args.file.now
 
-abbrev segment : tie.After-known-told2 → ℕ
+abbrev segment : tie.In-Left → ℕ
 segment c = (at-start c).args.segment
 
 -- ---- the needs
 
-grid-count-requires : tie.Need-grid-count-requires
+grid-count-requires : tie.Need-grid_count-grids-requires
 grid-count-requires c κs = header_inside (file c) (segment c) (sound (file c) (segment c) (at-start c).requires.0).header
 
-returns : tie.Need-returns
+returns : tie.Need-returns-then-k-grids
 returns c =
     let a = c.before.before.before in
-    finds (file a) (segment a) _ _ a.before.search2.given.1 (omega arith) c.grid-in.ensures
+    finds (file a) (segment a) _ _ a.before.search-in-Left-1.given.1 (omega arith) c.grid_in.ensures
 
-returns-2 : tie.Need-returns-2
-returns-2 c = let a = (at-start-found c.before).args in stays a.file.now a.segment _ c.before.search.given.1
+returns-2 : tie.Need-returns-in-Found
+returns-2 c = let a = (at-start-found c.before).args in stays a.file.now a.segment _ c.before.search-1.given.1
 
-returns-3 : tie.Need-returns-3
+returns-3 : tie.Need-returns-else-k-grids
 returns-3 c =
     let a = c.before.before in
-    passes_by (file a) (segment a) _ _ a.before.search2.given.1 c.before.grid-count.ensures c.if1.false
+    passes_by (file a) (segment a) _ _ a.before.search-in-Left-1.given.1 c.before.grid_count-grids.ensures c.if-k-grids.false
 
-pub past-spec : {M : Type 1} → statement M
-past-spec =
+pub past_spec : {M : Type 1} → statement M
+past_spec =
     tie.close
     (tie.spec
     (λ c. search rules)

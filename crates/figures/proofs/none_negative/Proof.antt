@@ -25,7 +25,7 @@ loop-again c =
     let p = c.before.before.before in
     let here = c.before.is-density.ensures in
     ⊎_elim
-    (λ w. failed p.before.loop.invariant p.loop-test.true here w.0.taken w.1)
+    (λ w. failed p.before.loop.invariant p.loop-test.true here w.0.true w.1)
     (λ w. passed p.before.loop.invariant p.loop-test.true here w.0.left w.1)
     c.if1.branch
 

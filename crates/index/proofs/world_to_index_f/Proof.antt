@@ -26,7 +26,7 @@ unfolding index_bits world_to_index
 returns-2 c =
     let r = at_first c in
     let d = at-fault r in
-    position_taken d.before.map-fault.ensures d.if1.left
+    position_taken d.before.map-fault.ensures d.if1.false
     (λ i. r.row-bits.ensures i ∷ (at_second c).row-bits2.ensures i ∷ c.row-bits3.ensures i ∷ [])
 
 pub world-to-index-f-spec : {M : Type 1} → statement M

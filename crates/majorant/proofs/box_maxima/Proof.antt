@@ -27,7 +27,7 @@ returns : tie.Need-returns
 returns c =
     let t = zeroed c in
     let s = start t.before in
-    let r = stopped (grid s) s.args.boxes.now (length s.args.maxima.now) t.before.maxima-fault.ensures t.if1.taken
+    let r = stopped (grid s) s.args.boxes.now (length s.args.maxima.now) t.before.maxima-fault.ensures t.if1.true
     c.before.before.zero-f32.ensures in
     (ap (said +0) r.0, r.1)
 
@@ -41,7 +41,7 @@ returns-2 : tie.Need-returns-2
 returns-2 c =
     let t = listed c in
     let s = start t.before in
-    let r = answered (grid s) s.args.boxes.now (length s.args.maxima.now) t.before.maxima-fault.ensures t.if1.left
+    let r = answered (grid s) s.args.boxes.now (length s.args.maxima.now) t.before.maxima-fault.ensures t.if1.false
     c.before.before.maxima-each.ensures in
     (ap (said +0) r.0, r.1)
 

@@ -34,7 +34,7 @@ unfolding public_maximum
 returns-2 c =
     let e = c.before.before in
     let p = at-start e.before in
-    let f = p.fits in
+    let f = p.ranges in
     ap (said +0)
     (passed e.before.validate.ensures e.if1.false
     (c.range-max.ensures.0

@@ -47,7 +47,7 @@ kept : (c : tie.After-cells) → length (left c) ≡ length (start (at_test c)).
 kept c = c.cells.auto.1.1.1.1.1.1.1.1.1.1.1.1.1.0
 
 returns : tie.Need-returns
-returns c = let z = zeroed_first c in stopped (tested z.before) z.if1.taken c.before.before.zero-f32.ensures
+returns c = let z = zeroed_first c in stopped (tested z.before) z.if1.true c.before.before.zero-f32.ensures
 
 cells-requires : tie.Need-cells-requires
 cells-requires c κs =
@@ -62,7 +62,7 @@ returns-2 : tie.Need-returns-2
 returns-2 c =
     let z = zeroed c in
     let d = at_cells z in
-    cell_stopped (tested (at_test d)) (passed d).if1.left d.cells.result (left d) d.cells.ensures z.if2.taken
+    cell_stopped (tested (at_test d)) (passed d).if1.false d.cells.result (left d) d.cells.ensures z.if2.true
     c.before.before.zero-f322.ensures (kept d)
 
 returns-3 : tie.Need-returns-3

@@ -12,11 +12,11 @@ returns c =
     let z = c.before.before in
     let y = z.before.before.before in
     let x = y.before.before.before in
-    each_is (bounds_fault (as_medium x.before.before.before.args.t1)) x.bounds-on.ensures y.bounds-on2.ensures
-    z.bounds-on3.ensures c.before.first-fault.ensures c.first-fault2.ensures
+    each_is (bounds_fault (as_medium x.before.before.before.args.m)) x.bounds_on-x.ensures y.bounds_on-y.ensures
+    z.bounds_on-z.ensures c.before.first_fault.ensures c.first_fault-2.ensures
 
-pub bounds-fault-spec : {M : Type 1} → statement M
-bounds-fault-spec =
+pub bounds_fault_spec : {M : Type 1} → statement M
+bounds_fault_spec =
     tie.close
     (tie.spec
     (λ c. search rules) (λ c. search rules) (λ c κs. search rules)

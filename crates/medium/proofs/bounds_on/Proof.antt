@@ -9,31 +9,31 @@ use Rattle.medium.proofs.Laws.{passes, fails}
 use Rattle.medium.proofs.bounds_on.Statement.{statement}
 use Rattle.medium.proofs.bounds_on.Tie as tie
 
-abbrev at-ends : tie.After-both3 → tie.After-both
+abbrev at-ends : tie.After-both-wide → tie.After-both-ends
 at-ends c = c.before.before.before
 
-abbrev at-start : tie.After-both → tie.Start
+abbrev at-start : tie.After-both-ends → tie.Start
 at-start c = c.before.before.before
 
 -- the four tests
-all-is : (c : tie.After-both3)
+all-is : (c : tie.After-both-wide)
     → let a = (at-start (at-ends c)).args in
-    c.both3.result ≡ (finite a.low && finite a.high && lt a.low a.high && finite (sub binary32 a.high a.low))
+    c.both-wide.result ≡ (finite a.low && finite a.high && lt a.low a.high && finite (sub binary32 a.high a.low))
 all-is c =
     let p = at-ends c in
-    c.both3.ensures
-    ∙ and_same (c.before.before.both2.ensures
-    ∙ and_same (p.both.ensures ∙ and_same p.before.before.is_finite.ensures p.before.is-finite2.ensures) refl)
-    c.before.is-finite3.ensures
+    c.both-wide.ensures
+    ∙ and_same (c.before.before.both.ensures
+    ∙ and_same (p.both-ends.ensures ∙ and_same p.before.before.is_finite.ensures p.before.is_finite-2.ensures) refl)
+    c.before.is_finite-3.ensures
 
-returns : tie.Need-returns
-returns c = passes 4 (all-is c.before) c.if1.true
+returns : tie.Need-returns-then-wide
+returns c = passes 4 (all-is c.before) c.if-wide.true
 
-returns-2 : tie.Need-returns-2
-returns-2 c = fails 4 (all-is c.before) c.if1.false
+returns-2 : tie.Need-returns-else-wide
+returns-2 c = fails 4 (all-is c.before) c.if-wide.false
 
-pub bounds-on-spec : {M : Type 1} → statement M
-bounds-on-spec =
+pub bounds_on_spec : {M : Type 1} → statement M
+bounds_on_spec =
     tie.close
     (tie.spec
     (λ c κs. search rules) (λ c κs. search rules) (λ c κs. search rules)

@@ -10,8 +10,8 @@ returns : tie.Need-returns
 returns c =
     let a = c.before.args in
     ap (λ (t : Temperature).
-    with_temperature t (make_medium (point_of a.low) (point_of a.high) (coord_of a.index_low_lem) (coord_of a.index_high_lem) (nine_of a.map)
-    (point_of a.translation) (cells_of a.cells))) c.no-temperature.ensures
+    with_temperature t (make_medium (point_of a.low) (point_of a.high) (coord_of a.index_low) (coord_of a.index_high) (nine_of a.map)
+    (point_of a.translation) (cells_of a.cells))) c.no_temperature.ensures
 
-pub make-medium-spec : {M : Type 1} → statement M
-make-medium-spec = tie.close (tie.spec (λ c κs. search rules) returns)
+pub make_medium_spec : {M : Type 1} → statement M
+make_medium_spec = tie.close (tie.spec (λ c κs. search rules) returns)

@@ -15,23 +15,23 @@ use Rattle.medium.proofs.map_fault.Statement.{statement}
 use Rattle.medium.proofs.map_fault.Tie as tie
 
 -- ---- places on the way to a place: the tests of each row, and of the translation
-abbrev at-start : tie.After-both2 → tie.Start
+abbrev at-start : tie.After-both-x → tie.Start
 at-start c = c.before.before.before.before.before.before.before.before
 
-abbrev at_x : tie.After-both5 → tie.After-both2
+abbrev at_x : tie.After-both-y → tie.After-both-x
 at_x c = c.before.before.before.before.before.before.before.before.before
 
-abbrev at_y : tie.After-both8 → tie.After-both5
+abbrev at_y : tie.After-both-z → tie.After-both-y
 at_y c = c.before.before.before.before.before.before.before.before.before
 
-abbrev at-z : tie.After-both11 → tie.After-both8
+abbrev at-z : tie.After-both-6 → tie.After-both-z
 at-z c = c.before.before.before.before.before.before.before.before.before
 
 -- ---- the medium, and the tests of the map up to each row's end
-abbrev medium : tie.After-both2 → Medium
-medium c = as_medium (at-start c).args.t1
+abbrev medium : tie.After-both-x → Medium
+medium c = as_medium (at-start c).args.m
 
-abbrev place : tie.After-both2 → ℕ → Float
+abbrev place : tie.After-both-x → ℕ → Float
 place c i = get_or (medium c).map i +0
 
 abbrev rowX : (ℕ → Float) → Bool
@@ -44,47 +44,47 @@ abbrev rowZ : (ℕ → Float) → Bool
 rowZ at = rowY at && zeroes (at 6) && zeroes (at 7) && diagonal (at 8)
 
 -- ---- what the code has after each row, and in the end
-x-is : (c : tie.After-both2) → c.both2.result ≡ rowX (place c)
+x-is : (c : tie.After-both-x) → c.both-x.result ≡ rowX (place c)
 x-is c =
     let p = c.before.before.before in
-    c.both2.ensures
-    ∙ and_same (p.both.ensures ∙ and_same p.before.before.before.on-diagonal.ensures p.before.off-diagonal.ensures)
-    c.before.off-diagonal2.ensures
+    c.both-x.ensures
+    ∙ and_same (p.both.ensures ∙ and_same p.before.before.before.on_diagonal.ensures p.before.off_diagonal.ensures)
+    c.before.off_diagonal-2.ensures
 
-y_is : (c : tie.After-both5) → c.both5.result ≡ rowY (place (at_x c))
+y_is : (c : tie.After-both-y) → c.both-y.result ≡ rowY (place (at_x c))
 y_is c =
     let q = c.before.before.before in
     let p = q.before.before.before in
-    and_three (x-is (at_x c)) p.both3.ensures p.before.off-diagonal3.ensures q.both4.ensures q.before.on-diagonal2.ensures
-    c.both5.ensures c.before.off-diagonal4.ensures
+    and_three (x-is (at_x c)) p.both-2.ensures p.before.off_diagonal-3.ensures q.both-3.ensures q.before.on_diagonal-2.ensures
+    c.both-y.ensures c.before.off_diagonal-4.ensures
 
-z-is : (c : tie.After-both8) → c.both8.result ≡ rowZ (place (at_x (at_y c)))
+z-is : (c : tie.After-both-z) → c.both-z.result ≡ rowZ (place (at_x (at_y c)))
 z-is c =
     let q = c.before.before.before in
     let p = q.before.before.before in
-    and_three (y_is (at_y c)) p.both6.ensures p.before.off-diagonal5.ensures q.both7.ensures q.before.off-diagonal6.ensures
-    c.both8.ensures c.before.on-diagonal3.ensures
+    and_three (y_is (at_y c)) p.both-4.ensures p.before.off_diagonal-5.ensures q.both-5.ensures q.before.off_diagonal-6.ensures
+    c.both-z.ensures c.before.on_diagonal-3.ensures
 
-all-is : (c : tie.After-both11)
+all-is : (c : tie.After-both-6)
     → let p = at_x (at_y (at-z c)) in
     let t = (medium p).translation in
-    c.both11.result ≡ (rowZ (place p) && finite t.x && finite t.y && finite t.z)
+    c.both-6.result ≡ (rowZ (place p) && finite t.x && finite t.y && finite t.z)
 all-is c =
     let q = c.before.before.before in
     let p = q.before.before.before in
-    and_three (z-is (at-z c)) p.both9.ensures p.before.is_finite.ensures q.both10.ensures q.before.is-finite2.ensures
-    c.both11.ensures c.before.is-finite3.ensures
+    and_three (z-is (at-z c)) p.both-t.ensures p.before.is_finite.ensures q.both-u.ensures q.before.is_finite-2.ensures
+    c.both-6.ensures c.before.is_finite-3.ensures
 
-returns : tie.Need-returns
+returns : tie.Need-returns-then-both
 unfolding map_fault
-returns c = passes 13 (all-is c.before) c.if1.true
+returns c = passes 13 (all-is c.before) c.if-both.true
 
-returns-2 : tie.Need-returns-2
+returns-2 : tie.Need-returns-else-both
 unfolding map_fault
-returns-2 c = fails 13 (all-is c.before) c.if1.false
+returns-2 c = fails 13 (all-is c.before) c.if-both.false
 
-pub map-fault-spec : {M : Type 1} → statement M
-map-fault-spec =
+pub map_fault_spec : {M : Type 1} → statement M
+map_fault_spec =
     tie.close
     (tie.spec
     (λ c. search rules) (λ c κs. search rules)

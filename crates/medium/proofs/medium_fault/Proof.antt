@@ -8,12 +8,12 @@ use Rattle.medium.proofs.medium_fault.Tie as tie
 returns : tie.Need-returns
 returns c =
     let p = c.before.before.before in
-    c.first-fault2.ensures
-    ∙ then_same p.before.bounds-fault.ensures
-    (c.before.first-fault.ensures ∙ then_same p.index-fault.ensures c.before.before.map-fault.ensures)
+    c.first_fault-2.ensures
+    ∙ then_same p.before.bounds_fault.ensures
+    (c.before.first_fault.ensures ∙ then_same p.index_fault.ensures c.before.before.map_fault.ensures)
 
-pub medium-fault-spec : {M : Type 1} → statement M
-medium-fault-spec =
+pub medium_fault_spec : {M : Type 1} → statement M
+medium_fault_spec =
     tie.close
     (tie.spec
     (λ c κs. search rules) (λ c κs. search rules) (λ c κs. search rules) (λ c κs. search rules) (λ c κs. search rules)

@@ -8,5 +8,5 @@ use Rattle.medium.proofs.no_temperature.Tie as tie
 returns : tie.Need-returns
 returns c = λ i. record { present = false; offset = zero_literal binary32 i; scale = zero_literal binary32 i }
 
-pub no-temperature-spec : {M : Type 1} → statement M
-no-temperature-spec = tie.close (tie.spec returns)
+pub no_temperature_spec : {M : Type 1} → statement M
+no_temperature_spec = tie.close (tie.spec returns)

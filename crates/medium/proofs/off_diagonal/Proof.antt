@@ -8,5 +8,5 @@ use Rattle.medium.proofs.off_diagonal.Tie as tie
 returns : tie.Need-returns
 returns c = ap (λ (z : Float). eq c.args.v z) (zero_literal binary32)
 
-pub off-diagonal-spec : {M : Type 1} → statement M
-off-diagonal-spec = tie.close (tie.spec returns)
+pub off_diagonal_spec : {M : Type 1} → statement M
+off_diagonal_spec = tie.close (tie.spec returns)

@@ -12,5 +12,5 @@ returns c =
     c.both.ensures
     ∙ and_same c.before.is_finite.ensures (ap (λ (z : Float). lt z c.before.before.args.v) (zero_literal binary32))
 
-pub on-diagonal-spec : {M : Type 1} → statement M
-on-diagonal-spec = tie.close (tie.spec (λ c κs. search rules) (λ c κs. search rules) returns)
+pub on_diagonal_spec : {M : Type 1} → statement M
+on_diagonal_spec = tie.close (tie.spec (λ c κs. search rules) (λ c κs. search rules) returns)

@@ -44,7 +44,7 @@ returns c =
     let t = at-stop c in
     let s = start t.before in
     list_stopped (grid s) (as_medium s.args.m) s.args.points.now (length s.args.values.now) t.before.list-fault.ensures
-    t.if1.taken c.before.before.zero-f32.ensures
+    t.if1.true c.before.before.zero-f32.ensures
 
 densities-requires : tie.Need-densities-requires
 densities-requires c κs =
@@ -60,7 +60,7 @@ returns-2 c =
     let t = at-points d in
     let s = start t.before in
     point_stopped (grid s) (as_medium s.args.m) s.args.points.now (length s.args.values.now) t.before.list-fault.ensures
-    d.densities.result (left d) t.if1.left d.densities.ensures r.if2.taken
+    d.densities.result (left d) t.if1.false d.densities.ensures r.if2.true
     (c.before.before.zero-f322.ensures ∙ ap (λ (n : ℕ). replicate n +0) (kept d))
 
 returns-3 : tie.Need-returns-3
@@ -69,7 +69,7 @@ returns-3 c =
     let t = at-points d in
     let s = start t.before in
     all_answered (grid s) (as_medium s.args.m) s.args.points.now (length s.args.values.now) t.before.list-fault.ensures
-    t.if1.left d.densities.ensures c.if2.false
+    t.if1.false d.densities.ensures c.if2.false
 
 pub mix-list-spec : {M : Type 1} → statement M
 mix-list-spec =

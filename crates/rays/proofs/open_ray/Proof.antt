@@ -76,7 +76,7 @@ returns-2 c =
     let x = y.before.before.before in
     let passed = z-else z.before in
     let b = beam passed.before in
-    opened_taken (start_of (medium passed.before) b) (faults passed.before) passed.if1.left (c.ray-of.ensures
+    opened_taken (start_of (medium passed.before) b) (faults passed.before) passed.if1.false (c.ray-of.ensures
     ∙ (λ i. record { t_min = b.t_min; t_max = b.t_max; x = x.track-on.ensures i; y = y.track-on2.ensures i; z = z.track-on3.ensures i }))
 
 pub open-ray-spec : {M : Type 1} → statement M

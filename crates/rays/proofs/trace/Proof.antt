@@ -137,7 +137,7 @@ returns-2 c =
     let z = c.before.before in
     let t = was-full (cleared z) in
     let w = filled t in
-    written_same (whole w) (full_written (E (at w)) (F (at w)) (ends-again (cleared z)) (figures-again z) _ (followed w) t.if2.taken)
+    written_same (whole w) (full_written (E (at w)) (F (at w)) (ends-again (cleared z)) (figures-again z) _ (followed w) t.if2.true)
 
 returns-3 : tie.Need-returns-3
 returns-3 c =

@@ -20,7 +20,7 @@ loop-again : tie.Need-loop-preserved invariant-loop decreases-loop
 loop-again c =
     let p = c.before.before in
     let t = at_turn p in
-    (omega (arith, t.loop-test.taken), p.put-link.auto.0 ∙ t.before.loop.inv.1)
+    (omega (arith, t.loop-test.true), p.put-link.auto.0 ∙ t.before.loop.invariant.1)
 
 pub fill-links-spec : {M : Type 1} → statement M
 fill-links-spec =

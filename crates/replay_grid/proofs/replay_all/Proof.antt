@@ -21,25 +21,25 @@ add-made : tie.Need-overflow-add-made invariant-loop decreases-loop
 add-made c =
     let t = at_turn c in
     let p = t.before in
-    omega (arith, p.loop.inv.1, c.before.replay.ensures.0, p.before.read-cases.ensures, t.loop-test.taken)
+    omega (arith, p.loop.invariant.1, c.before.replay.ensures.0, p.before.read-cases.ensures, t.loop-test.true)
 
 add-differ : tie.Need-overflow-add-differ invariant-loop decreases-loop
 add-differ c =
     let t = at_turn c.before in
     let p = t.before in
-    omega (arith, p.loop.inv.2, c.before.before.replay.ensures.1, p.before.read-cases.ensures, t.loop-test.taken)
+    omega (arith, p.loop.invariant.2, c.before.before.replay.ensures.1, p.before.read-cases.ensures, t.loop-test.true)
 
 add-i : tie.Need-overflow-add-i invariant-loop decreases-loop
 add-i c =
     let t = at_turn c.before in
-    omega (arith, t.before.before.read-cases.ensures, t.loop-test.taken)
+    omega (arith, t.before.before.read-cases.ensures, t.loop-test.true)
 
 loop-again : tie.Need-loop-preserved invariant-loop decreases-loop
 loop-again c =
     let t = at_turn c.before in
     let p = t.before in
     let r = c.before.before.replay.ensures in
-    (omega (arith, t.loop-test.taken), omega (arith, p.loop.inv.1, r.0), omega (arith, p.loop.inv.2, r.1))
+    (omega (arith, t.loop-test.true), omega (arith, p.loop.invariant.1, r.0), omega (arith, p.loop.invariant.2, r.1))
 
 pub replay-all-spec : {M : Type 1} → statement M
 replay-all-spec =

@@ -66,7 +66,7 @@ returns c =
     let p = c.before.before in
     let t = at_long p in
     let a = t.before.before.before.args in
-    let e = long_is a.classes a.bytes.now t.if1.taken in
+    let e = long_is a.classes a.bytes.now t.if1.true in
     ((same_text (wrote p.put-long.ensures) e).is, subst (λ (l : List ℕ). length l ≤ 65536) e long_room)
 
 returns-2 : tie.Need-returns-2
@@ -77,9 +77,9 @@ returns-2 c =
     let s = at-short d in
     let classes = (at-start s).args.classes in
     let room =
-    printed_room classes (bytes d) (λ i. (s.before.before.shared-slice-known.given i).fits) s.if1.left (left d).answer
+    printed_room classes (bytes d) (λ i. (s.before.before.shared-slice-known.given i).fits) s.if1.false (left d).answer
     p.put-text.ensures.1 (most t) in
-    ((same_text (wrote p.put-text.ensures.0) (printed_is classes (left d) s.if1.left)).is, room)
+    ((same_text (wrote p.put-text.ensures.0) (printed_is classes (left d) s.if1.false)).is, room)
 
 pub put-printed-spec : {M : Type 1} → statement M
 put-printed-spec =

@@ -38,7 +38,7 @@ returns c =
     let p = c.before.before in
     let t = at-refused p in
     let a = (at-start t.before).args in (
-      (text_refused a.classes a.n (answer a.d) a.blocks.now a.links.now a.values.now t.if1.taken
+      (text_refused a.classes a.n (answer a.d) a.blocks.now a.links.now a.values.now t.if1.true
           (wrote p.Put-refused.ensures)).is,
       counted t.before,
     )
@@ -49,7 +49,7 @@ returns-2 c =
     let u = at-classes p in
     let t = at-accepted u in
     let a = (at-start t.before).args in (
-      (text_classes a.classes a.n (answer a.d) a.blocks.now a.links.now a.values.now t.if1.left u.if2.taken
+      (text_classes a.classes a.n (answer a.d) a.blocks.now a.links.now a.values.now t.if1.false u.if2.true
           (wrote p.put-classes.ensures)).is,
       counted t.before,
     )
@@ -60,7 +60,7 @@ returns-3 c =
     let u = at-lines p in
     let t = at-accepted-2 u in
     let a = (at-start t.before).args in (
-      (text_lines a.classes a.n (answer a.d) a.blocks.now a.links.now a.values.now t.if1.left u.if2.left
+      (text_lines a.classes a.n (answer a.d) a.blocks.now a.links.now a.values.now t.if1.false u.if2.false
           (wrote p.put-lines.ensures)).is,
       counted t.before,
     )

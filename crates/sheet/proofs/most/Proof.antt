@@ -33,7 +33,7 @@ loop-again c =
     let t = at_turn c in
     let at = t.before.loop in
     let l = (at-start t.before).args.layer.now in
-    (omega arith, most_more l at.i nan at.greatest c.greater.result _ t.loop-test.taken c.greater.ensures at.inv.1)
+    (omega arith, most_more l at.i nan at.greatest c.greater.result _ t.loop-test.true c.greater.ensures at.inv.1)
 
 returns : tie.Need-returns invariant-loop decreases-loop
 returns c =

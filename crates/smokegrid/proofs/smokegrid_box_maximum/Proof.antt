@@ -27,7 +27,7 @@ returns c =
     let m = c.before.before in
     let s = at-start m in
     let a = s.args in
-    let f = s.fits in
+    let f = s.ranges in
     let e : outcome m.box-maximum.result ≡ public_maximum (grid s) (between a.lx a.ly a.lz a.hx a.hy a.hz) =
     said_same +0 _ _ (m.box-maximum.ensures
     ∙ (λ t. said +0 (public_maximum (grid s) (between (to_z-of_z f.lx t) (to_z-of_z f.ly t) (to_z-of_z f.lz t)

@@ -52,7 +52,7 @@ five_long c = sym (at-zeros c.before.before).zero-u64.auto.0 ∙ c.before.if1.fa
 outcome-is : (c : tie.After-box-maximum-counted) → counted_outcome c.box-maximum-counted.result ≡ public_counted (grid (start c)) (corners (start c))
 outcome-is c =
     let s = start c in
-    let f = s.fits in
+    let f = s.ranges in
     said_same unread _ _ (c.box-maximum-counted.ensures
     ∙ (λ t. said unread (public_counted (grid s) (between (to_z-of_z f.lx t) (to_z-of_z f.ly t) (to_z-of_z f.lz t)
     (to_z-of_z f.hx t) (to_z-of_z f.hy t) (to_z-of_z f.hz t)))))

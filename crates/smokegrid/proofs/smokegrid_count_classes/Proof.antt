@@ -59,7 +59,7 @@ answers : (c : tie.After-count-classes) →
     (c.count-classes.result.number ≡ number_of p) × (c.count-classes.result.counts ≡ value_or (replicate 17 0) p)
 answers c =
     let s = start c in
-    let f = s.fits in
+    let f = s.ranges in
     let same : public_counts (grid s) s.args.limits.now (handed s) ≡ public_counts (grid s) s.args.limits.now (corners s) =
     λ t. public_counts (grid s) s.args.limits.now (between (to_z-of_z f.lx t) (to_z-of_z f.ly t) (to_z-of_z f.lz t)
     (to_z-of_z f.hx t) (to_z-of_z f.hy t) (to_z-of_z f.hz t)) in

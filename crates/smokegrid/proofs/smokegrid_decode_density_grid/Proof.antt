@@ -175,7 +175,7 @@ returns c =
     let cells = at_cells fault.before in
     let corners = at-corners cells in
     let medium = at-medium corners in
-    out_fault (handed fault.before) (fault-is fault.before) fault.if1.taken clear.clear.ensures (at-counts medium).zero-u64.ensures
+    out_fault (handed fault.before) (fault-is fault.before) fault.if1.true clear.clear.ensures (at-counts medium).zero-u64.ensures
     (zero_literal binary32) medium.zero-f32.ensures corners.zero-i32.ensures cells.zero-u32.ensures
 
 returns-2 : tie.Need-returns-2

@@ -24,7 +24,7 @@ returns : tie.Need-returns
 returns c =
     let g = c.before.before.before in
     let s = at-start g in
-    let f = s.fits in
+    let f = s.ranges in
     let e : heard g.get-reading.result ≡ spoken (lookup (grid s) (at s.args.x s.args.y s.args.z)) =
     said_same unspoken _ _ (g.get-reading.ensures
     ∙ (λ t. said unspoken (spoken (lookup (grid s) (at (to_z-of_z f.x t) (to_z-of_z f.y t) (to_z-of_z f.z t)))))) in

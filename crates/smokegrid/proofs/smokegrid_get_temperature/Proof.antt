@@ -27,7 +27,7 @@ answer : (c : tie.After-temperature-at)
 answer c =
     let s = at-start c in
     let a = s.args in
-    let f = s.fits in
+    let f = s.ranges in
     c.temperature-at.ensures
     ∙ (λ i. heat_of (temperature_at (heated_by a.present a.offset a.scale) (grid s) (at (to_z-of_z f.x i) (to_z-of_z f.y i) (to_z-of_z f.z i))))
 

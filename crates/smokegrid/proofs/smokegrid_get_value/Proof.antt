@@ -25,7 +25,7 @@ returns : tie.Need-returns
 returns c =
     let g = c.before.before in
     let s = at-start g in
-    let f = s.fits in
+    let f = s.ranges in
     let e : outcome g.get_value.result ≡ value_only (lookup (grid s) (at s.args.x s.args.y s.args.z)) =
     said_same +0 _ _ (g.get_value.ensures
     ∙ (λ t. said +0 (value_only (lookup (grid s) (at (to_z-of_z f.x t) (to_z-of_z f.y t) (to_z-of_z f.z t)))))) in

@@ -106,7 +106,7 @@ returns c =
     let clear = at_clear c in
     let fault = at-fault clear in
     let counts = at-counts fault in
-    heat_sized (handed counts) (λ e. fault.if1.taken (counts.zero-u64.kept.0 ∙ e)) clear.clear.ensures counts.zero-u64.ensures
+    heat_sized (handed counts) (λ e. fault.if1.true (counts.zero-u64.kept.0 ∙ e)) clear.clear.ensures counts.zero-u64.ensures
     (zero_literal binary32)
 
 returns-2 : tie.Need-returns-2

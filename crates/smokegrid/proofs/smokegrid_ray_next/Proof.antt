@@ -90,7 +90,7 @@ lengths_out c =
     let t = at-unfit z in
     let e = t.before.before in
     let none = zero_literal binary32 in
-    next_unfit _ _ _ e.before.ray-fault.ensures e.if1.taken t.zero-f32.ensures z.zero-i32.ensures (λ i. 0) none none none
+    next_unfit _ _ _ e.before.ray-fault.ensures e.if1.true t.zero-f32.ensures z.zero-i32.ensures (λ i. 0) none none none
 
 piece-out : tie.Need-returns-2
 piece-out c =

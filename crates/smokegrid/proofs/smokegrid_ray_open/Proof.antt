@@ -112,7 +112,7 @@ opened_out c =
     let p = c.before.before in
     let o = at_open p in
     let e = at-lengths o in
-    open_fit (medium o) (cells o) (asked o) (length (table o)) _ _ e.before.before.before.if1.left e.before.before.if2.left (lengths e)
+    open_fit (medium o) (cells o) (asked o) (length (table o)) _ _ e.before.before.before.if1.false e.before.before.if2.false (lengths e)
     (answered o) p.before.before.before.put-times.ensures c.before.put-numbers.ensures
 
 pub smokegrid-ray-open-spec : {M : Type 1} → statement M

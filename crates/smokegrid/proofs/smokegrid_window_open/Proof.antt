@@ -59,7 +59,7 @@ returns c =
     let a = c.before.before in
     let m = at-memory a in
     let t = at-refused m in
-    let no = sym (tested t.before) ∙ not-true _ t.if1.taken in
+    let no = sym (tested t.before) ∙ not-true _ t.if1.true in
     open_size no (at-zeros t.before).zero-u32.ensures m.zero-f32.ensures a.zero-f322.ensures
 
 returns-2 : tie.Need-returns-2

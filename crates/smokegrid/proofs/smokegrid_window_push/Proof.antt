@@ -91,7 +91,7 @@ returns-3 c =
     let w = c.before.before in
     let e = at_pushed (at-zeros w.before) in
     let p = at-taken e in
-    push_taken (fits (first p)) (number p) e.if2.left (state p) w.put-window.ensures
+    push_taken (fits (first p)) (number p) e.if2.false (state p) w.put-window.ensures
 
 pub smokegrid-window-push-spec : {M : Type 1} → statement M
 smokegrid-window-push-spec =

@@ -46,7 +46,7 @@ position-out c =
     let p = c.before.before in
     let w = p.before.before.before in
     let e = at-else p.before in
-    out_position e.before.if1.left (three e) w.before.medium-from.ensures w.world-to-index-f.ensures p.put_three.ensures
+    out_position e.before.if1.false (three e) w.before.medium-from.ensures w.world-to-index-f.ensures p.put_three.ensures
 
 pub smokegrid-world-to-index-f-spec : {M : Type 1} → statement M
 smokegrid-world-to-index-f-spec =

@@ -5,11 +5,11 @@ use Rattle.sparse_grid.specs.TableLaws.{child}
 use Rattle.sparse_grid.proofs.entry_of.Statement.{statement}
 use Rattle.sparse_grid.proofs.entry_of.Tie as tie
 
-returns : tie.Need-returns
-returns c = ap (λ (l : ℕ). entry_of l c.before.args.value) (sym c.if1.true)
+returns : tie.Need-returns-then-link-eq0
+returns c = ap (λ (l : ℕ). entry_of l c.before.args.value) (sym c.if-link-eq0.true)
 
-returns-2 : tie.Need-returns-2
-returns-2 c = let a = c.before.args in child a.link a.value (omega (arith, c.if1.false))
+returns-2 : tie.Need-returns-else-link-eq0
+returns-2 c = let a = c.before.args in child a.link a.value (omega (arith, c.if-link-eq0.false))
 
-pub entry-of-spec : {M : Type 1} → statement M
-entry-of-spec = tie.close (tie.spec (λ c. search rules) returns returns-2)
+pub entry_of_spec : {M : Type 1} → statement M
+entry_of_spec = tie.close (tie.spec (λ c. search rules) returns returns-2)

@@ -17,46 +17,46 @@ use Rattle.sparse_grid.proofs.get_reading.Statement.{statement}
 use Rattle.sparse_grid.proofs.get_reading.Tie as tie
 
 -- ---- places on the way to a place
-abbrev at-start : tie.After-root-for → tie.Start
+abbrev at-start : tie.After-root_for-fault → tie.Start
 at-start c = c.before.before.before.before.before.before.before.before.before
 
-abbrev at-paired : tie.After-level → tie.Else1
+abbrev at-paired : tie.After-level-1 → tie.Else-fault-ne0
 at-paired c = c.before.before.before
 
-abbrev start : tie.After-below → tie.Start
+abbrev start : tie.After-below-number → tie.Start
 start c = at-start (at-paired c.before).before
 
 -- ---- the grid and the coordinate of the call, and what the walk stored
 abbrev grid : tie.Start → Grid
 grid c =
     let a = c.args in
-    grid_of a.background a.blocks.now a.root-links.now a.root-values.now
-    a.upper-links.now a.upper-values.now a.lower-links.now a.lower-values.now a.leaf-values.now
+    grid_of a.background a.blocks.now a.root_links.now a.root_values.now
+    a.upper_links.now a.upper_values.now a.lower_links.now a.lower_values.now a.leaf_values.now
 
 abbrev coordinate : tie.Start → Coord
 coordinate c = at c.args.x c.args.y c.args.z
 
-abbrev stored : tie.After-below → Float
-stored c = let (_, (_, (_, (_, (_, (_, (_, (_, (_, (_, (v, _))))))))))) = c.below.new in v
+abbrev stored : tie.After-below-number → Float
+stored c = c.below-number.new.value
 
-abbrev level : tie.After-below → ℕ
-level c = let (_, (_, (_, (_, (_, (_, (_, (_, (_, (_, (_, (l, _)))))))))))) = c.below.new in l
+abbrev level : tie.After-below-number → ℕ
+level c = c.below-number.new.level
 
 -- ---- what is known there
-pairs_is : (c : tie.After-root-for) → c.root-for.result ≡ pair_fault (grid (at-start c))
-pairs_is c = c.root-for.ensures.0 ∙ pair_only (grid (at-start c))
+pairs_is : (c : tie.After-root_for-fault) → c.root_for-fault.result ≡ pair_fault (grid (at-start c))
+pairs_is c = c.root_for-fault.ensures.0 ∙ pair_only (grid (at-start c))
 
-paired : (c : tie.Else1) → pair_fault (grid (at-start c.before)) ≡ 0
-paired c = sym (pairs_is c.before) ∙ c.if1.false
+paired : (c : tie.Else-fault-ne0) → pair_fault (grid (at-start c.before)) ≡ 0
+paired c = sym (pairs_is c.before) ∙ c.if-fault-ne0.false
 
-reads : (c : tie.After-below) → told c.below.result (stored c) (level c) ≡ lookup (grid (start c)) (coordinate (start c))
+reads : (c : tie.After-below-number) → told c.below-number.result (stored c) (level c) ≡ lookup (grid (start c)) (coordinate (start c))
 reads c =
     let p = at-paired c.before in
     let f = (start c).ranges in
-    by_place (grid (start c)) (coordinate (start c)) (paired p) c.below.ensures c.before.before.before.place_of.ensures
-    (p.before.root-for.ensures.1 p.if1.left) (λ t. at (seen f.x t) (seen f.y t) (seen f.z t))
+    by_place (grid (start c)) (coordinate (start c)) (paired p) c.below-number.ensures c.before.before.before.place_of.ensures
+    (p.before.root_for-fault.ensures.1 p.if-fault-ne0.false) (λ t. at (seen f.x t) (seen f.y t) (seen f.z t))
 
-below-requires : tie.Need-below-requires
+below-requires : tie.Need-below-number-requires
 below-requires c κs =
     let p = at-paired c in
     let q = pairs (grid (at-start p.before)) (paired p) in
@@ -66,23 +66,23 @@ below-requires c κs =
 abbrev says : Found → Said Spoken
 says f = said unspoken (spoken f)
 
-returns : tie.Need-returns
+returns : tie.Need-returns-then-fault-ne0
 returns c =
     let s = at-start c.before in
     let e = pairs_is c.before in
-    ap says (ap refused e ∙ unpaired (grid s) (coordinate s) (λ z. c.if1.true (e ∙ z)))
+    ap says (ap refused e ∙ unpaired (grid s) (coordinate s) (λ z. c.if-fault-ne0.true (e ∙ z)))
 
-returns-2 : tie.Need-returns-2
-returns-2 c = let b = c.before in ap says (told_refused b.below.result (stored b) (level b) c.if2.true ∙ reads b)
+returns-2 : tie.Need-returns-then-number-ne0
+returns-2 c = let b = c.before in ap says (told_refused b.below-number.result (stored b) (level b) c.if-number-ne0.true ∙ reads b)
 
-returns-3 : tie.Need-returns-3
+returns-3 : tie.Need-returns
 returns-3 c =
     let b = c.before.before in
-    ap (λ (l : Level). said unspoken (ok (record { value = stored b; level = l }))) c.level-of.ensures
-    ∙ ap says (told_value b.below.result (stored b) (level b) c.before.if2.false ∙ reads b)
+    ap (λ (l : Level). said unspoken (ok (record { value = stored b; level = l }))) c.level_of-spoke.ensures
+    ∙ ap says (told_value b.below-number.result (stored b) (level b) c.before.if-number-ne0.false ∙ reads b)
 
-pub get-reading-spec : {M : Type 1} → statement M
-get-reading-spec =
+pub get_reading_spec : {M : Type 1} → statement M
+get_reading_spec =
     tie.close
     (tie.spec
     (λ c κs. search rules)

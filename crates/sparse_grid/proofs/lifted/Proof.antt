@@ -9,9 +9,9 @@ use Rattle.sparse_grid.proofs.lifted.Tie as tie
 returns : tie.Need-returns
 returns c =
     let p = c.before in
-    c.wrapping-add-u32.ensures
-    ∙ sym (raised_back p.biased.result (omega (arith, p.biased.type-inv)))
+    c.wrapping_add_u32.ensures
+    ∙ sym (raised_back p.biased.result (omega (arith, p.biased.type_inv)))
     ∙ ap raised (sym p.biased.ensures ∙ seen p.before.ranges.block)
 
-pub lifted-spec : {M : Type 1} → statement M
-lifted-spec = tie.close (tie.spec (λ c κs. search rules) (λ c κs. search rules) returns)
+pub lifted_spec : {M : Type 1} → statement M
+lifted_spec = tie.close (tie.spec (λ c κs. search rules) (λ c κs. search rules) returns)

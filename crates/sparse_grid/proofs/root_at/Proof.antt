@@ -6,10 +6,10 @@ use Rattle.sparse_grid.specs.Signs.{seen}
 use Rattle.sparse_grid.proofs.root_at.Statement.{statement}
 use Rattle.sparse_grid.proofs.root_at.Tie as tie
 
-abbrev at-start : tie.After-x → tie.Start
+abbrev at-start : tie.After-x-1 → tie.Start
 at-start c = c.before.before.before
 
-abbrev at-z : tie.After-entry-of → tie.After-z
+abbrev at-z : tie.After-entry_of-entry → tie.After-z-1
 at-z c = c.before.before.before
 
 returns : tie.Need-returns
@@ -17,14 +17,14 @@ returns c =
     let p = (at-z c).before.before in
     let a = (at-start p).args in
     let b = root_block a.blocks.now a.i in
-    let x : SFits w32 b.x = record { sfits = p.x.given } in
-    let y : SFits w32 b.y = record { sfits = (at-z c).before.y.given } in
-    let z : SFits w32 b.z = record { sfits = (at-z c).z.given } in
-    let e = c.entry_of_lem.ensures ∙ entry_read_lem a.links.now a.values.now a.i (at-start p).requires.value in
+    let x : SFits w32 b.x = record { sfits = p.x-1.given } in
+    let y : SFits w32 b.y = record { sfits = (at-z c).before.y-1.given } in
+    let z : SFits w32 b.z = record { sfits = (at-z c).z-1.given } in
+    let e = c.entry_of-entry.ensures ∙ entry_read_lem a.links.now a.values.now a.i (at-start p).requires.value in
     λ k. record { x = seen x k; y = seen y k; z = seen z k; entry = e k }
 
-pub root-at-spec : {M : Type 1} → statement M
-root-at-spec =
+pub root_at_spec : {M : Type 1} → statement M
+root_at_spec =
     tie.close
     (tie.spec
     (λ c. omega arith) (λ c. omega arith) (λ c. omega arith) (λ c. omega arith) (λ c. omega arith)

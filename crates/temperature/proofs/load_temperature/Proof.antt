@@ -90,8 +90,8 @@ returns c =
     let l = lengths (lent f) in
     let is = d.decode-scalar-grid.ensures.0 in
     let h = f.before.heat-fault.ensures in (
-      load_refused b t l is f.first-fault.ensures h q.if1.taken c.refused.ensures,
-      left_refused b t l is f.first-fault.ensures h q.if1.taken (zeros-are z),
+      load_refused b t l is f.first-fault.ensures h q.if1.true c.refused.ensures,
+      left_refused b t l is f.first-fault.ensures h q.if1.true (zeros-are z),
     )
 
 returns-2 : tie.Need-returns-2

@@ -59,7 +59,7 @@ returns-2 t c =
     let e = at_more t p in
     let a = e.before.before.args in
     (put_last (wrote p.put_sixteens.ensures) (wrote c.before.before.put_byte.ensures) d.digit.ensures
-    (sixteens_more a.k a.n e.if1.left)).is
+    (sixteens_more a.k a.n e.if1.false)).is
 
 pub +put-sixteens-spec : {M : Type 1} → statement M
 +put-sixteens-spec = close μ-put-sixteens λ t. lts.spec (claims t) (here t) put_sixteens.Post

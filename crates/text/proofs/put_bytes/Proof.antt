@@ -33,7 +33,7 @@ loop-again c =
     let b = c.before.before in
     let p = (at_turn b).before in (
       omega arith,
-      (put_more (at-start p).args.bytes.now p.loop.i (omega arith) (wrote p.loop.inv.1) (wrote b.put_byte.ensures)).is,
+      (put_more (at-start p).args.bytes.now p.loop.i (omega arith) (wrote p.loop.invariant.1) (wrote b.put_byte.ensures)).is,
     )
 
 same_length : tie.Need-same-length invariant-loop decreases-loop

@@ -29,12 +29,12 @@ room c = rw c.loop.invariant.long (start c).requires.1
 loop-again : tie.Need-loop-preserved invariant-loop decreases-loop
 loop-again c =
     let r = c.before.before in
-    left_one _ _ _ _ _ (at_one r.before).loop.inv _ _ (omega arith) r.raise-one-before.ensures.0 r.raise-one-before.ensures.1
+    left_one _ _ _ _ _ (at_one r.before).loop.invariant _ _ (omega arith) r.raise-one-before.ensures.0 r.raise-one-before.ensures.1
 
 loop-again-2 : tie.Need-loop-preserved-2 invariant-loop decreases-loop
 loop-again-2 c =
     let r = c.before.before in
-    left_four _ _ _ _ _ (at-four r.before).loop.inv _ _ (omega arith) r.raise-four-before.ensures.0 r.raise-four-before.ensures.1
+    left_four _ _ _ _ _ (at-four r.before).loop.invariant _ _ (omega arith) r.raise-four-before.ensures.0 r.raise-four-before.ensures.1
 
 pub raise-ring-spec : {M : Type 1} → statement M
 raise-ring-spec =

@@ -6,5 +6,5 @@ use Rattle.contents.proofs.segment.body_passes.Tie as tie
 returns : tie.Need-returns
 returns c = cc
 
-pub body-passes-spec : {M : Type 1} → statement M
-body-passes-spec = tie.close (tie.spec (λ c κs. search rules) (λ c κs. search rules) returns)
+pub body_passes_spec : {M : Type 1} → statement M
+body_passes_spec = tie.close (tie.spec (λ c κs. search rules) (λ c κs. search rules) returns)

@@ -15,18 +15,18 @@ use Rattle.contents.proofs.Steps.{row_goes, row_stops}
 use Rattle.contents.proofs.segment.entries.Statement.{statement}
 use Rattle.contents.proofs.segment.entries.Tie as tie
 
-abbrev invariant-loop : tie.invariant-loop
+abbrev invariant-loop : tie.invariant-loop-i
 invariant-loop file segment grids at₀ i₀ at i = (i ≤ grids) × (at ≡ entry_at file segment i) × (first_fault i (entry_fault file segment) ≡ 0)
 
-abbrev decreases-loop : tie.decreases-loop
+abbrev decreases-loop : tie.decreases-loop-i
 decreases-loop file segment grids at₀ i₀ at i = grids - i
 
 -- ---- a turn of the loop: the file, the segment, the entry's number, and what its test says
 
 abbrev Turn : Type 0
-Turn = tie.After-entry-passes invariant-loop decreases-loop
+Turn = tie.After-entry_passes invariant-loop decreases-loop
 
-abbrev at_head : Turn → tie.At-loop invariant-loop decreases-loop
+abbrev at_head : Turn → tie.At-loop-i invariant-loop decreases-loop
 at_head c = c.before.before
 
 abbrev file : Turn → List ℕ
@@ -36,53 +36,53 @@ abbrev segment : Turn → ℕ
 segment c = (at_head c).before.before.before.args.segment
 
 abbrev number : Turn → ℕ
-number c = (at_head c).loop.i
+number c = (at_head c).loop-i.i
 
 abbrev passes : Turn → ℕ → Bool
 passes c k = entry_passes (file c) (segment c) (entry_at (file c) (segment c) k)
 
-tested : (c : Turn) → passes c (number c) ≡ c.entry_passes_lem.result
-tested c = sym (c.entry_passes_lem.ensures ∙ ap (entry_passes (file c) (segment c)) (at_head c).loop.invariant.1)
+tested : (c : Turn) → passes c (number c) ≡ c.entry_passes.result
+tested c = sym (c.entry_passes.ensures ∙ ap (entry_passes (file c) (segment c)) (at_head c).loop-i.invariant.1)
 
 -- ---- the needs
 
-loop-holds : tie.Need-loop-init invariant-loop decreases-loop
+loop-holds : tie.Need-loop-i-init invariant-loop decreases-loop
 loop-holds c = (omega arith, sym (entry_first _ _), first_fault_none _)
 
-returns : tie.Need-returns invariant-loop decreases-loop
+returns : tie.Need-returns-then-not-entry_passes invariant-loop decreases-loop
 returns c =
     let t = c.before in
     record {
-      fault = row_stops (passes t) (number t) (at_head t).loop.invariant.2 (count (file t) (segment t)) (search rules) (tested t ∙ not-true _ c.if1.true);
+      fault = row_stops (passes t) (number t) (at_head t).loop-i.invariant.2 (count (file t) (segment t)) (search rules) (tested t ∙ c.if-not-entry_passes.true);
       end = λ e. absurd (omega arith);
     }
 
-entry-end-requires : tie.Need-entry-end-requires invariant-loop decreases-loop
+entry-end-requires : tie.Need-entry_end-at-requires invariant-loop decreases-loop
 entry-end-requires c κs =
     let t = c.before in
-    name_inside (file t) (segment t) (at_head t).loop.at (yes (sym t.entry_passes_lem.ensures ∙ not-false _ c.if1.false))
+    name_inside (file t) (segment t) (at_head t).loop-i.at (yes (sym t.entry_passes.ensures ∙ c.if-not-entry_passes.false))
 
-loop-again : tie.Need-loop-preserved invariant-loop decreases-loop
+loop-again : tie.Need-loop-i-preserved invariant-loop decreases-loop
 loop-again c =
     let t = c.before.before in (
       omega arith,
-      c.entry-end.ensures ∙ ap (entry_end (file t)) (at_head t).loop.invariant.1 ∙ sym (entry_next (file t) (segment t) (number t)),
-      row_goes (passes t) (number t) (at_head t).loop.invariant.2 (tested t ∙ not-false _ c.before.if1.false),
+      c.entry_end-at.ensures ∙ ap (entry_end (file t)) (at_head t).loop-i.invariant.1 ∙ sym (entry_next (file t) (segment t) (number t)),
+      row_goes (passes t) (number t) (at_head t).loop-i.invariant.2 (tested t ∙ c.before.if-not-entry_passes.false),
     )
 
-returns-2 : tie.Need-returns-2 invariant-loop decreases-loop
+returns-2 : tie.Need-returns invariant-loop decreases-loop
 returns-2 c =
     let l = c.before in
     let b = l.before.before.before.args.file.now in
     let s = l.before.before.before.args.segment in
-    let all : l.loop.i ≡ count b s = omega arith in
+    let all : l.loop-i.i ≡ count b s = omega arith in
     record {
-      fault = sym (first_fault_end (count b s) l.loop.i (entry_fault b s) (omega arith) (omega arith) l.loop.invariant.2);
-      end = λ e. l.loop.invariant.1 ∙ ap (entry_at b s) all ∙ sym (body_first b s);
+      fault = sym (first_fault_end (count b s) l.loop-i.i (entry_fault b s) (omega arith) (omega arith) l.loop-i.invariant.2);
+      end = λ e. l.loop-i.invariant.1 ∙ ap (entry_at b s) all ∙ sym (body_first b s);
     }
 
-pub entries-spec : {M : Type 1} → statement M
-entries-spec =
+pub entries_spec : {M : Type 1} → statement M
+entries_spec =
     tie.close
     (tie.spec
     invariant-loop

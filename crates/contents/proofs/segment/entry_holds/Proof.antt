@@ -8,8 +8,8 @@ returns : tie.Need-returns
 unfolding entry_holds
 returns c = cc
 
-pub entry-holds-spec : {M : Type 1} → statement M
-entry-holds-spec =
+pub entry_holds_spec : {M : Type 1} → statement M
+entry_holds_spec =
     tie.close
     (tie.spec
     (λ c. search rules)

@@ -9,17 +9,17 @@ use Rattle.contents.proofs.segment.entry_passes.Statement.{statement}
 use Rattle.contents.proofs.segment.entry_passes.Tie as tie
 
 -- past the end test
-within : (c : tie.Then1) → c.before.before.before.args.at + 176 ≤ length c.before.before.before.args.file.now
-within c = leb-true _ _ (sym c.before.inside.ensures ∙ c.if1.true)
+within : (c : tie.Then-inside) → c.before.before.before.args.at + 176 ≤ length c.before.before.before.args.file.now
+within c = leb-true _ _ (sym c.before.inside.ensures ∙ c.if-inside.true)
 
-entry-holds-requires : tie.Need-entry-holds-requires
+entry-holds-requires : tie.Need-entry_holds-requires
 entry-holds-requires c κs = (c.before.before.before.requires, within c)
 
-returns : tie.Need-returns
-returns c = let t = c.before.before in goes_on_lem _ _ t.inside.ensures c.before.if1.true c.entry-holds.ensures
+returns : tie.Need-returns-then-inside
+returns c = let t = c.before.before in goes_on_lem _ _ t.inside.ensures c.before.if-inside.true c.entry_holds.ensures
 
-returns-2 : tie.Need-returns-2
-returns-2 c = stops_there _ _ c.before.inside.ensures c.if1.false
+returns-2 : tie.Need-returns
+returns-2 c = stops_there _ _ c.before.inside.ensures c.if-inside.false
 
-pub entry-passes-spec : {M : Type 1} → statement M
-entry-passes-spec = tie.close (tie.spec (λ c κs. search rules) entry-holds-requires returns returns-2)
+pub entry_passes_spec : {M : Type 1} → statement M
+entry_passes_spec = tie.close (tie.spec (λ c κs. search rules) entry-holds-requires returns returns-2)

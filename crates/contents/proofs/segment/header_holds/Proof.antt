@@ -8,8 +8,8 @@ returns : tie.Need-returns
 unfolding header_holds
 returns c = cc
 
-pub header-holds-spec : {M : Type 1} → statement M
-header-holds-spec =
+pub header_holds_spec : {M : Type 1} → statement M
+header_holds_spec =
     tie.close
     (tie.spec
     (λ c κs. search rules)

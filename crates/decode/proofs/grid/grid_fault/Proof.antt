@@ -104,7 +104,7 @@ returns c = let s = from-fault c.before in scalar s.args.density (used s) (tree-
 returns-2 : tie.Need-returns-2
 returns-2 c =
     let d = c.before in let e = at-scalar d in let s = from-fault e.before in
-    dense s.args.density (used s) (tree-fault e.before) e.if1.left (at-medium (at-validate e.before)).before.f32-at.ensures
+    dense s.args.density (used s) (tree-fault e.before) e.if1.false (at-medium (at-validate e.before)).before.f32-at.ensures
     d.density-fault.ensures c.first-fault3.ensures
 
 pub grid-fault-spec : {M : Type 1} → statement M

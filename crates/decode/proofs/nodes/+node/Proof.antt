@@ -181,7 +181,7 @@ module _ (t : ℕ) where
   internal c = record { new = new (loop-new c); above = pos_of_ne-zero c.before.if1.false; three = (loop-start c).requires.1.1 }
 
   run : (c : At lts.After-tiles-between) → let n = run-next c in let l = n.before in InLoop l Turned (ran c) l.loop.now n.next_child.result
-  run c = let n = run-next c in run-to (internal n.before) n.before.loop.inv n.next_child.ensures c.tiles_between.ensures
+  run c = let n = run-next c in run-to (internal n.before) n.before.loop.invariant n.next_child.ensures c.tiles_between.ensures
 
   keeps : (c : At lts.After-tiles-between) → Kept (lent (loop-start (run-loop c))) (ran c)
   keeps c = turn-keeps (internal (run-loop c)) (run c)

@@ -37,12 +37,12 @@ few c = trailing_le 64 (c.before.mask_word_lem.result / 2 ^ ((at_turn c.before).
 returns : tie.Need-returns invariant-loop decreases-loop
 returns c =
     let w = c.before in let l = at_turn w in
-    next_found (bytes w) l.before.loop.inv l.loop-test.taken (at-start w).requires.2 (word w) c.if1.true
+    next_found (bytes w) l.before.loop.invariant l.loop-test.true (at-start w).requires.2 (word w) c.if1.true
 
 loop-again : tie.Need-loop-preserved invariant-loop decreases-loop
 loop-again c =
     let w = c.before in let l = at_turn w in
-    passed_word (bytes w) l.before.loop.inv l.loop-test.taken (at-start w).requires.2 (word w) c.if1.false
+    passed_word (bytes w) l.before.loop.invariant l.loop-test.true (at-start w).requires.2 (word w) c.if1.false
 
 pub next-child-spec : {M : Type 1} → statement M
 next-child-spec =

@@ -41,7 +41,7 @@ meets-requires c κs = let z = at_size c.before in ((start z).requires.0, omega 
 push-requires : tie.Need-push-requires
 push-requires c κs =
     let e = at-free c in let (rep, three, small) = (start (at_size (at-inside e.before))).requires in
-    ((rep, omega arith), (three, small, met e.before e.if3.left))
+    ((rep, omega arith), (three, small, met e.before e.if3.false))
 
 -- ---- the ways out: past the end, past the end, an overlap, no room, and a span more
 returns : tie.Need-returns
@@ -67,7 +67,7 @@ returns-4 c =
 returns-5 : tie.Need-returns-5
 returns-5 c =
     let p = c.before.before in let g = at-free p.before in let m = g.before in let e = at-inside m in
-    (p.push.ensures, says_ok (node (start (at_size e))) (inside e) (met m g.if3.left) (omega arith))
+    (p.push.ensures, says_ok (node (start (at_size e))) (inside e) (met m g.if3.false) (omega arith))
 
 pub claim-spec : {M : Type 1} → statement M
 claim-spec =

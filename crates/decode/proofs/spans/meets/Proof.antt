@@ -41,14 +41,14 @@ returns-2 c =
 returns-3 : tie.Need-returns-3
 returns-3 c =
     let e = at_leaf c.before.before in let a = (at-start e.before).args in
-    whole_nodes a.work.now a.st a.start a.end e.before.fixed.ensures e.if1.left
+    whole_nodes a.work.now a.st a.start a.end e.before.fixed.ensures e.if1.false
     (sym (c.before.meets-at2.ensures.yes c.if3.true))
 
 returns-4 : tie.Need-returns-4
 returns-4 c =
     let h = c.before in let g = at_lower_lem h in let e = at_leaf g in let s = at-start e.before in
-    whole_nodes s.args.work.now s.args.st s.args.start s.args.end e.before.fixed.ensures e.if1.left
-    (levels s.requires.0 g.before.meets_at.ensures g.if2.left h.before.meets-at2.ensures h.if3.false c.meets-at3.ensures)
+    whole_nodes s.args.work.now s.args.st s.args.start s.args.end e.before.fixed.ensures e.if1.false
+    (levels s.requires.0 g.before.meets_at.ensures g.if2.false h.before.meets-at2.ensures h.if3.false c.meets-at3.ensures)
 
 pub meets-spec : {M : Type 1} → statement M
 meets-spec =

@@ -37,7 +37,7 @@ loop-again : tie.Need-loop-preserved invariant-loop decreases-loop
 loop-again c =
     let m = c.before in let l = at-loop c in let a = (at-start l).args in
     from_next a.work.now a.count a.level a.start a.end (size_pos a.level) l.loop.q m.before.chain.ensures.0 c.if1.false
-    m.meets-in.ensures l.loop.inv
+    m.meets-in.ensures l.loop.invariant
 
 returns : tie.Need-returns invariant-loop decreases-loop
 returns c = met_at c.if1.true c.before.meets-in.ensures

@@ -35,18 +35,18 @@ loop-less : tie.Need-loop-smaller invariant-loop decreases-loop
 unfolding chain_link
 loop-less c =
     let l = at_turn c.before.before in
-    walk_less (at-start l.before).requires.0 l.loop-test.taken l.before.loop.inv
+    walk_less (at-start l.before).requires.0 l.loop-test.true l.before.loop.invariant
 
 loop-again : tie.Need-loop-preserved invariant-loop decreases-loop
 unfolding chain_link
 loop-again c =
     let l = at_turn c.before.before in
-    walk_next (at-start l.before).requires.0 l.loop-test.taken l.before.loop.inv (sym (tested c.before.before) ∙ c.before.if1.false)
+    walk_next (at-start l.before).requires.0 l.loop-test.true l.before.loop.invariant (sym (tested c.before.before) ∙ c.before.if1.false)
 
 returns : tie.Need-returns invariant-loop decreases-loop
 returns c =
     let l = at_turn c.before in
-    met_here l.before.loop.inv l.loop-test.taken (sym (tested c.before) ∙ c.if1.true)
+    met_here l.before.loop.invariant l.loop-test.true (sym (tested c.before) ∙ c.if1.true)
 
 returns-2 : tie.Need-returns-2 invariant-loop decreases-loop
 returns-2 c = met_none c.before.loop.invariant c.loop-test.false

@@ -146,7 +146,7 @@ returns c = tile_out_key c.before.before.u64-at.ensures (sym c.before.key-passes
 returns-2 : tie.Need-returns-2
 returns-2 c =
     let p = at-put c in let w = at-word p in let e = w.before.before in
-    tile_out_value (keyed e) (start e).requires.6 w.before.u64-at2.ensures w.if2.taken p.before.f32-at.ensures (put-value p)
+    tile_out_value (keyed e) (start e).requires.6 w.before.u64-at2.ensures w.if2.true p.before.f32-at.ensures (put-value p)
 
 returns-3 : tie.Need-returns-3
 returns-3 c = tile_out_off (aimed c.before.before.before) c.before.e.given.1

@@ -75,34 +75,34 @@ tile-keeps c =
     }
 
 keeps : (c : tie.After-e invariant-loop decreases-loop) → let p = at-refusal c in Kept (lent (start (turn p).before)) (all_tables (nodes-after p) (roots-after p))
-keeps c = let p = at-refusal c in kept_on (turn p).before.loop.inv.kept (tile-keeps p)
+keeps c = let p = at-refusal c in kept_on (turn p).before.loop.invariant.kept (tile-keeps p)
 
 -- ---- the call and the loop
 tile-requires : tie.Need-tile-requires invariant-loop decreases-loop
 tile-requires c κs =
-    let l = at_turn c in let s = start l.before in let kept = l.before.loop.inv.kept in (
+    let l = at_turn c in let s = start l.before in let kept = l.before.loop.invariant.kept in (
       s.requires.0,
       s.requires.1,
-      omega (arith, l.loop-test.taken, s.requires.2),
-      omega (arith, l.loop-test.taken, kept.blocks, s.requires.3, s.requires.4),
-      omega (arith, l.loop-test.taken, kept.root_links, s.requires.4),
+      omega (arith, l.loop-test.true, s.requires.2),
+      omega (arith, l.loop-test.true, kept.blocks, s.requires.3, s.requires.4),
+      omega (arith, l.loop-test.true, kept.root_links, s.requires.4),
       kept.root_values ∙ s.requires.5 ∙ sym kept.root_links,
-      l.before.loop.inv.fit,
+      l.before.loop.invariant.fit,
     )
 
 add-i : tie.Need-overflow-add-i invariant-loop decreases-loop
-add-i c = let l = turn (at-tile c.before) in omega (arith, l.loop-test.taken, (start l.before).requires.2)
+add-i c = let l = turn (at-tile c.before) in omega (arith, l.loop-test.true, (start l.before).requires.2)
 
 loop-again : tie.Need-loop-preserved invariant-loop decreases-loop
 loop-again c =
     let p = at-tile c.before in let l = turn p in
-    row_more l.before.loop.inv {u = nodes-after p} {v = roots-after p} p.tile.ensures l.loop-test.taken c.before.s.given.1 (tile-keeps p)
+    row_more l.before.loop.invariant {u = nodes-after p} {v = roots-after p} p.tile.ensures l.loop-test.true c.before.s.given.1 (tile-keeps p)
 
 -- ---- the ways out: by a tile, and with all tiles read
 returns : tie.Need-returns invariant-loop decreases-loop
 returns c =
     let p = at-refusal c.before in let l = turn p in
-    tiles_stop l.before.loop.inv {u = nodes-after p} {v = roots-after p} p.tile.ensures l.loop-test.taken c.before.e.given.1
+    tiles_stop l.before.loop.invariant {u = nodes-after p} {v = roots-after p} p.tile.ensures l.loop-test.true c.before.e.given.1
 
 returns-2 : tie.Need-returns-2 invariant-loop decreases-loop
 returns-2 c = tiles_end c.before.loop.invariant c.loop-test.false

@@ -86,7 +86,7 @@ asked c =
         long = (at_length (at_words r.before)).if1.false;
         words = (at_words r.before).if2.false;
         offset-is = r.before.u64-at.ensures;
-        near = r.if3.left;
+        near = r.if3.false;
         tiles-are = c.before.before.u32-at.ensures;
       };
       says = c.begin.ensures;
@@ -103,7 +103,7 @@ tiled c =
       spans = _;
       asked = asked (begun c);
       done = (at-spans e).spans.given.1;
-      few = e.if4.left;
+      few = e.if4.false;
       out = c.tiles.ensures;
     }
 
@@ -141,10 +141,10 @@ tiles-requires c κs =
     let e = at_places c in let p = at-claim (at-spans e) in
     let (short, blocks, links, upper, lower) = (start p).requires in (
       short,
-      omega (arith, (at-root p).if3.left, short),
+      omega (arith, (at-root p).if3.false, short),
       omega (arith, p.before.before.u32-at.ok),
       blocks,
-      e.if4.left,
+      e.if4.false,
       links,
       tree-fit (asked p) (at-spans e).spans.given.1 upper lower,
     )
@@ -157,7 +157,7 @@ returns-2 : tie.Need-returns-2
 returns-2 c = out-spanless _ c.before.if1.false c.if2.true
 
 returns-3 : tie.Need-returns-3
-returns-3 c = let w = at_words c.before in out-past _ (at_length w).if1.left w.if2.left c.before.u64-at.ensures c.if3.true
+returns-3 c = let w = at_words c.before in out-past _ (at_length w).if1.false w.if2.false c.before.u64-at.ensures c.if3.true
 
 returns-4 : tie.Need-returns-4
 returns-4 c = let s = c.before.before in out-many (asked (at-claim s)) s.spans.given.1 c.if4.true

@@ -72,8 +72,8 @@ returns c =
     let r = c.before.before.before in
     let t = at_test r in
     let b = (start t).args in
-    filled_stop t.before.loop.inv.1 r.row.result (t.before.loop.at + b.nx) (b.start + b.ny * b.nx) (left r)
-    t.loop-test.taken r.row.ensures c.if1.true
+    filled_stop t.before.loop.invariant.1 r.row.result (t.before.loop.at + b.nx) (b.start + b.ny * b.nx) (left r)
+    t.loop-test.true r.row.ensures c.if1.true
 
 loop-again : tie.Need-loop-preserved invariant-loop decreases-loop
 loop-again c =
@@ -81,9 +81,9 @@ loop-again c =
     let t = at_test r in
     let b = (start t).args in
     let j = t.before.loop.j in (
-      ap (λ (k : ℕ). k + b.nx) t.before.loop.inv.0 ∙ add_assoc b.start (j * b.nx) b.nx ∙ ap (λ (k : ℕ). b.start + k) (one_more j b.nx),
-      filled_more t.before.loop.inv.1 r.row.result (t.before.loop.at + b.nx) (left r)
-          t.loop-test.taken r.row.ensures c.if1.false (kept r),
+      ap (λ (k : ℕ). k + b.nx) t.before.loop.invariant.0 ∙ add_assoc b.start (j * b.nx) b.nx ∙ ap (λ (k : ℕ). b.start + k) (one_more j b.nx),
+      filled_more t.before.loop.invariant.1 r.row.result (t.before.loop.at + b.nx) (left r)
+          t.loop-test.true r.row.ensures c.if1.false (kept r),
     )
 
 returns-2 : tie.Need-returns-2 invariant-loop decreases-loop
@@ -105,8 +105,8 @@ plane-spec =
     (λ c. let r = c.before.before.before in kept r ∙ (at_test r).before.loop.invariant.1.long)
     returns
     (λ c. let t = at_test c.before.before.before in omega (arith, places t, short (start t)))
-    (λ c. let t = at_test c.before.before.before in omega (arith, t.loop-test.taken, (start t).requires.2))
-    (λ c. omega (arith, (at_test c.before.before.before).loop-test.taken))
+    (λ c. let t = at_test c.before.before.before in omega (arith, t.loop-test.true, (start t).requires.2))
+    (λ c. omega (arith, (at_test c.before.before.before).loop-test.true))
     loop-again
     (λ c. c.before.loop.invariant.1.long)
     returns-2)

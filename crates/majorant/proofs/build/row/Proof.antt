@@ -65,7 +65,7 @@ returns c =
     let b = (start t).args in
     let r = f.cell-figure.result in
     let m = t.before.loop.majorants in
-    filled_stop t.before.loop.inv r.fault 0 (b.start + b.n) m t.loop-test.taken
+    filled_stop t.before.loop.invariant r.fault 0 (b.start + b.n) m t.loop-test.true
     (stopped_push r.fault r.value m (b.start + t.before.loop.i) 0 m _ c.if1.true f.cell-figure.ensures) c.if1.true
 
 loop-again : tie.Need-loop-preserved invariant-loop decreases-loop
@@ -76,7 +76,7 @@ loop-again c =
     let r = f.cell-figure.result in
     let m = t.before.loop.majorants in
     let a = b.start + t.before.loop.i in
-    filled_more t.before.loop.inv r.fault (b.start + (t.before.loop.i + 1)) (set m a r.value) t.loop-test.taken
+    filled_more t.before.loop.invariant r.fault (b.start + (t.before.loop.i + 1)) (set m a r.value) t.loop-test.true
     (pushed a (b.start + (t.before.loop.i + 1)) r.fault r.value m _ (place t) (omega arith) f.cell-figure.ensures)
     c.if1.false (length-set m a r.value)
 
@@ -94,13 +94,13 @@ row-spec =
     (λ c. omega (arith, c.loop-test.true, (start c).requires.1))
     (λ c. omega (arith, c.loop-test.true, (start c).requires.1))
     (λ c κs. (start c.before).requires.0)
-    (λ c. (at_test c.before.before).before.loop.inv.long)
+    (λ c. (at_test c.before.before).before.loop.invariant.long)
     returns
-    (λ c. let t = at_test c.before.before in omega (arith, place t, t.before.loop.inv.long, short (start t)))
-    (λ c. let t = at_test c.before.before in omega (arith, place t, t.before.loop.inv.long, short (start t)))
+    (λ c. let t = at_test c.before.before in omega (arith, place t, t.before.loop.invariant.long, short (start t)))
+    (λ c. let t = at_test c.before.before in omega (arith, place t, t.before.loop.invariant.long, short (start t)))
     (λ c. omega (arith, place (at_test c.before.before)))
-    (λ c. let t = at_test c.before.before in omega (arith, t.loop-test.taken, (start t).requires.1))
-    (λ c. omega (arith, (at_test c.before.before).loop-test.taken))
+    (λ c. let t = at_test c.before.before in omega (arith, t.loop-test.true, (start t).requires.1))
+    (λ c. omega (arith, (at_test c.before.before).loop-test.true))
     loop-again
     (λ c. c.before.loop.invariant.long)
     returns-2)

@@ -74,17 +74,17 @@ returns c =
     let r = c.before.before.before in
     let t = at_test r in
     let b = (start t).args in
-    filled_stop t.before.loop.inv.1 r.plane.result (t.before.loop.at + b.ny * b.nx) (b.nz * (b.ny * b.nx)) (left r)
-    t.loop-test.taken r.plane.ensures c.if1.true
+    filled_stop t.before.loop.invariant.1 r.plane.result (t.before.loop.at + b.ny * b.nx) (b.nz * (b.ny * b.nx)) (left r)
+    t.loop-test.true r.plane.ensures c.if1.true
 
 loop-again : tie.Need-loop-preserved invariant-loop decreases-loop
 loop-again c =
     let r = c.before.before.before in
     let t = at_test r in
     let b = (start t).args in (
-      ap (λ (n : ℕ). n + b.ny * b.nx) t.before.loop.inv.0 ∙ one_more t.before.loop.k (b.ny * b.nx),
-      filled_more t.before.loop.inv.1 r.plane.result (t.before.loop.at + b.ny * b.nx) (left r)
-          t.loop-test.taken r.plane.ensures c.if1.false (kept r),
+      ap (λ (n : ℕ). n + b.ny * b.nx) t.before.loop.invariant.0 ∙ one_more t.before.loop.k (b.ny * b.nx),
+      filled_more t.before.loop.invariant.1 r.plane.result (t.before.loop.at + b.ny * b.nx) (left r)
+          t.loop-test.true r.plane.ensures c.if1.false (kept r),
     )
 
 returns-2 : tie.Need-returns-2 invariant-loop decreases-loop
@@ -109,8 +109,8 @@ volume-spec =
     returns
     (λ c. let t = at_test c.before.before.before in omega (arith, places t, short (start t)))
     (λ c. let t = at_test c.before.before.before in omega (arith, places t, short (start t)))
-    (λ c. let t = at_test c.before.before.before in omega (arith, t.loop-test.taken, (start t).requires.3))
-    (λ c. omega (arith, (at_test c.before.before.before).loop-test.taken))
+    (λ c. let t = at_test c.before.before.before in omega (arith, t.loop-test.true, (start t).requires.3))
+    (λ c. omega (arith, (at_test c.before.before.before).loop-test.true))
     loop-again
     (λ c. c.before.loop.invariant.1.long)
     returns-2)

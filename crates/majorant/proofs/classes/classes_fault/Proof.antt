@@ -33,13 +33,13 @@ returns-2 c =
     let l = at-limits c in
     let x = at-sides l in
     let v = x.before.before in
-    let f = (start v).fits in
+    let f = (start v).ranges in
     let y = l.before.before in
     c.first-fault3.ensures
     ∙ (λ i. l.limits-fault.ensures i then (c.before.first-fault2.ensures ∙ (λ j.
     side_handed f.lx f.hx x.side-fault.ensures j then (c.before.before.first-fault.ensures ∙ (λ k.
     side_handed f.ly f.hy y.side-fault2.ensures k then side_handed f.lz f.hz l.before.side-fault3.ensures k)) j)) i)
-    ∙ sym (then_next _ (limits_fault (start v).args.limits.now then sides_fault (box (start v))) (sym v.validate.ensures ∙ x.before.if1.left))
+    ∙ sym (then_next _ (limits_fault (start v).args.limits.now then sides_fault (box (start v))) (sym v.validate.ensures ∙ x.before.if1.false))
 
 pub classes-fault-spec : {M : Type 1} → statement M
 classes-fault-spec =

@@ -63,9 +63,9 @@ clips c =
       x_part = (at-clip-x c).intersect-bounds.ensures;
       y_part = c.before.intersect-bounds2.ensures;
       z_part = c.intersect-bounds3.ensures;
-      x_met = sym (at_x (at_y z)).is-apart.ensures ∙ (at_y z).before.before.if1.left;
-      y_met = sym (at_y z).is-apart2.ensures ∙ z.before.before.if2.left;
-      z_met = sym z.is-apart3.ensures ∙ t.if3.left;
+      x_met = sym (at_x (at_y z)).is-apart.ensures ∙ (at_y z).before.before.if1.false;
+      y_met = sym (at_y z).is-apart2.ensures ∙ z.before.before.if2.false;
+      z_met = sym z.is-apart3.ensures ∙ t.if3.false;
     }
 
 -- the entry that was read

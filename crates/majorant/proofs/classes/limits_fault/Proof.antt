@@ -29,7 +29,7 @@ returns-2 c =
     let t = p.before in
     let b = at-number t in
     let l = (start b.before).args.limits.now in
-    limits_pass l b.before.both.ensures (not-false _ b.if1.left)
+    limits_pass l b.before.both.ensures (not-false _ b.if1.false)
     (limit_stops l t.before.loop.i t.loop-test.true t.before.loop.invariant.1 (sym p.limit-passes.ensures ∙ not-true _ c.if2.true))
 
 loop-again : tie.Need-loop-preserved invariant-loop decreases-loop

@@ -91,8 +91,8 @@ roots-classes-spec =
     let b = begin c in
     (omega arith, refl, gone_none (grid b) b.args.limits.now (zone_in b.args.x b.args.y b.args.z) b.args.counts.now b.requires.5))
     cover-classes-requires
-    (λ c. omega (arith, (at_test c.before.before).loop-test.taken))
-    (λ c. omega (arith, (at_test c.before.before).loop-test.taken))
+    (λ c. omega (arith, (at_test c.before.before).loop-test.true))
+    (λ c. omega (arith, (at_test c.before.before).loop-test.true))
     loop-again
     (λ c κs. let p = (ended c).requires in (p.1, p.2))
     (λ c. let l = c.before in let p = (ended l).requires in rest_fits p.0 p.2 (gone l) c.part-size.result c.part-size.ensures)

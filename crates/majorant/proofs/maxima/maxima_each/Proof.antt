@@ -44,9 +44,9 @@ loop-again c =
     let p = at-loop c.before in
     let s = start p.before in
     let t = p.loop.maxima in (
-      omega (arith, p.loop.inv.1, c.before.before.loop-test.true),
-      length-set t p.loop.i c.before.maximum-at.result ∙ p.loop.inv.1,
-      one_more (maximum s) s.args.boxes.now c.before.before.loop-test.true p.loop.inv.2 c.before.maximum-at.ensures c.greater.ensures,
+      omega (arith, p.loop.invariant.1, c.before.before.loop-test.true),
+      length-set t p.loop.i c.before.maximum-at.result ∙ p.loop.invariant.1,
+      one_more (maximum s) s.args.boxes.now c.before.before.loop-test.true p.loop.invariant.2 c.before.maximum-at.ensures c.greater.ensures,
     )
 
 returns : tie.Need-returns invariant-loop decreases-loop
@@ -68,7 +68,7 @@ maxima-each-spec =
     (λ c. let l = (at-loop c).loop.invariant.1 in omega (arith, l, c.before.loop-test.true))
     (λ c κs. search rules)
     (λ c. omega arith)
-    (λ c. let p = at-loop c.before in omega (arith, p.loop.inv.1, c.before.before.loop-test.true))
+    (λ c. let p = at-loop c.before in omega (arith, p.loop.invariant.1, c.before.before.loop-test.true))
     loop-again
     (λ c. c.before.loop.invariant.1)
     returns)

@@ -34,7 +34,7 @@ returns c q =
     let n = along (start a).args.x * along (start a).args.y * along (start a).args.z in
     let to : List ℕ → Type 0 = λ u. More t (set u 4 a.wrapping-add-u64.result) 0 0 0 n in
     ⊎_elim
-    (λ w. subst to (sym w.3) (values_carry t n (omega arith) a.wrapping-add-u64.ensures w.0.taken w.2.ensures))
+    (λ w. subst to (sym w.3) (values_carry t n (omega arith) a.wrapping-add-u64.ensures w.0.true w.2.ensures))
     (λ w. subst to (sym w.1) (values_more t n (omega arith) a.wrapping-add-u64.ensures w.0.left))
     c.if2.branch
 

@@ -61,7 +61,7 @@ ended c =
       full = b.requires.1;
       all =
           subst (λ (n : ℕ). CoveredIn (grid b) n b.args.x b.args.y b.args.z (held c).maximum (held c).blocks) (all-gone l)
-          l.before.loop.inv.1;
+          l.before.loop.invariant.1;
       along_x_lem = c.before.before.blocks-along.ensures.0;
       along_y_lem = c.before.blocks-along2.ensures.0;
       along_z_lem = c.blocks-along3.ensures.0;
@@ -99,13 +99,13 @@ returns c =
     let t = c.before in
     let b = t.before in
     let l = at_end b in
-    (ends_gap (ended b) t.if1.true c.greater.ensures, counted_all l.before.loop.inv.2 (all-gone l) (at-tally b).tally-roots.ensures)
+    (ends_gap (ended b) t.if1.true c.greater.ensures, counted_all l.before.loop.invariant.2 (all-gone l) (at-tally b).tally-roots.ensures)
 
 returns-2 : tie.Need-returns-2 invariant-loop decreases-loop
 returns-2 c =
     let b = c.before in
     let l = at_end b in
-    (ends_whole (ended b) c.if1.false refl, counted_all l.before.loop.inv.2 (all-gone l) (at-tally b).tally-roots.ensures)
+    (ends_whole (ended b) c.if1.false refl, counted_all l.before.loop.invariant.2 (all-gone l) (at-tally b).tally-roots.ensures)
 
 pub roots-max-spec : {M : Type 1} → statement M
 roots-max-spec =

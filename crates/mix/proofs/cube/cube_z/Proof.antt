@@ -24,7 +24,7 @@ returns c =
     let q = at_first c in
     let s = at-start q.before in
     let a = s.args in
-    let f = s.fits in
+    let f = s.ranges in
     let e = q.before.struct_told.given.1 in
     c.lerp.ensures
     ∙ (λ i. lerp

@@ -58,7 +58,7 @@ returns c =
     let p = at-loop d in
     let s = start p.before in
     filled_stop (density s) s.args.points.now d.density-at.result.fault d.density-at.result.value
-    p.loop.inv (within d) d.density-at.ensures c.if1.true
+    p.loop.invariant (within d) d.density-at.ensures c.if1.true
 
 loop-again : tie.Need-loop-preserved invariant-loop decreases-loop
 loop-again c =
@@ -66,7 +66,7 @@ loop-again c =
     let p = at-loop d in
     let s = start p.before in
     filled_more (density s) s.args.points.now d.density-at.result.fault d.density-at.result.value
-    p.loop.inv (within d) d.density-at.ensures c.if1.false
+    p.loop.invariant (within d) d.density-at.ensures c.if1.false
 
 returns-2 : tie.Need-returns-2 invariant-loop decreases-loop
 returns-2 c =
@@ -82,10 +82,10 @@ densities-spec =
     decreases-loop
     loop-holds
     density-at-requires
-    (λ c. (at-loop c.before.before).loop.inv.long)
+    (λ c. (at-loop c.before.before).loop.invariant.long)
     returns
-    (λ c. let p = at-loop c.before.before in omega (arith, p.loop.inv.long, short (start p.before), within c.before.before))
-    (λ c. let l = (at-loop c.before.before).loop.inv.long in omega (arith, l, within c.before.before))
+    (λ c. let p = at-loop c.before.before in omega (arith, p.loop.invariant.long, short (start p.before), within c.before.before))
+    (λ c. let l = (at-loop c.before.before).loop.invariant.long in omega (arith, l, within c.before.before))
     (λ c. let p = at-loop c.before.before in omega (arith, short (start p.before), within c.before.before))
     (λ c. omega (arith, within c.before.before))
     loop-again

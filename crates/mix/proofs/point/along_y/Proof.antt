@@ -28,7 +28,7 @@ returns c =
     let t = q.before in
     let s = at-start t in
     let a = s.args in
-    let f = s.fits in
+    let f = s.ranges in
     let e = t.struct_told.given.1 in
     c.lerp.ensures
     ∙ (λ i. lerp

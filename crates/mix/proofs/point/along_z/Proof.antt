@@ -38,7 +38,7 @@ from-spot : (c : tie.After-get-spot) (z : ℤ) → let s = at-start (at-shared c
 from-spot c z same =
     let s = at-start (at-shared c).before in
     let a = s.args in
-    let f = s.fits in
+    let f = s.ranges in
     let low = c.before.struct_told.given.1.0.1 in
     let d = at (held a.x) (held a.y) z in
     as_looked_up (grid s) c.get-spot.result d (c.get-spot.ensures a.leaf-values.now d
@@ -51,14 +51,14 @@ returns c =
     let t = at-shared q in
     let k = (at-start t.before).args.k in
     c.cube-z.ensures
-    ∙ (λ i. lerp (from-spot q k.lo refl i) (from-spot q k.hi (sym (t.before.shares.ensures t.if1.taken)) i) k.t)
+    ∙ (λ i. lerp (from-spot q k.lo refl i) (from-spot q k.hi (sym (t.before.shares.ensures t.if1.true)) i) k.t)
 
 returns-2 : tie.Need-returns-2
 returns-2 c =
     let q = at_first c in
     let s = at-start (at-apart q) in
     let a = s.args in
-    let f = s.fits in
+    let f = s.ranges in
     let e = q.before.struct-told2.given.1 in
     c.lerp.ensures
     ∙ (λ i. lerp

@@ -90,7 +90,7 @@ returns-2 c =
     let s = start (position q) in
     ap (λ (n : ℕ). passing n (ok c.refusal2.result.value)) c.refusal2.ensures
     ∙ no_side (read_in (grid s)) (medium s) (point s) (x_side q) (y_side q) (z_side q) (x-stands q) (y-stands q) (z-stands q)
-    i.before.outside-fault.ensures i.if1.left (faults q) c.refusal2.result.value c.before.if2.true
+    i.before.outside-fault.ensures i.if1.false (faults q) c.refusal2.result.value c.before.if2.true
 
 returns-3 : tie.Need-returns-3
 returns-3 c =
@@ -98,7 +98,7 @@ returns-3 c =
     let i = at-inside (position q) in
     let s = start (position q) in
     mixed (read_in (grid s)) (medium s) (point s) (x_side q) (y_side q) (z_side q) (x-stands q) (y-stands q) (z-stands q)
-    i.before.outside-fault.ensures i.if1.left (faults q) c.before.if2.false c.mixed_at.ensures
+    i.before.outside-fault.ensures i.if1.false (faults q) c.before.if2.false c.mixed_at.ensures
 
 pub density-spec : {M : Type 1} → statement M
 density-spec =

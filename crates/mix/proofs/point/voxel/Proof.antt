@@ -28,7 +28,7 @@ returns c =
     let q = c.before in
     let s = at-start q in
     let a = s.args in
-    let f = s.fits in
+    let f = s.ranges in
     c.read.ensures
     ∙ as_looked_up (grid s) q.get-spot.result (handed s)
     (q.get-spot.ensures a.leaf-values.now (handed s) (record { x = refl; y = refl; z = refl }))

@@ -78,7 +78,7 @@ slice-write-figures : tie.Need-slice-write-figures invariant-loop decreases-loop
 slice-write-figures c = c.if3.false
 
 add-i : tie.Need-overflow-add-i invariant-loop decreases-loop
-add-i c = let t = piece-at c in omega (arith, t.before.before.loop-test.taken, (start (head t)).ranges.most.fits)
+add-i c = let t = piece-at c in omega (arith, t.before.before.loop-test.true, (start (head t)).ranges.most.fits)
 
 loop-less : tie.Need-loop-smaller invariant-loop decreases-loop
 loop-less c = omega (arith, (piece-at c).before.before.loop-test.true)
@@ -88,7 +88,7 @@ loop-again c =
     let t = piece-at c in
     let m = head t in
     let r = t.before.next_piece in
-    go_on _ _ _ _ _ _ _ _ _ m.loop.inv (as_answer r.result) r.ensures t.if1.taken t.before.before.loop-test.taken
+    go_on _ _ _ _ _ _ _ _ _ m.loop.invariant (as_answer r.result) r.ensures t.if1.true t.before.before.loop-test.true
     (omega (arith, ends-len m, c.before.before.if2.false)) (omega (arith, figures-len m, c.before.if3.false))
 
 same-length-5 : tie.Need-same-length-5 invariant-loop decreases-loop

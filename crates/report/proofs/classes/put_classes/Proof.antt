@@ -89,7 +89,7 @@ returns c =
     let n = at_count t.before in
     let a = (at-start (at-known n)).args in
     (told_text (answer a.d) a.blocks.now a.links.now a.values.now (told n)
-    (counts_refused n.count-classes.result.counts t.if1.taken (wrote p.Put-refused.ensures))).is
+    (counts_refused n.count-classes.result.counts t.if1.true (wrote p.Put-refused.ensures))).is
 
 put-counts-requires : tie.Need-put-counts-requires
 put-counts-requires c κs =
@@ -104,7 +104,7 @@ returns-2 c =
     let n = at_count t.before in
     let a = (at-start (at-known n)).args in
     (told_text (answer a.d) a.blocks.now a.links.now a.values.now (told n)
-    (counts_lines n.count-classes.result.counts t.if1.left (wrote p.put-counts.ensures))).is
+    (counts_lines n.count-classes.result.counts t.if1.false (wrote p.put-counts.ensures))).is
 
 pub put-classes-spec : {M : Type 1} → statement M
 put-classes-spec =

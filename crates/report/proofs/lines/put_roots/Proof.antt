@@ -30,7 +30,7 @@ loop-again c =
     let r = c.before.before in
     let p = (at_turn r).before in
     let a = p.before.before.before.args in
-    (omega arith, (root_more a.blocks.now a.values.now p.loop.i (wrote p.loop.inv.1) (wrote r.put-root.ensures)).is)
+    (omega arith, (root_more a.blocks.now a.values.now p.loop.i (wrote p.loop.invariant.1) (wrote r.put-root.ensures)).is)
 
 same_length : tie.Need-same-length invariant-loop decreases-loop
 same_length c = wrote_length (wrote c.before.loop.invariant.1)

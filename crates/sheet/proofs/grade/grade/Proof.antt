@@ -55,7 +55,7 @@ returns : tie.Need-returns invariant-loop decreases-loop
 returns c =
     let t = at_turn (at_test c.before) in
     let at = t.before.loop in
-    (grade_stop at.k (small t.before) (great t.before) _ t.loop-test.taken (sym (same c.before) ∙ c.if1.true) at.inv.3, at.inv.1)
+    (grade_stop at.k (small t.before) (great t.before) _ t.loop-test.true (sym (same c.before) ∙ c.if1.true) at.inv.3, at.inv.1)
 
 loop-again : tie.Need-loop-preserved invariant-loop decreases-loop
 loop-again c =
@@ -64,7 +64,7 @@ loop-again c =
       omega arith,
       omega arith,
       refl,
-      grade_next at.k (small t.before) (great t.before) _ t.loop-test.taken (sym (same c.before) ∙ c.if1.false) at.inv.3,
+      grade_next at.k (small t.before) (great t.before) _ t.loop-test.true (sym (same c.before) ∙ c.if1.false) at.inv.3,
     )
 
 returns-2 : tie.Need-returns-2 invariant-loop decreases-loop

@@ -27,7 +27,7 @@ returns-2 : tie.Need-returns-2
 unfolding mark
 returns-2 c =
     let u = at-units c in
-    let test = ap (eq (at-start u).args.v) (sym (nought binary32)) ∙ u.before.if1.left in
+    let test = ap (eq (at-start u).args.v) (sym (nought binary32)) ∙ u.before.if1.false in
     let k = c.grade.ensures.0 ∙ (λ j. grade (u.units.ensures.0 j) (c.before.units2.ensures.0 j)) in
     (λ i. cond (sym test i) 46 (48 + k i))
 

@@ -38,7 +38,7 @@ mark-requires : tie.Need-mark-requires invariant-loop decreases-loop
 mark-requires c κs =
     let t = at_turn c in
     let s = at-start t.before in
-    (is_true _ (every_at finite s.args.row.now (yes s.requires.0) t.before.loop.i nan t.loop-test.taken), s.requires.1)
+    (is_true _ (every_at finite s.args.row.now (yes s.requires.0) t.before.loop.i nan t.loop-test.true), s.requires.1)
 
 loop-again : tie.Need-loop-preserved invariant-loop decreases-loop
 loop-again c =
@@ -49,7 +49,7 @@ loop-again c =
     let s = (at-start t.before).args in (
       omega arith,
       marks_more (page at.out at.next) (page p.put_byte.new.0 p.put_byte.result) _ s.g s.row.now at.i figure.result nan
-          t.loop-test.taken p.put_byte.ensures figure.ensures at.inv.1,
+          t.loop-test.true p.put_byte.ensures figure.ensures at.inv.1,
     )
 
 same_length : tie.Need-same-length invariant-loop decreases-loop

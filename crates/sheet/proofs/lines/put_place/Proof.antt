@@ -22,7 +22,7 @@ returns c =
     let one = at_one two in
     let test = one.before.before in
     (same_text (wrote one.put_byte.ensures then wrote two.put-byte2.ensures then wrote digits.put_decimal.ensures)
-    (place_one test.before.before.args.n test.if1.taken)).is
+    (place_one test.before.before.args.n test.if1.true)).is
 
 returns-2 : tie.Need-returns-2
 returns-2 c =
@@ -31,7 +31,7 @@ returns-2 c =
     let test = one.before.before in
     let first = test.before in
     (same_text (wrote one.put-byte3.ensures then wrote digits.put-decimal2.ensures)
-    (place_two first.before.before.args.n first.if1.left test.if2.taken)).is
+    (place_two first.before.before.args.n first.if1.false test.if2.true)).is
 
 returns-3 : tie.Need-returns-3
 returns-3 c =

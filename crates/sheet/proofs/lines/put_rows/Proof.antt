@@ -61,7 +61,7 @@ loop-again c =
     let part = part_is s.x (row t * s.x) s.layer.now in
     let line = p.put-row.ensures ∙ ap (λ (l : List Float). puts before (row_line s.g (row t) l)) part in (
       omega arith,
-      rows_more before (page p.put-row.new.0 p.put-row.result) _ s.x s.g s.layer.now at.left t.loop-test.taken
+      rows_more before (page p.put-row.new.0 p.put-row.result) _ s.x s.g s.layer.now at.left t.loop-test.true
           line at.inv.1,
     )
 

@@ -10,55 +10,55 @@ use Rattle.sparse_grid.proofs.faults.in_range.Statement.{statement}
 use Rattle.sparse_grid.proofs.faults.in_range.Tie as tie
 
 -- ---- places on the way to a place: the test of x, and of y
-abbrev at_x : tie.After-number-in2 → tie.After-number-in
+abbrev at_x : tie.After-number_in-2 → tie.After-number_in
 at_x c = c.before.before.before
 
-abbrev at_y : tie.After-number-in3 → tie.After-number-in2
+abbrev at_y : tie.After-number_in-3 → tie.After-number_in-2
 at_y c = c.before.before.before
 
-abbrev root : tie.After-number-in → Root
+abbrev root : tie.After-number_in → Root
 root c = c.before.before.args.root
 
 -- ---- what is known there
 -- the root's numbers fit
-fit : (c : tie.After-struct-told) → Fit c.before.args.root
+fit : (c : tie.After-struct_told-1) → Fit c.before.args.root
 fit c =
-    let g = c.struct_told.given in
+    let g = c.struct_told-1.given in
     record { x = record { sfits = g.0.1 }; y = record { sfits = g.1.0.1 }; z = record { sfits = g.1.1.0.1 } }
 
-x-is : (c : tie.After-number-in) → c.number_in.result ≡ block_in (root c).x
+x-is : (c : tie.After-number_in) → c.number_in.result ≡ block_in (root c).x
 x-is c = c.number_in.ensures ∙ ap block_in (seen (fit c.before).x)
 
-y_is : (c : tie.After-number-in2) → c.number-in2.result ≡ block_in (root (at_x c)).y
-y_is c = c.number-in2.ensures ∙ ap block_in (seen (fit (at_x c).before).y)
+y_is : (c : tie.After-number_in-2) → c.number_in-2.result ≡ block_in (root (at_x c)).y
+y_is c = c.number_in-2.ensures ∙ ap block_in (seen (fit (at_x c).before).y)
 
-z-is : (c : tie.After-number-in3) → c.number-in3.result ≡ block_in (root (at_x (at_y c))).z
-z-is c = c.number-in3.ensures ∙ ap block_in (seen (fit (at_x (at_y c)).before).z)
+z-is : (c : tie.After-number_in-3) → c.number_in-3.result ≡ block_in (root (at_x (at_y c))).z
+z-is c = c.number_in-3.ensures ∙ ap block_in (seen (fit (at_x (at_y c)).before).z)
 
 -- ---- the ways out
-returns : tie.Need-returns
+returns : tie.Need-returns-then-not-number_in
 returns c =
     let r = root c.before in
-    stop_1 (block_in r.x) (block_in r.y) (block_in r.z) (sym (x-is c.before) ∙ not-true _ c.if1.true)
+    stop_1 (block_in r.x) (block_in r.y) (block_in r.z) (sym (x-is c.before) ∙ c.if-not-number_in.true)
 
-returns-2 : tie.Need-returns-2
+returns-2 : tie.Need-returns-then-not-number_in-2
 returns-2 c =
     let p = at_x c.before in
     let r = root p in
-    stop_2 (block_in r.x) (block_in r.y) (block_in r.z) (sym (x-is p) ∙ not-false _ c.before.before.before.if1.false)
-    (sym (y_is c.before) ∙ not-true _ c.if2.true)
+    stop_2 (block_in r.x) (block_in r.y) (block_in r.z) (sym (x-is p) ∙ c.before.before.before.if-not-number_in.false)
+    (sym (y_is c.before) ∙ c.if-not-number_in-2.true)
 
-returns-3 : tie.Need-returns-3
+returns-3 : tie.Need-returns
 returns-3 c =
     let q = at_y c in
     let p = at_x q in
     let r = root p in
     z-is c
-    ∙ go_3 (block_in r.x) (block_in r.y) (block_in r.z) (sym (x-is p) ∙ not-false _ q.before.before.if1.left)
-    (sym (y_is q) ∙ not-false _ c.before.before.if2.false)
+    ∙ go_3 (block_in r.x) (block_in r.y) (block_in r.z) (sym (x-is p) ∙ q.before.before.if-not-number_in.false)
+    (sym (y_is q) ∙ c.before.before.if-not-number_in-2.false)
 
-pub in-range-spec : {M : Type 1} → statement M
-in-range-spec =
+pub in_range_spec : {M : Type 1} → statement M
+in_range_spec =
     tie.close
     (tie.spec
     (λ c κs. search rules)

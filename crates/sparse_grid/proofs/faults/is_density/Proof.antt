@@ -8,5 +8,5 @@ use Rattle.sparse_grid.proofs.faults.is_density.Tie as tie
 returns : tie.Need-returns
 returns c = ap (λ (z : Float). not (lt c.args.v z)) (nought binary32)
 
-pub is-density-spec : {M : Type 1} → statement M
-is-density-spec = tie.close (tie.spec returns)
+pub is_density_spec : {M : Type 1} → statement M
+is_density_spec = tie.close (tie.spec returns)

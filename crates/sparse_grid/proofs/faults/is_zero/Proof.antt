@@ -8,5 +8,5 @@ use Rattle.sparse_grid.proofs.faults.is_zero.Tie as tie
 returns : tie.Need-returns
 returns c = ap (eq c.args.v) (nought binary32)
 
-pub is-zero-spec : {M : Type 1} → statement M
-is-zero-spec = tie.close (tie.spec returns)
+pub is_zero_spec : {M : Type 1} → statement M
+is_zero_spec = tie.close (tie.spec returns)

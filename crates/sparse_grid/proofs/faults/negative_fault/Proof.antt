@@ -4,11 +4,11 @@ use Rattle.refusals.specs.Faults.{unless}
 use Rattle.sparse_grid.proofs.faults.negative_fault.Statement.{statement}
 use Rattle.sparse_grid.proofs.faults.negative_fault.Tie as tie
 
-returns : tie.Need-returns
-returns c = ap (λ (t : Bool). unless t 15) (sym c.if1.true ∙ c.before.is-density.ensures)
+returns : tie.Need-returns-then-is_density
+returns c = ap (λ (t : Bool). unless t 15) (sym c.if-is_density.true ∙ c.before.is_density.ensures)
 
-returns-2 : tie.Need-returns-2
-returns-2 c = ap (λ (t : Bool). unless t 15) (sym c.if1.false ∙ c.before.is-density.ensures)
+returns-2 : tie.Need-returns-else-is_density
+returns-2 c = ap (λ (t : Bool). unless t 15) (sym c.if-is_density.false ∙ c.before.is_density.ensures)
 
-pub negative-fault-spec : {M : Type 1} → statement M
-negative-fault-spec = tie.close (tie.spec (λ c κs. search rules) returns returns-2)
+pub negative_fault_spec : {M : Type 1} → statement M
+negative_fault_spec = tie.close (tie.spec (λ c κs. search rules) returns returns-2)

@@ -10,11 +10,11 @@ use Rattle.sparse_grid.proofs.faults.number_in.Tie as tie
 below : (c : tie.Start) {t : Bool} → le_z (negsuc 524287) (to_z w32 (of_z w32 c.args.b)) ≡ t → (t && le_z c.args.b (pos 524287)) ≡ block_in c.args.b
 below c h = ap (λ (t : Bool). t && le_z c.args.b (pos 524287)) (sym (sym (ap (le_z (negsuc 524287)) (seen c.ranges.b)) ∙ h))
 
-returns : tie.Need-returns
-returns c = ap (λ (k : ℤ). le_z k (pos 524287)) (seen c.before.ranges.b) ∙ below c.before c.if1.true
+returns : tie.Need-returns-then-b-geminus524288
+returns c = ap (λ (k : ℤ). le_z k (pos 524287)) (seen c.before.ranges.b) ∙ below c.before c.if-b-geminus524288.true
 
-returns-2 : tie.Need-returns-2
-returns-2 c = c.if1.false ∙ below c.before c.if1.false
+returns-2 : tie.Need-returns-else-b-geminus524288
+returns-2 c = c.if-b-geminus524288.false ∙ below c.before c.if-b-geminus524288.false
 
-pub number-in-spec : {M : Type 1} → statement M
-number-in-spec = tie.close (tie.spec returns returns-2)
+pub number_in_spec : {M : Type 1} → statement M
+number_in_spec = tie.close (tie.spec returns returns-2)

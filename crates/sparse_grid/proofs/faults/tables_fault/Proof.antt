@@ -9,26 +9,26 @@ use Rattle.sparse_grid.proofs.faults.tables_fault.Statement.{statement}
 use Rattle.sparse_grid.proofs.faults.tables_fault.Tie as tie
 
 -- the way to the start, and the grid of the call
-abbrev at-start : tie.After-pair-fault → tie.Start
+abbrev at-start : tie.After-pair_fault-pairs → tie.Start
 at-start c = c.before.before.before.before.before.before.before.before
 
 abbrev grid : tie.Start → Grid
 grid c =
     let a = c.args in
-    grid_of +0 a.blocks.now a.root-links.now a.root-values.now
-    a.upper-links.now a.upper-values.now a.lower-links.now a.lower-values.now a.leaf-values.now
+    grid_of +0 a.blocks.now a.root_links.now a.root_values.now
+    a.upper_links.now a.upper_values.now a.lower_links.now a.lower_values.now a.leaf_values.now
 
-pairs_is : (c : tie.After-pair-fault) → c.pair-fault.result ≡ pair_fault (grid (at-start c))
-pairs_is c = c.pair-fault.ensures ∙ pair_only (grid (at-start c))
+pairs_is : (c : tie.After-pair_fault-pairs) → c.pair_fault-pairs.result ≡ pair_fault (grid (at-start c))
+pairs_is c = c.pair_fault-pairs.ensures ∙ pair_only (grid (at-start c))
 
-shapes-is : (c : tie.After-shape-fault) → c.shape-fault.result ≡ shape_fault (grid (at-start c.before.before))
-shapes-is c = c.shape-fault.ensures ∙ shape_only (grid (at-start c.before.before))
+shapes-is : (c : tie.After-shape_fault) → c.shape_fault.result ≡ shape_fault (grid (at-start c.before.before))
+shapes-is c = c.shape_fault.ensures ∙ shape_only (grid (at-start c.before.before))
 
-returns : tie.Need-returns
-returns c = faulty (shape_fault (grid (at-start c.before))) (pairs_is c.before) c.if1.true
+returns : tie.Need-returns-then-pairs-ne0
+returns c = faulty (shape_fault (grid (at-start c.before))) (pairs_is c.before) c.if-pairs-ne0.true
 
-returns-2 : tie.Need-returns-2
-returns-2 c = clean (pairs_is c.before.before) c.before.if1.false (shapes-is c)
+returns-2 : tie.Need-returns
+returns-2 c = clean (pairs_is c.before.before) c.before.if-pairs-ne0.false (shapes-is c)
 
-pub tables-fault-spec : {M : Type 1} → statement M
-tables-fault-spec = tie.close (tie.spec (λ c κs. search rules) returns (λ c κs. search rules) returns-2)
+pub tables_fault_spec : {M : Type 1} → statement M
+tables_fault_spec = tie.close (tie.spec (λ c κs. search rules) returns (λ c κs. search rules) returns-2)

@@ -1,37 +1,38 @@
 -- `sparse_grid::faults::values_fault` meets its contract: the invariant: `sound` says whether the values before i pass. Assumes nothing.
-use Rattle.std.proofs.Common.{◌-◌, Bool, length, sym, ap, ◌∙◌, ⊎_elim, arith, rules}
+use Rattle.std.proofs.Common.{◌-◌, Bool, not, length, sym, ap, ◌∙◌, ⊎_elim, arith, rules}
 use lib.Ieee.Scale.{finite}
 use Rattle.refusals.specs.Faults.{unless}
 use Rattle.sparse_grid.proofs.Tested.{Tested, begun, passed, failed, ended}
 use Rattle.sparse_grid.proofs.faults.values_fault.Statement.{statement}
 use Rattle.sparse_grid.proofs.faults.values_fault.Tie as tie
+use Rattle.sparse_grid.proofs.faults.values_fault.Lts.{then-not-is_finite, else-not-is_finite}
 
-abbrev invariant-loop : tie.invariant-loop
+abbrev invariant-loop : tie.invariant-loop-i
 invariant-loop values sound₀ i₀ sound i = Tested values finite 11 sound i
 
-abbrev decreases-loop : tie.decreases-loop
+abbrev decreases-loop : tie.decreases-loop-i
 decreases-loop values sound₀ i₀ sound i = length values - i
 
-loop-holds : tie.Need-loop-init invariant-loop decreases-loop
+loop-holds : tie.Need-loop-i-init invariant-loop decreases-loop
 loop-holds c = begun
 
-loop-again : tie.Need-loop-preserved invariant-loop decreases-loop
+loop-again : tie.Need-loop-i-preserved invariant-loop decreases-loop
 loop-again c =
     let p = c.before.before.before in
     let here = c.before.is_finite.ensures in
-    ⊎_elim
-    (λ w. failed p.before.loop.invariant p.loop-test.true here w.0.taken w.1)
-    (λ w. passed p.before.loop.invariant p.loop-test.true here w.0.left w.1)
-    c.if1.branch
+    elim c.if-not-is_finite.branch [
+      | then-not-is_finite w ↦ failed p.before.loop-i.invariant p.loop-i-test.true here (ap not w.if-not-is_finite.true) w.sound-is
+      | else-not-is_finite w ↦ passed p.before.loop-i.invariant p.loop-i-test.true here (ap not w.if-not-is_finite.false) w.sound-is
+    ]
 
-returns : tie.Need-returns invariant-loop decreases-loop
-returns c = ap (λ (s : Bool). unless s 12) (sym c.if2.true) ∙ ended c.before.before.loop.invariant c.before.loop-test.false
+returns : tie.Need-returns-then-sound invariant-loop decreases-loop
+returns c = ap (λ (s : Bool). unless s 12) (sym c.if-sound.true) ∙ ended c.before.before.loop-i.invariant c.before.loop-i-test.false
 
-returns-2 : tie.Need-returns-2 invariant-loop decreases-loop
-returns-2 c = ap (λ (s : Bool). unless s 12) (sym c.if2.false) ∙ ended c.before.before.loop.invariant c.before.loop-test.false
+returns-2 : tie.Need-returns-else-sound invariant-loop decreases-loop
+returns-2 c = ap (λ (s : Bool). unless s 12) (sym c.if-sound.false) ∙ ended c.before.before.loop-i.invariant c.before.loop-i-test.false
 
-pub values-fault-spec : {M : Type 1} → statement M
-values-fault-spec =
+pub values_fault_spec : {M : Type 1} → statement M
+values_fault_spec =
     tie.close
     (tie.spec
     invariant-loop

@@ -6,5 +6,5 @@ use Rattle.sparse_grid.proofs.lookup.block_of.Tie as tie
 returns : tie.Need-returns
 returns c = shifted c.ranges.c
 
-pub block-of-spec : {M : Type 1} → statement M
-block-of-spec = tie.close (tie.spec returns)
+pub block_of_spec : {M : Type 1} → statement M
+block_of_spec = tie.close (tie.spec returns)

@@ -9,24 +9,24 @@ use Rattle.sparse_grid.proofs.Nodes.{missing, present, leaf_slot}
 use Rattle.sparse_grid.proofs.lookup.leaf_at.Statement.{statement}
 use Rattle.sparse_grid.proofs.lookup.leaf_at.Tie as tie
 
-abbrev at-whole : tie.After-shared-slice-known → tie.Else1
+abbrev at-whole : tie.After-shared_slice_known-1 → tie.Else-leaf_values-start
 at-whole c = c.before.before.before.before
 
-returns : tie.Need-returns
-returns c = missing (512 * (c.before.args.k + 1)) (length c.before.args.leaf-values.now) _ (omega arith)
+returns : tie.Need-returns-then-leaf_values-start
+returns c = missing (512 * (c.before.args.k + 1)) (length c.before.args.leaf_values.now) _ (omega arith)
 
-returns-2 : tie.Need-returns-2
+returns-2 : tie.Need-returns
 returns-2 c =
-    let h = (at-whole c).if1.false in
+    let h = (at-whole c).if-leaf_values-start.false in
     let a = (at-whole c).before.args in
     let p = a.place in
-    let leaf = a.leaf-values.now in
+    let leaf = a.leaf_values.now in
     let i = 512 * a.k + (p.x % 8 * 64 + p.y % 8 * 8 + p.z % 8) in
     ap (λ (v : Float). value v ofLeaf) (get_d_any leaf i nan +0 (omega arith) ∙ ap (λ (n : ℕ). get_or leaf n +0) (leaf_slot a.k p.x p.y p.z))
     ∙ present (512 * (a.k + 1)) (length leaf) _ (omega arith)
 
-pub leaf-at-spec : {M : Type 1} → statement M
-leaf-at-spec =
+pub leaf_at_spec : {M : Type 1} → statement M
+leaf_at_spec =
     tie.close
     (tie.spec
     (λ c. omega arith) (λ c. omega arith)

@@ -8,10 +8,10 @@ use Rattle.sparse_grid.proofs.lookup.place_of.Tie as tie
 returns : tie.Need-returns
 returns c =
     let f = c.before.before.before.ranges in
-    let x = sym c.before.before.biased.ensures ∙ seen f.x in
-    let y = sym c.before.biased2.ensures ∙ seen f.y in
-    let z = sym c.biased3.ensures ∙ seen f.z in
+    let x = sym c.before.before.biased-a.ensures ∙ seen f.x in
+    let y = sym c.before.biased-b.ensures ∙ seen f.y in
+    let z = sym c.biased-c.ensures ∙ seen f.z in
     λ t. at (x t) (y t) (z t)
 
-pub place-of-spec : {M : Type 1} → statement M
-place-of-spec = tie.close (tie.spec (λ c κs. search rules) (λ c κs. search rules) (λ c κs. search rules) returns)
+pub place_of_spec : {M : Type 1} → statement M
+place_of_spec = tie.close (tie.spec (λ c κs. search rules) (λ c κs. search rules) (λ c κs. search rules) returns)

@@ -10,72 +10,71 @@ use Rattle.sparse_grid.proofs.lookup.upper_at.Statement.{statement}
 use Rattle.sparse_grid.proofs.lookup.upper_at.Tie as tie
 
 -- ---- places on the way to a place: the node is whole, the entry of its slot, the case of a child
-abbrev at-start : tie.Else1 → tie.Start
+abbrev at-start : tie.Else-links-start → tie.Start
 at-start c = c.before.before.before.before.before.before
 
-abbrev at-missing : tie.Then1 → tie.Start
+abbrev at-missing : tie.Then-links-start → tie.Start
 at-missing c = c.before.before.before.before.before.before
 
-abbrev at-whole : tie.After-struct-known3 → tie.Else1
+abbrev at-whole : tie.After-struct_known-3-1 → tie.Else-links-start
 at-whole c = c.before.before.before
 
-abbrev at_read : tie.After-entry-of → tie.After-struct-known3
+abbrev at_read : tie.After-entry_of → tie.After-struct_known-3-1
 at_read c = c.before.before.before
 
-abbrev start : tie.After-entry-of → tie.Start
+abbrev start : tie.After-entry_of → tie.Start
 start c = at-start (at-whole (at_read c))
 
-abbrev at-child : tie.After-lower-at → tie.After-j
-at-child c = c.before.before.before.before
+abbrev at-child : tie.After-lower_at → tie.In-Child
+at-child c = c.before.before.before
 
 -- ---- the nodes, and what an entry of one gives
 abbrev nodes : tie.Start → Grid
 nodes c =
     let a = c.args in
-    nodes_of a.links.now a.values.now a.lower-links.now a.lower-values.now a.leaf-values.now
+    nodes_of a.links.now a.values.now a.lower_links.now a.lower_values.now a.leaf_values.now
 
 abbrev gives : tie.Start → Entry → Found
 gives c e = upper_entry (nodes c) (placed c.args.place) e
 
 -- what the entry of the slot gives is the answer
-read : (c : tie.After-entry-of)
-    → gives (start c) c.entry_of_lem.result ≡ upper_at (nodes (start c)) (start c).args.k (placed (start c).args.place)
+read : (c : tie.After-entry_of)
+    → gives (start c) c.entry_of.result ≡ upper_at (nodes (start c)) (start c).args.k (placed (start c).args.place)
 read c =
     let a = (start c).args in
     let p = a.place in
-    let whole = (at-whole (at_read c)).if1.false in
-    ap (gives (start c)) (c.entry_of_lem.ensures ∙ entry_read_lem a.links.now a.values.now _ (omega (arith, whole, (start c).requires))
+    let whole = (at-whole (at_read c)).if-links-start.false in
+    ap (gives (start c)) (c.entry_of.ensures ∙ entry_read_lem a.links.now a.values.now _ (omega (arith, whole, (start c).requires))
     ∙ ap (entry_at a.links.now a.values.now) (upper_slot_lem a.k p.x p.y p.z))
     ∙ present (32768 * (a.k + 1)) (length a.links.now) _ (omega (arith, whole))
 
 -- ---- the ways out: no whole node, a child, a tile
-returns : tie.Need-returns
+returns : tie.Need-returns-then-links-start
 returns c =
     let a = (at-missing c).args in
-    missing (32768 * (a.k + 1)) (length a.links.now) _ (omega (arith, c.if1.true))
+    missing (32768 * (a.k + 1)) (length a.links.now) _ (omega (arith, c.if-links-start.true))
 
-returns-2 : tie.Need-returns-2
+returns-2 : tie.Need-returns-in-Child
 returns-2 c =
     let p = at-child c in
-    c.lower_at_lem.ensures
-    ∙ lower_only (nodes (start p.before.before)) p.j.given.0.0 (placed (start p.before.before).args.place)
-    ∙ ap (gives (start p.before.before)) (sym p.j.given.1)
-    ∙ read p.before.before
+    c.lower_at.ensures
+    ∙ lower_only (nodes (start p.before)) p.in-Child.j (placed (start p.before).args.place)
+    ∙ ap (gives (start p.before)) (sym p.in-Child.is)
+    ∙ read p.before
 
-returns-3 : tie.Need-returns-3
+returns-3 : tie.Need-returns-in-Tile
 returns-3 c =
-    let p = c.before in
-    ap (gives (start p.before.before)) (sym p.v.given.1) ∙ read p.before.before
+    ap (gives (start c.before)) (sym c.in-Tile.is) ∙ read c.before
 
-pub upper-at-spec : {M : Type 1} → statement M
-upper-at-spec =
+pub upper_at_spec : {M : Type 1} → statement M
+upper_at_spec =
     tie.close
     (tie.spec
     (λ c. omega arith) (λ c. omega arith)
     returns
     (λ c. omega arith) (λ c. omega arith) (λ c. omega arith) (λ c. omega arith) (λ c. omega arith)
-    (λ c. omega arith) (λ c. omega arith) (λ c. omega (arith, (at-whole c.before).if1.false)) (λ c. omega arith)
-    (λ c. omega (arith, (at-whole c.before.before).if1.false, (at-start (at-whole c.before.before)).requires)) (λ c κs. search rules)
+    (λ c. omega arith) (λ c. omega arith) (λ c. omega (arith, (at-whole c.before).if-links-start.false)) (λ c. omega arith)
+    (λ c. omega (arith, (at-whole c.before.before).if-links-start.false, (at-start (at-whole c.before.before)).requires)) (λ c κs. search rules)
     (λ c. search rules) (λ c κs. search rules) (λ c. search rules)
     returns-2
     returns-3)

@@ -10,20 +10,20 @@ use Rattle.sparse_grid.proofs.shared.in_leaf.Statement.{statement}
 use Rattle.sparse_grid.proofs.shared.in_leaf.Tie as tie
 
 -- what the walk stored
-abbrev stored : tie.After-leaf-at → Float
-stored c = let (_, (_, (_, (v, _)))) = c.leaf_at_lem.new in v
+abbrev stored : tie.After-leaf_at-number → Float
+stored c = c.leaf_at-number.new.value
 
-abbrev level : tie.After-leaf-at → ℕ
-level c = let (_, (_, (_, (_, (l, _))))) = c.leaf_at_lem.new in l
+abbrev level : tie.After-leaf_at-number → ℕ
+level c = c.leaf_at-number.new.level
 
 abbrev says : Found → Said Float
 says f = said +0 (value_only f)
 
-returns : tie.Need-returns
-returns c = let b = c.before in ap says (told_value b.leaf_at_lem.result (stored b) (level b) c.if1.true ∙ b.leaf_at_lem.ensures)
+returns : tie.Need-returns-then-number-eq0
+returns c = let b = c.before in ap says (told_value b.leaf_at-number.result (stored b) (level b) c.if-number-eq0.true ∙ b.leaf_at-number.ensures)
 
-returns-2 : tie.Need-returns-2
-returns-2 c = let b = c.before in ap says (told_refused b.leaf_at_lem.result (stored b) (level b) c.if1.false ∙ b.leaf_at_lem.ensures)
+returns-2 : tie.Need-returns-else-number-eq0
+returns-2 c = let b = c.before in ap says (told_refused b.leaf_at-number.result (stored b) (level b) c.if-number-eq0.false ∙ b.leaf_at-number.ensures)
 
-pub in-leaf-spec : {M : Type 1} → statement M
-in-leaf-spec = tie.close (tie.spec (λ c κs. search rules) returns returns-2)
+pub in_leaf_spec : {M : Type 1} → statement M
+in_leaf_spec = tie.close (tie.spec (λ c κs. search rules) returns returns-2)

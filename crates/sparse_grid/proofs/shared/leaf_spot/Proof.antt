@@ -6,5 +6,5 @@ use Rattle.sparse_grid.proofs.shared.leaf_spot.Tie as tie
 returns : tie.Need-returns
 returns c = λ g d. refl
 
-pub leaf-spot-spec : {M : Type 1} → statement M
-leaf-spot-spec = tie.close (tie.spec returns)
+pub leaf_spot_spec : {M : Type 1} → statement M
+leaf_spot_spec = tie.close (tie.spec returns)

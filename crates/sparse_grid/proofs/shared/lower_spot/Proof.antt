@@ -14,19 +14,19 @@ use Rattle.sparse_grid.proofs.shared.lower_spot.Statement.{statement}
 use Rattle.sparse_grid.proofs.shared.lower_spot.Tie as tie
 
 -- ---- places on the way to a place: the node is whole, the entry of its slot
-abbrev at-start : tie.Else1 → tie.Start
+abbrev at-start : tie.Else-links-start → tie.Start
 at-start c = c.before.before.before
 
-abbrev at-missing : tie.Then1 → tie.Start
+abbrev at-missing : tie.Then-links-start → tie.Start
 at-missing c = c.before.before.before
 
-abbrev at-whole : tie.After-struct-known3 → tie.Else1
+abbrev at-whole : tie.After-struct_known-3-1 → tie.Else-links-start
 at-whole c = c.before.before.before
 
-abbrev at_read : tie.After-entry-of → tie.After-struct-known3
+abbrev at_read : tie.After-entry_of → tie.After-struct_known-3-1
 at_read c = c.before.before.before
 
-abbrev start : tie.After-entry-of → tie.Start
+abbrev start : tie.After-entry_of → tie.Start
 start c = at-start (at-whole (at_read c))
 
 -- ---- the nodes, with any leaves
@@ -34,48 +34,48 @@ abbrev nodes : tie.Start → List Float → Grid
 nodes c leaves = let a = c.args in nodes_of [] [] a.links.now a.values.now leaves
 
 -- what the entry of the slot gives is the answer, at each coordinate of the cube
-read : (c : tie.After-entry-of) (leaves : List Float) (d : Coord) → Cube d (placed (start c).args.place)
-    → lower_entry (nodes (start c) leaves) d c.entry_of_lem.result ≡ lower_at (nodes (start c) leaves) (start c).args.k d
+read : (c : tie.After-entry_of) (leaves : List Float) (d : Coord) → Cube d (placed (start c).args.place)
+    → lower_entry (nodes (start c) leaves) d c.entry_of.result ≡ lower_at (nodes (start c) leaves) (start c).args.k d
 read c leaves d s =
     let a = (start c).args in
     let p = a.place in
-    let whole = (at-whole (at_read c)).if1.false in
-    ap (lower_entry (nodes (start c) leaves) d) (c.entry_of_lem.ensures ∙ entry_read_lem a.links.now a.values.now _ (omega (arith, whole, (start c).requires))
+    let whole = (at-whole (at_read c)).if-links-start.false in
+    ap (lower_entry (nodes (start c) leaves) d) (c.entry_of.ensures ∙ entry_read_lem a.links.now a.values.now _ (omega (arith, whole, (start c).requires))
     ∙ ap (entry_at a.links.now a.values.now) (lower_slot_lem a.k p.x p.y p.z ∙ ap (λ (n : ℕ). 4096 * a.k + n) (sym (lower_same s))))
     ∙ present (4096 * (a.k + 1)) (length a.links.now) _ (omega (arith, whole))
 
 -- ---- the ways out: no whole node, a child, a tile
-returns : tie.Need-returns
+returns : tie.Need-returns-then-links-start
 returns c = λ leaves d s.
     let t = c.before in
     let b = at-missing t in
     let a = b.args in
-    c.refused-spot.ensures (nodes b leaves) d
-    ∙ ap value_only (missing (4096 * (a.k + 1)) (length a.links.now) _ (omega (arith, t.if1.true)))
+    c.refused_spot.ensures (nodes b leaves) d
+    ∙ ap value_only (missing (4096 * (a.k + 1)) (length a.links.now) _ (omega (arith, t.if-links-start.true)))
 
-returns-2 : tie.Need-returns-2
+returns-2 : tie.Need-returns-in-Child
 returns-2 c = λ leaves d s.
-    let p = c.before.before in
-    let e = p.before.before in
-    c.leaf-spot.ensures (nodes (start e) leaves) d
-    ∙ ap value_only (ap (lower_entry (nodes (start e) leaves) d) (sym p.j.given.1) ∙ read e leaves d s)
+    let p = c.before in
+    let e = p.before in
+    c.leaf_spot.ensures (nodes (start e) leaves) d
+    ∙ ap value_only (ap (lower_entry (nodes (start e) leaves) d) (sym p.in-Child.is) ∙ read e leaves d s)
 
-returns-3 : tie.Need-returns-3
+returns-3 : tie.Need-returns-in-Tile
 returns-3 c = λ leaves d s.
-    let p = c.before.before in
-    let e = p.before.before in
-    c.value-spot.ensures (nodes (start e) leaves) d
-    ∙ ap value_only (ap (lower_entry (nodes (start e) leaves) d) (sym p.v.given.1) ∙ read e leaves d s)
+    let p = c.before in
+    let e = p.before in
+    c.value_spot.ensures (nodes (start e) leaves) d
+    ∙ ap value_only (ap (lower_entry (nodes (start e) leaves) d) (sym p.in-Tile.is) ∙ read e leaves d s)
 
-pub lower-spot-spec : {M : Type 1} → statement M
-lower-spot-spec =
+pub lower_spot_spec : {M : Type 1} → statement M
+lower_spot_spec =
     tie.close
     (tie.spec
     (λ c. omega arith) (λ c. omega arith) (λ c κs. omega arith)
     returns
     (λ c. omega arith) (λ c. omega arith) (λ c. omega arith) (λ c. omega arith) (λ c. omega arith)
-    (λ c. omega arith) (λ c. omega arith) (λ c. omega (arith, (at-whole c.before).if1.false)) (λ c. omega arith)
-    (λ c. omega (arith, (at-whole c.before.before).if1.false, (at-start (at-whole c.before.before)).requires)) (λ c κs. search rules)
+    (λ c. omega arith) (λ c. omega arith) (λ c. omega (arith, (at-whole c.before).if-links-start.false)) (λ c. omega arith)
+    (λ c. omega (arith, (at-whole c.before.before).if-links-start.false, (at-start (at-whole c.before.before)).requires)) (λ c κs. search rules)
     (λ c. search rules) (λ c κs. search rules) (λ c. search rules) (λ c κs. search rules)
     returns-2
     returns-3)

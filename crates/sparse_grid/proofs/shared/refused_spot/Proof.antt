@@ -7,5 +7,5 @@ use Rattle.sparse_grid.proofs.shared.refused_spot.Tie as tie
 returns : tie.Need-returns
 returns c = λ g d. passing_stop _ _ (λ e. omega arith)
 
-pub refused-spot-spec : {M : Type 1} → statement M
-refused-spot-spec = tie.close (tie.spec returns)
+pub refused_spot_spec : {M : Type 1} → statement M
+refused_spot_spec = tie.close (tie.spec returns)

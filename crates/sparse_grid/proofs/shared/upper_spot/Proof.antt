@@ -14,69 +14,69 @@ use Rattle.sparse_grid.proofs.shared.upper_spot.Statement.{statement}
 use Rattle.sparse_grid.proofs.shared.upper_spot.Tie as tie
 
 -- ---- places on the way to a place: the node is whole, the entry of its slot
-abbrev at-start : tie.Else1 → tie.Start
+abbrev at-start : tie.Else-links-start → tie.Start
 at-start c = c.before.before.before.before.before
 
-abbrev at-missing : tie.Then1 → tie.Start
+abbrev at-missing : tie.Then-links-start → tie.Start
 at-missing c = c.before.before.before.before.before
 
-abbrev at-whole : tie.After-struct-known3 → tie.Else1
+abbrev at-whole : tie.After-struct_known-3-1 → tie.Else-links-start
 at-whole c = c.before.before.before
 
-abbrev at_read : tie.After-entry-of → tie.After-struct-known3
+abbrev at_read : tie.After-entry_of → tie.After-struct_known-3-1
 at_read c = c.before.before.before
 
-abbrev start : tie.After-entry-of → tie.Start
+abbrev start : tie.After-entry_of → tie.Start
 start c = at-start (at-whole (at_read c))
 
 -- ---- the nodes, with any leaves
 abbrev nodes : tie.Start → List Float → Grid
-nodes c leaves = let a = c.args in nodes_of a.links.now a.values.now a.lower-links.now a.lower-values.now leaves
+nodes c leaves = let a = c.args in nodes_of a.links.now a.values.now a.lower_links.now a.lower_values.now leaves
 
 -- what the entry of the slot gives is the answer, at each coordinate of the cube
-read : (c : tie.After-entry-of) (leaves : List Float) (d : Coord) → Cube d (placed (start c).args.place)
-    → upper_entry (nodes (start c) leaves) d c.entry_of_lem.result ≡ upper_at (nodes (start c) leaves) (start c).args.k d
+read : (c : tie.After-entry_of) (leaves : List Float) (d : Coord) → Cube d (placed (start c).args.place)
+    → upper_entry (nodes (start c) leaves) d c.entry_of.result ≡ upper_at (nodes (start c) leaves) (start c).args.k d
 read c leaves d s =
     let a = (start c).args in
     let p = a.place in
-    let whole = (at-whole (at_read c)).if1.false in
-    ap (upper_entry (nodes (start c) leaves) d) (c.entry_of_lem.ensures ∙ entry_read_lem a.links.now a.values.now _ (omega (arith, whole, (start c).requires))
+    let whole = (at-whole (at_read c)).if-links-start.false in
+    ap (upper_entry (nodes (start c) leaves) d) (c.entry_of.ensures ∙ entry_read_lem a.links.now a.values.now _ (omega (arith, whole, (start c).requires))
     ∙ ap (entry_at a.links.now a.values.now) (upper_slot_lem a.k p.x p.y p.z ∙ ap (λ (n : ℕ). 32768 * a.k + n) (sym (upper_same s))))
     ∙ present (32768 * (a.k + 1)) (length a.links.now) _ (omega (arith, whole))
 
 -- ---- the ways out: no whole node, a child, a tile
-returns : tie.Need-returns
+returns : tie.Need-returns-then-links-start
 returns c = λ leaves d s.
     let t = c.before in
     let b = at-missing t in
     let a = b.args in
-    c.refused-spot.ensures (nodes b leaves) d
-    ∙ ap value_only (missing (32768 * (a.k + 1)) (length a.links.now) _ (omega (arith, t.if1.true)))
+    c.refused_spot.ensures (nodes b leaves) d
+    ∙ ap value_only (missing (32768 * (a.k + 1)) (length a.links.now) _ (omega (arith, t.if-links-start.true)))
 
-returns-2 : tie.Need-returns-2
+returns-2 : tie.Need-returns-in-Child
 returns-2 c = λ leaves d s.
-    let p = c.before.before in
-    let e = p.before.before in
+    let p = c.before in
+    let e = p.before in
     let g = nodes (start e) leaves in
-    c.lower-spot.ensures leaves d s
-    ∙ ap value_only (lower_only g p.j.given.0.0 d ∙ ap (upper_entry g d) (sym p.j.given.1) ∙ read e leaves d s)
+    c.lower_spot.ensures leaves d s
+    ∙ ap value_only (lower_only g p.in-Child.j d ∙ ap (upper_entry g d) (sym p.in-Child.is) ∙ read e leaves d s)
 
-returns-3 : tie.Need-returns-3
+returns-3 : tie.Need-returns-in-Tile
 returns-3 c = λ leaves d s.
-    let p = c.before.before in
-    let e = p.before.before in
-    c.value-spot.ensures (nodes (start e) leaves) d
-    ∙ ap value_only (ap (upper_entry (nodes (start e) leaves) d) (sym p.v.given.1) ∙ read e leaves d s)
+    let p = c.before in
+    let e = p.before in
+    c.value_spot.ensures (nodes (start e) leaves) d
+    ∙ ap value_only (ap (upper_entry (nodes (start e) leaves) d) (sym p.in-Tile.is) ∙ read e leaves d s)
 
-pub upper-spot-spec : {M : Type 1} → statement M
-upper-spot-spec =
+pub upper_spot_spec : {M : Type 1} → statement M
+upper_spot_spec =
     tie.close
     (tie.spec
     (λ c. omega arith) (λ c. omega arith) (λ c κs. omega arith)
     returns
     (λ c. omega arith) (λ c. omega arith) (λ c. omega arith) (λ c. omega arith) (λ c. omega arith)
-    (λ c. omega arith) (λ c. omega arith) (λ c. omega (arith, (at-whole c.before).if1.false)) (λ c. omega arith)
-    (λ c. omega (arith, (at-whole c.before.before).if1.false, (at-start (at-whole c.before.before)).requires)) (λ c κs. search rules)
+    (λ c. omega arith) (λ c. omega arith) (λ c. omega (arith, (at-whole c.before).if-links-start.false)) (λ c. omega arith)
+    (λ c. omega (arith, (at-whole c.before.before).if-links-start.false, (at-start (at-whole c.before.before)).requires)) (λ c κs. search rules)
     (λ c. search rules) (λ c κs. search rules) (λ c. search rules) (λ c κs. search rules)
     returns-2
     returns-3)

@@ -6,5 +6,5 @@ use Rattle.sparse_grid.proofs.shared.value_spot.Tie as tie
 returns : tie.Need-returns
 returns c = λ g d. refl
 
-pub value-spot-spec : {M : Type 1} → statement M
-value-spot-spec = tie.close (tie.spec returns)
+pub value_spot_spec : {M : Type 1} → statement M
+value_spot_spec = tie.close (tie.spec returns)
