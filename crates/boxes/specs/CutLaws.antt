@@ -8,7 +8,7 @@ use Rattle.std.specs.Float.{Format}
 use Rattle.std.specs.Float.Ieee.{lt, to_bits}
 use Rattle.float.specs.Tests.{yes}
 use Rattle.layout.specs.Coordinates.{Coord}
-use Rattle.medium.specs.Medium.{Axis, xAxis, yAxis, zAxis, on_coord}
+use Rattle.medium.specs.Medium.{Axis, x_axis, y_axis, z_axis, on_coord}
 use Rattle.boxes.specs.Boxes.{Box, In, Greatest, greater, box_maximum}
 use Rattle.boxes.specs.Cuts.{with, up_to, past, Cuts, InsideOf, EndsWithin, Empty}
 use Rattle.boxes.specs.Offsets.{above, le_z_through}
@@ -42,17 +42,17 @@ below {k} {h} p = ⊎_elim (λ l. clash_ℤ p l) (λ l. through (le_z_yes (above
 -- ---- a coordinate in a box, axis by axis
 
 in_low : {b : Box} {c : Coord} → In b c → (a : Axis) → on_coord a b.lo ≤ℤ on_coord a c
-in_low i xAxis = i.x_low
-in_low i yAxis = i.y_low
-in_low i zAxis = i.z_low
+in_low i x_axis = i.x_low
+in_low i y_axis = i.y_low
+in_low i z_axis = i.z_low
 
 in_high : {b : Box} {c : Coord} → In b c → (a : Axis) → on_coord a c ≤ℤ on_coord a b.hi
-in_high i xAxis = i.x_high
-in_high i yAxis = i.y_high
-in_high i zAxis = i.z_high
+in_high i x_axis = i.x_high
+in_high i y_axis = i.y_high
+in_high i z_axis = i.z_high
 
 in_all : (b : Box) (c : Coord) → ((a : Axis) → on_coord a b.lo ≤ℤ on_coord a c) → ((a : Axis) → on_coord a c ≤ℤ on_coord a b.hi) → In b c
-in_all b c l h = record { x_low = l xAxis; x_high = h xAxis; y_low = l yAxis; y_high = h yAxis; z_low = l zAxis; z_high = h zAxis }
+in_all b c l h = record { x_low = l x_axis; x_high = h x_axis; y_low = l y_axis; y_high = h y_axis; z_low = l z_axis; z_high = h z_axis }
 
 -- ---- boxes inside boxes
 
@@ -71,15 +71,15 @@ inside_maximum read d b h = greatest_within read b d h (greatest read b) (greate
 
 -- a number of a corner that another was put into on one axis
 with_at : (a e : Axis) (k : ℤ) (c : Coord) (P : ℤ → Type 0) → (a ≡ e → P k) → P (on_coord e c) → P (on_coord e (with a k c))
-with_at xAxis xAxis k c P f g = f refl
-with_at xAxis yAxis k c P f g = g
-with_at xAxis zAxis k c P f g = g
-with_at yAxis xAxis k c P f g = g
-with_at yAxis yAxis k c P f g = f refl
-with_at yAxis zAxis k c P f g = g
-with_at zAxis xAxis k c P f g = g
-with_at zAxis yAxis k c P f g = g
-with_at zAxis zAxis k c P f g = f refl
+with_at x_axis x_axis k c P f g = f refl
+with_at x_axis y_axis k c P f g = g
+with_at x_axis z_axis k c P f g = g
+with_at y_axis x_axis k c P f g = g
+with_at y_axis y_axis k c P f g = f refl
+with_at y_axis z_axis k c P f g = g
+with_at z_axis x_axis k c P f g = g
+with_at z_axis y_axis k c P f g = g
+with_at z_axis z_axis k c P f g = f refl
 
 module _ (a : Axis) (k : ℤ) (b : Box) where
   module _ (p : Cuts a k b) where

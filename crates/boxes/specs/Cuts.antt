@@ -1,14 +1,14 @@
 -- A box cut in two by a plane across one axis, and a box inside another.
 use Rattle.std.specs.Prelude.{ℤ, pos, ◌+ℤ◌, ◌≤ℤ◌, ◌<ℤ◌}
 use Rattle.layout.specs.Coordinates.{Coord}
-use Rattle.medium.specs.Medium.{Axis, xAxis, yAxis, zAxis, on_coord}
+use Rattle.medium.specs.Medium.{Axis, x_axis, y_axis, z_axis, on_coord}
 use Rattle.boxes.specs.Boxes.{Box, In}
 
 -- a corner with another number on one axis
 abbrev pub with : Axis → ℤ → Coord → Coord
-with xAxis k c = record { x = k; y = c.y; z = c.z }
-with yAxis k c = record { x = c.x; y = k; z = c.z }
-with zAxis k c = record { x = c.x; y = c.y; z = k }
+with x_axis k c = record { x = k; y = c.y; z = c.z }
+with y_axis k c = record { x = c.x; y = k; z = c.z }
+with z_axis k c = record { x = c.x; y = c.y; z = k }
 
 -- the part up to k on an axis, k included
 abbrev pub up_to : Axis → ℤ → Box → Box

@@ -22,7 +22,7 @@ use Rattle.sparse_grid.specs.Validate.{validate, density_fault}
 use Rattle.sparse_grid.specs.Lookup.{value_in, read_in}
 use Rattle.sparse_grid.specs.Values.{read_kept}
 use Rattle.cells.specs.Cells.{Cells, cell_count}
-use Rattle.medium.specs.Medium.{Point, Medium, Axis, xAxis, yAxis, zAxis, on_coord, bounds_fault, index_fault, map_fault, medium_fault, each}
+use Rattle.medium.specs.Medium.{Point, Medium, Axis, x_axis, y_axis, z_axis, on_coord, bounds_fault, index_fault, map_fault, medium_fault, each}
 use Rattle.medium.specs.Alike.{Alike, alike_same, alike_but_box}
 use Rattle.nanovdb.specs.Decode.{medium_of}
 use Rattle.nanovdb.specs.Passed.{density_passed}
@@ -48,10 +48,10 @@ use Rattle.claim.specs.Mixed.{Shaded, DemandA7}
 -- ---- a cell with a figure has ends of its second box on each axis
 boxed : (f : Axis → Result Ends) (s : Box) → box_of f ≡ ok s → (a : Axis) → (r : Ends) × (f a ≡ ok r)
 boxed f s e a =
-    let (x, p, q) = bind_ok (f xAxis) (λ (x : Ends). bind (f yAxis) (λ (y : Ends). bind (f zAxis) (λ (z : Ends). ok (made x y z)))) e in
-    let (y, r, t) = bind_ok (f yAxis) (λ (y : Ends). bind (f zAxis) (λ (z : Ends). ok (made x y z))) q in
-    let (z, u, v) = bind_ok (f zAxis) (λ (z : Ends). ok (made x y z)) t in
-    elim a [ xAxis ↦ (x, p) | yAxis ↦ (y, r) | zAxis ↦ (z, u) ]
+    let (x, p, q) = bind_ok (f x_axis) (λ (x : Ends). bind (f y_axis) (λ (y : Ends). bind (f z_axis) (λ (z : Ends). ok (made x y z)))) e in
+    let (y, r, t) = bind_ok (f y_axis) (λ (y : Ends). bind (f z_axis) (λ (z : Ends). ok (made x y z))) q in
+    let (z, u, v) = bind_ok (f z_axis) (λ (z : Ends). ok (made x y z)) t in
+    elim a [ x_axis ↦ (x, p) | y_axis ↦ (y, r) | z_axis ↦ (z, u) ]
   where
     made : Ends → Ends → Ends → Box
     made x y z = record { lo = record { x = x.lo; y = y.lo; z = z.lo }; hi = record { x = x.hi; y = y.hi; z = z.hi } }
@@ -74,7 +74,7 @@ build_mapped g m l e =
     (then_zero (each (index_fault m)) (map_fault m) (then_zero (each (bounds_fault m)) (each (index_fault m) then map_fault m) q).1).1
 
 none_of : (f : Axis → ℕ) → ((a : Axis) → f a ≡ 0) → each f ≡ 0
-none_of f h = λ i. h xAxis i then h yAxis i then h zAxis i
+none_of f h = λ i. h x_axis i then h y_axis i then h z_axis i
 
 inside_none : (m : Medium) (p : Point) → Between m.low m.high p → (a : Axis) → outside_fault m p a ≡ 0
 inside_none m p h a = λ i. unless ((h a).0 i && (h a).1 i) 24
@@ -97,11 +97,11 @@ floors_on m p a = floors (world_to_index m p a)
 
 eight_at : Medium → Point → Bool → Bool → Bool → Coord
 unfolding floors_on
-eight_at m p x y z = corner_of (floors_on m p xAxis) (floors_on m p yAxis) (floors_on m p zAxis) x y z
+eight_at m p x y z = corner_of (floors_on m p x_axis) (floors_on m p y_axis) (floors_on m p z_axis) x y z
 
 eight_around : (m : Medium) (p : Point) (x y z : Bool) → AroundIn m p (eight_at m p x y z)
 unfolding floors_on eight_at
-eight_around m p x y z = λ a. elim a [ xAxis ↦ either xAxis x | yAxis ↦ either yAxis y | zAxis ↦ either zAxis z ]
+eight_around m p x y z = λ a. elim a [ x_axis ↦ either x_axis x | y_axis ↦ either y_axis y | z_axis ↦ either z_axis z ]
   where
     either : (a : Axis) (o : Bool)
         → (cond o (suc_ℤ (floor_z (world_to_index m p a))) (floor_z (world_to_index m p a)) ≡ floor_z (world_to_index m p a))
@@ -111,15 +111,15 @@ eight_around m p x y z = λ a. elim a [ xAxis ↦ either xAxis x | yAxis ↦ eit
 
 -- the mix between the floors and the next
 mix_at : (Coord → Float) → Medium → Point → Float
-mix_at read m p = mix_between read m p (floors_on m p xAxis) (floors_on m p yAxis) (floors_on m p zAxis)
+mix_at read m p = mix_between read m p (floors_on m p x_axis) (floors_on m p y_axis) (floors_on m p z_axis)
 
 by_floors : (read : Coord → Float) (m : Medium) (p : Point) → Between m.low m.high p
     → ((a : Axis) → sides_of (world_to_index m p a) ≡ ok (floors_on m p a)) → density_by read m p ≡ ok (mix_at read m p)
 unfolding density_by mix_at
 by_floors read m p h s =
-    (λ i. passing (none_of (outside_fault m p) (inside_none m p h) i) (joined (sides_of (world_to_index m p xAxis)) (sides_of (world_to_index m p yAxis))
-    (sides_of (world_to_index m p zAxis))))
-    ∙ (λ i. joined (s xAxis i) (s yAxis i) (s zAxis i))
+    (λ i. passing (none_of (outside_fault m p) (inside_none m p h) i) (joined (sides_of (world_to_index m p x_axis)) (sides_of (world_to_index m p y_axis))
+    (sides_of (world_to_index m p z_axis))))
+    ∙ (λ i. joined (s x_axis i) (s y_axis i) (s z_axis i))
   where
     joined : Result Ends → Result Ends → Result Ends → Result Float
     joined x y z = bind x (λ (i : Ends). bind y (λ (j : Ends). bind z (λ (k : Ends). ok (mix_between read m p i j k))))
@@ -138,7 +138,7 @@ same_mix : (read other : Coord → Float) (m : Medium) (p : Point) → ((c : Coo
 unfolding mix_at mix_between eight_at
 same_mix read other m p h =
     λ i. mix (λ x y z. h (eight_at m p x y z) (eight_around m p x y z) i)
-    (part (world_to_index m p xAxis)) (part (world_to_index m p yAxis)) (part (world_to_index m p zAxis))
+    (part (world_to_index m p x_axis)) (part (world_to_index m p y_axis)) (part (world_to_index m p z_axis))
 
 -- from a figure that is at least the eight voxels, and a finite index position
 mixed_at : (read : Coord → Float) (m : Medium) (p : Point) (F : Float) → T (le F ceiling)
@@ -146,8 +146,8 @@ mixed_at : (read : Coord → Float) (m : Medium) (p : Point) (F : Float) → T (
     → Mixed F (mix_at read m p)
 unfolding mix_at mix_between eight_at
 mixed_at read m p F top real under =
-    mixed (λ x y z. read (eight_at m p x y z)) (part (world_to_index m p xAxis)) (part (world_to_index m p yAxis)) (part (world_to_index m p zAxis)) F top
-    (λ x y z. under (eight_at m p x y z) (eight_around m p x y z)) (of xAxis) (of yAxis) (of zAxis)
+    mixed (λ x y z. read (eight_at m p x y z)) (part (world_to_index m p x_axis)) (part (world_to_index m p y_axis)) (part (world_to_index m p z_axis)) F top
+    (λ x y z. under (eight_at m p x y z) (eight_around m p x y z)) (of x_axis) (of y_axis) (of z_axis)
   where
     of : (a : Axis) → Part (part (world_to_index m p a))
     of a = part_of (world_to_index m p a) (real a) (index_fits m p a)

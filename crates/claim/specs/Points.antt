@@ -9,7 +9,7 @@ use Rattle.sparse_grid.specs.Lookup.{lookup}
 use Rattle.float.specs.Numbers.{narrow_fits}
 use Rattle.float.specs.Zero.{+0}
 use Rattle.float.specs.Floors.{mag_between}
-use Rattle.medium.specs.Medium.{xAxis, yAxis, zAxis}
+use Rattle.medium.specs.Medium.{x_axis, y_axis, z_axis}
 use Rattle.refusals.specs.Faults.{passing}
 use Rattle.layout.specs.Bytes.{u64_at}
 use Rattle.layout.specs.Coordinates.{Coord, Signed32}
@@ -42,9 +42,9 @@ index_alike m n A p a = ap (λ (x : Medium). world_to_index x p a) (alike_but_bo
 
 cell_alike : (m n : Medium) → Alike m n → (c : Cells) (k o : ℕ) → cell_corner n c k o ≡ cell_corner m c k o
 cell_alike m n A c k o = λ i. record {
-  x = corner_alike m n A xAxis c.x (cell_axis c k xAxis + o) i;
-  y = corner_alike m n A yAxis c.y (cell_axis c k yAxis + o) i;
-  z = corner_alike m n A zAxis c.z (cell_axis c k zAxis + o) i;
+  x = corner_alike m n A x_axis c.x (cell_axis c k x_axis + o) i;
+  y = corner_alike m n A y_axis c.y (cell_axis c k y_axis + o) i;
+  z = corner_alike m n A z_axis c.z (cell_axis c k z_axis + o) i;
 }
 
 -- the test on `Encloses`, both ways
@@ -60,14 +60,14 @@ pub fitting : (b : List ℕ) → Fitting (medium_of b)
 unfolding medium_of medium_at
 fitting b = record {
   low = λ a. elim a [
-    | xAxis ↦ narrow_fits (of_bits binary64 (u64_at b 560))
-    | yAxis ↦ narrow_fits (of_bits binary64 (u64_at b 568))
-    | zAxis ↦ narrow_fits (of_bits binary64 (u64_at b 576))
+    | x_axis ↦ narrow_fits (of_bits binary64 (u64_at b 560))
+    | y_axis ↦ narrow_fits (of_bits binary64 (u64_at b 568))
+    | z_axis ↦ narrow_fits (of_bits binary64 (u64_at b 576))
   ];
   high = λ a. elim a [
-    | xAxis ↦ narrow_fits (of_bits binary64 (u64_at b 584))
-    | yAxis ↦ narrow_fits (of_bits binary64 (u64_at b 592))
-    | zAxis ↦ narrow_fits (of_bits binary64 (u64_at b 600))
+    | x_axis ↦ narrow_fits (of_bits binary64 (u64_at b 584))
+    | y_axis ↦ narrow_fits (of_bits binary64 (u64_at b 592))
+    | z_axis ↦ narrow_fits (of_bits binary64 (u64_at b 600))
   ];
 }
 

@@ -11,7 +11,7 @@ use Rattle.sparse_grid.specs.Tables.{Grid}
 use Rattle.sparse_grid.specs.Lookup.{lookup}
 use Rattle.sparse_grid.specs.Answers.{value_only, Spoken, unspoken, spoken}
 use Rattle.cells.specs.Cells.{cell_count}
-use Rattle.medium.specs.Medium.{Point, Medium, xAxis, yAxis, zAxis}
+use Rattle.medium.specs.Medium.{Point, Medium, x_axis, y_axis, z_axis}
 use Rattle.medium.specs.Alike.{Alike}
 use Rattle.nanovdb.specs.Decode.{decode_density, medium_of}
 use Rattle.nanovdb.specs.Lent.{Lent, Answer, Tables, decode_into, answer_of, left_of, filled, Used, used_of}
@@ -25,9 +25,9 @@ use Rattle.claim.specs.Claim.{Inside, Bounds}
 -- the bits of a point's index position, with the map and the translation in the bytes
 abbrev pub index_of : List ℕ → Point → List ℕ
 index_of b p =
-    to_bits binary32 (world_to_index (medium_of b) p xAxis)
-    ∷ to_bits binary32 (world_to_index (medium_of b) p yAxis)
-    ∷ to_bits binary32 (world_to_index (medium_of b) p zAxis)
+    to_bits binary32 (world_to_index (medium_of b) p x_axis)
+    ∷ to_bits binary32 (world_to_index (medium_of b) p y_axis)
+    ∷ to_bits binary32 (world_to_index (medium_of b) p z_axis)
     ∷ []
 
 -- the six numbers of each of the first n boxes are i32, as a caller's are

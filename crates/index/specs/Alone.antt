@@ -15,7 +15,7 @@ use Rattle.float.specs.Numbers.{narrow_fits, fma_fits}
 use Rattle.float.specs.Middle.{add_left, mul_left, fma_left, fma_last, sub_left}
 use Rattle.float.specs.Alike.{Alike, alike_through, narrow_zero, fma_plain, fma_none}
 use Rattle.float.specs.Zeros.{is_zero, mul_zero_right, fma_zero}
-use Rattle.medium.specs.Medium.{Point, Medium, Axis, xAxis, yAxis, zAxis, on_point, on_coord, map_at, map_fault}
+use Rattle.medium.specs.Medium.{Point, Medium, Axis, x_axis, y_axis, z_axis, on_point, on_coord, map_at, map_fault}
 use Rattle.index.specs.Index.{world_to_index, majorant_index}
 use Rattle.index.specs.Cells.{corner, Cells, cell_axis, cells_on, cell_corner, Ends, max_z, min_z, one, first_ends, second_ends}
 use Rattle.index.specs.Axes.{Line, Both, corner_on, index_on, majorant_on, first_low, first_high, second_low, second_high, first_on, second_on, ends_on}
@@ -130,12 +130,12 @@ first_alike m s p n a =
     let w : (r : Float) → T (is_zero r) → T (is_zero (narrow (mul binary64 dz r))) =
     λ r h. narrow_zero (mul binary64 dz r) (mul_zero_right binary64 dz r n.z h) in
     elim a [
-      | xAxis ↦ row_x dx dy (narrow (mul binary64 dz (map_at m xAxis 2))) (map_at m xAxis 0) (map_at m xAxis 1) n.x n.y s.xx s.xy
-          (w (map_at m xAxis 2) s.xz)
-      | yAxis ↦ row_y dx dy (narrow (mul binary64 dz (map_at m yAxis 2))) (map_at m yAxis 1) (map_at m yAxis 0) n.x n.y s.yx s.yy
-          (w (map_at m yAxis 2) s.yz)
-      | zAxis ↦ row_z dx dy (narrow (mul binary64 dz (map_at m zAxis 2))) (map_at m zAxis 0) (map_at m zAxis 1) n.x n.y s.zx s.zy
-          (narrow_fits (mul binary64 dz (map_at m zAxis 2)))
+      | x_axis ↦ row_x dx dy (narrow (mul binary64 dz (map_at m x_axis 2))) (map_at m x_axis 0) (map_at m x_axis 1) n.x n.y s.xx s.xy
+          (w (map_at m x_axis 2) s.xz)
+      | y_axis ↦ row_y dx dy (narrow (mul binary64 dz (map_at m y_axis 2))) (map_at m y_axis 1) (map_at m y_axis 0) n.x n.y s.yx s.yy
+          (w (map_at m y_axis 2) s.yz)
+      | z_axis ↦ row_z dx dy (narrow (mul binary64 dz (map_at m z_axis 2))) (map_at m z_axis 0) (map_at m z_axis 1) n.x n.y s.zx s.zy
+          (narrow_fits (mul binary64 dz (map_at m z_axis 2)))
     ]
 
 second_alike : (m : Medium) → Straight m → (p : Point) → NearF m p → (a : Axis) → Alike (world_to_index m p a) (index_on (line_of m a) (on_point a p))
@@ -145,31 +145,31 @@ second_alike m s p n a =
     let dy = sub binary32 p.y m.translation.y in
     let dz = sub binary32 p.z m.translation.z in
     elim a [
-      | xAxis ↦ row_x dx dy (mul binary32 dz (map_at m xAxis 2)) (map_at m xAxis 0) (map_at m xAxis 1) n.x n.y s.xx s.xy
-          (mul_zero_right binary32 dz (map_at m xAxis 2) n.z s.xz)
-      | yAxis ↦ row_y dx dy (mul binary32 dz (map_at m yAxis 2)) (map_at m yAxis 1) (map_at m yAxis 0) n.x n.y s.yx s.yy
-          (mul_zero_right binary32 dz (map_at m yAxis 2) n.z s.yz)
-      | zAxis ↦ row_z dx dy (mul binary32 dz (map_at m zAxis 2)) (map_at m zAxis 0) (map_at m zAxis 1) n.x n.y s.zx s.zy
-          (mul-fits binary32 dz (map_at m zAxis 2))
+      | x_axis ↦ row_x dx dy (mul binary32 dz (map_at m x_axis 2)) (map_at m x_axis 0) (map_at m x_axis 1) n.x n.y s.xx s.xy
+          (mul_zero_right binary32 dz (map_at m x_axis 2) n.z s.xz)
+      | y_axis ↦ row_y dx dy (mul binary32 dz (map_at m y_axis 2)) (map_at m y_axis 1) (map_at m y_axis 0) n.x n.y s.yx s.yy
+          (mul_zero_right binary32 dz (map_at m y_axis 2) n.z s.yz)
+      | z_axis ↦ row_z dx dy (mul binary32 dz (map_at m z_axis 2)) (map_at m z_axis 0) (map_at m z_axis 1) n.x n.y s.zx s.zy
+          (mul-fits binary32 dz (map_at m z_axis 2))
     ]
 
 -- an axis's own finite position has a finite difference
 own : (m : Medium) (p : Point) → ((a : Axis) → T (finite (majorant_on (line_of m a) (on_point a p)))) → Near m p
 unfolding majorant_on
 own m p h = record {
-  x = mul_left binary32 (narrow (sub binary64 p.x m.translation.x)) (map_at m xAxis 0) (h xAxis);
-  y = mul_left binary32 (narrow (sub binary64 p.y m.translation.y)) (map_at m yAxis 1) (h yAxis);
+  x = mul_left binary32 (narrow (sub binary64 p.x m.translation.x)) (map_at m x_axis 0) (h x_axis);
+  y = mul_left binary32 (narrow (sub binary64 p.y m.translation.y)) (map_at m y_axis 1) (h y_axis);
   z =
-      mul_left binary64 (sub binary64 p.z m.translation.z) (map_at m zAxis 2)
-      (narrow_left (mul binary64 (sub binary64 p.z m.translation.z) (map_at m zAxis 2)) (h zAxis));
+      mul_left binary64 (sub binary64 p.z m.translation.z) (map_at m z_axis 2)
+      (narrow_left (mul binary64 (sub binary64 p.z m.translation.z) (map_at m z_axis 2)) (h z_axis));
 }
 
 own_f : (m : Medium) (p : Point) → ((a : Axis) → T (finite (index_on (line_of m a) (on_point a p)))) → NearF m p
 unfolding index_on
 own_f m p h = record {
-  x = mul_left binary32 (sub binary32 p.x m.translation.x) (map_at m xAxis 0) (h xAxis);
-  y = mul_left binary32 (sub binary32 p.y m.translation.y) (map_at m yAxis 1) (h yAxis);
-  z = mul_left binary32 (sub binary32 p.z m.translation.z) (map_at m zAxis 2) (h zAxis);
+  x = mul_left binary32 (sub binary32 p.x m.translation.x) (map_at m x_axis 0) (h x_axis);
+  y = mul_left binary32 (sub binary32 p.y m.translation.y) (map_at m y_axis 1) (h y_axis);
+  z = mul_left binary32 (sub binary32 p.z m.translation.z) (map_at m z_axis 2) (h z_axis);
 }
 
 -- ---- the ends of two points
@@ -334,29 +334,29 @@ axis_told l n k e = ap both_of e ∙ back (axis_ends l n k) (axis_only l n k)
 
 -- ---- three axes
 abbrev pub each_axis : {A B : Type 0} → (Axis → Result A) → (A → A → A → B) → Result B
-each_axis {A} f make = bind (f xAxis) (λ (x : A). bind (f yAxis) (λ (y : A). bind (f zAxis) (λ (z : A). ok (make x y z))))
+each_axis {A} f make = bind (f x_axis) (λ (x : A). bind (f y_axis) (λ (y : A). bind (f z_axis) (λ (z : A). ok (make x y z))))
 
 module _ {B C : Type 0} (F S : Axis → Result Ends) (make : Ends → Ends → Ends → B) (G : B → B → Result C) where
   abbrev both : Result C
   both = bind (each_axis F make) (λ (f : B). bind (each_axis S make) (λ (s : B). G f s))
 
   both_taken : (e : Axis → Both) → ((a : Axis) → (F a ≡ ok (e a).first) × (S a ≡ ok (e a).second))
-      → both ≡ G (make (e xAxis).first (e yAxis).first (e zAxis).first) (make (e xAxis).second (e yAxis).second (e zAxis).second)
-  both_taken e h = rw ((h xAxis).0, (h yAxis).0, (h zAxis).0, (h xAxis).1, (h yAxis).1, (h zAxis).1)
+      → both ≡ G (make (e x_axis).first (e y_axis).first (e z_axis).first) (make (e x_axis).second (e y_axis).second (e z_axis).second)
+  both_taken e h = rw ((h x_axis).0, (h y_axis).0, (h z_axis).0, (h x_axis).1, (h y_axis).1, (h z_axis).1)
 
   -- an axis that is not taken in both boxes
   both_refused : ((a : Axis) → Only (F a)) → ((a : Axis) → Only (S a)) → (a : Axis) → ((f s : Ends) → F a ≡ ok f → S a ≡ ok s → ⊥) → both ≡ refused 16
-  both_refused f s a h = elim (f xAxis) [
+  both_refused f s a h = elim (f x_axis) [
     | inr e ↦ rw e
-    | inl x ↦ elim (f yAxis) [
+    | inl x ↦ elim (f y_axis) [
       | inr e ↦ rw (x.1, e)
-      | inl y ↦ elim (f zAxis) [
+      | inl y ↦ elim (f z_axis) [
         | inr e ↦ rw (x.1, y.1, e)
-        | inl z ↦ elim (s xAxis) [
+        | inl z ↦ elim (s x_axis) [
           | inr e ↦ rw (x.1, y.1, z.1, e)
-          | inl u ↦ elim (s yAxis) [
+          | inl u ↦ elim (s y_axis) [
             | inr e ↦ rw (x.1, y.1, z.1, u.1, e)
-            | inl v ↦ elim (s zAxis) [
+            | inl v ↦ elim (s z_axis) [
               | inr e ↦ rw (x.1, y.1, z.1, u.1, v.1, e)
               | inl w ↦ absurd (none a h x y z u v w)
             ]
@@ -366,20 +366,20 @@ module _ {B C : Type 0} (F S : Axis → Result Ends) (make : Ends → Ends → E
     ]
   ]
     where
-      none : (a : Axis) → ((f s : Ends) → F a ≡ ok f → S a ≡ ok s → ⊥) → (e : Ends) × (F xAxis ≡ ok e) → (e : Ends) × (F yAxis ≡ ok e)
-          → (e : Ends) × (F zAxis ≡ ok e) → (e : Ends) × (S xAxis ≡ ok e) → (e : Ends) × (S yAxis ≡ ok e) → (e : Ends) × (S zAxis ≡ ok e) → ⊥
-      none xAxis h x y z u v w = h x.0 u.0 x.1 u.1
-      none yAxis h x y z u v w = h y.0 v.0 y.1 v.1
-      none zAxis h x y z u v w = h z.0 w.0 z.1 w.1
+      none : (a : Axis) → ((f s : Ends) → F a ≡ ok f → S a ≡ ok s → ⊥) → (e : Ends) × (F x_axis ≡ ok e) → (e : Ends) × (F y_axis ≡ ok e)
+          → (e : Ends) × (F z_axis ≡ ok e) → (e : Ends) × (S x_axis ≡ ok e) → (e : Ends) × (S y_axis ≡ ok e) → (e : Ends) × (S z_axis ≡ ok e) → ⊥
+      none x_axis h x y z u v w = h x.0 u.0 x.1 u.1
+      none y_axis h x y z u v w = h y.0 v.0 y.1 v.1
+      none z_axis h x y z u v w = h z.0 w.0 z.1 w.1
 
 own_is : (m : Medium) (n : Cells) (k : ℕ) (a : Axis) → ends_at m n k a ≡ own_of m (cell_corner m n k 0) (cell_corner m n k 1) a
 own_is m n k a =
-    elim a [ xAxis ↦ go xAxis n.x (cell_axis n k xAxis) | yAxis ↦ go yAxis n.y (cell_axis n k yAxis) | zAxis ↦ go zAxis n.z (cell_axis n k zAxis) ]
+    elim a [ x_axis ↦ go x_axis n.x (cell_axis n k x_axis) | y_axis ↦ go y_axis n.y (cell_axis n k y_axis) | z_axis ↦ go z_axis n.z (cell_axis n k z_axis) ]
   where
     go : (a : Axis) (N K : ℕ) → axis_ends (line_of m a) N K ≡ ends_on (line_of m a) (corner m a N (K + 0)) (corner m a N (K + 1))
     go a N K =
         is (line_of m a) N K ∙ ap (λ (v : Float). ends_on (line_of m a) v (corner_on (on_point a m.low) (on_point a m.high) N (K + 1)))
-        (ap (corner_on (on_point a m.low) (on_point a m.high) N) (sym (NatL.add_zero K)) ∙ sym (corner_on_lem m a N (K + 0)))
+        (ap (corner_on (on_point a m.low) (on_point a m.high) N) (sym (NatL.add-zero K)) ∙ sym (corner_on_lem m a N (K + 0)))
         ∙ ap (ends_on (line_of m a) (corner m a N (K + 0))) (sym (corner_on_lem m a N (K + 1)))
       where
         is : (l : Line) (N K : ℕ) → axis_ends l N K ≡ ends_on l (corner_on l.low l.high N K) (corner_on l.low l.high N (K + 1))
@@ -396,15 +396,15 @@ second_is m n k a = refl
 -- a cell's two boxes, and what is made of them, by its axes one by one
 pub boxes_alone : {B C : Type 0} (m : Medium) → map_fault m ≡ 0 → (n : Cells) (k : ℕ) (make : Ends → Ends → Ends → B) (G : B → B → Result C)
     → bind (each_axis (first_ends m n k) make) (λ (f : B). bind (each_axis (second_ends m n k) make) (λ (s : B). G f s))
-    ≡ bind (ends_at m n k xAxis)
-    (λ (x : Both). bind (ends_at m n k yAxis)
-    (λ (y : Both). bind (ends_at m n k zAxis) (λ (z : Both). G (make x.first y.first z.first) (make x.second y.second z.second))))
-boxes_alone {B} {C} m M n k make G = elim (only xAxis) [
-  | inr e ↦ refuse xAxis e ∙ sym (rw e)
-  | inl x ↦ elim (only yAxis) [
-    | inr e ↦ refuse yAxis e ∙ sym (rw (x.1, e))
-    | inl y ↦ elim (only zAxis) [
-      | inr e ↦ refuse zAxis e ∙ sym (rw (x.1, y.1, e))
+    ≡ bind (ends_at m n k x_axis)
+    (λ (x : Both). bind (ends_at m n k y_axis)
+    (λ (y : Both). bind (ends_at m n k z_axis) (λ (z : Both). G (make x.first y.first z.first) (make x.second y.second z.second))))
+boxes_alone {B} {C} m M n k make G = elim (only x_axis) [
+  | inr e ↦ refuse x_axis e ∙ sym (rw e)
+  | inl x ↦ elim (only y_axis) [
+    | inr e ↦ refuse y_axis e ∙ sym (rw (x.1, e))
+    | inl y ↦ elim (only z_axis) [
+      | inr e ↦ refuse z_axis e ∙ sym (rw (x.1, y.1, e))
       | inl z ↦ take x y z ∙ sym (rw (x.1, y.1, z.1))
     ]
   ]
@@ -419,12 +419,12 @@ boxes_alone {B} {C} m M n k make G = elim (only xAxis) [
         (λ f s i j. stopped (sym e ∙ own_is m n k a
         ∙ from_both m (straight m M) (cell_corner m n k 0) (cell_corner m n k 1) a f s (sym (first_is m n k a) ∙ i) (sym (second_is m n k a) ∙ j)))
 
-    take : (x : (e : Both) × (ends_at m n k xAxis ≡ ok e)) (y : (e : Both) × (ends_at m n k yAxis ≡ ok e))
-        (z : (e : Both) × (ends_at m n k zAxis ≡ ok e))
+    take : (x : (e : Both) × (ends_at m n k x_axis ≡ ok e)) (y : (e : Both) × (ends_at m n k y_axis ≡ ok e))
+        (z : (e : Both) × (ends_at m n k z_axis ≡ ok e))
         → both (first_ends m n k) (second_ends m n k) make G
         ≡ G (make x.0.first y.0.first z.0.first) (make x.0.second y.0.second z.0.second)
     take x y z =
-        let h : (a : Axis) → (e : Both) × (ends_at m n k a ≡ ok e) = λ a. elim a [ xAxis ↦ x | yAxis ↦ y | zAxis ↦ z ] in
+        let h : (a : Axis) → (e : Both) × (ends_at m n k a ≡ ok e) = λ a. elim a [ x_axis ↦ x | y_axis ↦ y | z_axis ↦ z ] in
         let o : (a : Axis) → (e : Both) × (own_of m (cell_corner m n k 0) (cell_corner m n k 1) a ≡ ok e) = λ a. ((h a).0, sym (own_is m n k a) ∙ (h a).1) in
         both_taken (first_ends m n k) (second_ends m n k) make G (λ a. (h a).0)
         (λ a. let r = from_own m (straight m M) (cell_corner m n k 0) (cell_corner m n k 1) o a (h a).0 (o a).1 in

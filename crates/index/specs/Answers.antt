@@ -4,7 +4,7 @@ use Rattle.std.specs.Float.{binary32}
 use Rattle.std.specs.Float.Ieee.{to_bits}
 use Rattle.refusals.specs.Results.{Result, ok, number_of, value_or}
 use Rattle.refusals.specs.Faults.{passing}
-use Rattle.medium.specs.Medium.{Point, Medium, xAxis, yAxis, zAxis, map_fault}
+use Rattle.medium.specs.Medium.{Point, Medium, x_axis, y_axis, z_axis, map_fault}
 use Rattle.index.specs.Index.{world_to_index}
 use Rattle.index.specs.Cells.{Ends}
 use Rattle.index.specs.Axes as Axes
@@ -18,7 +18,7 @@ use Rattle.index.specs.declared.AxisEnds.{AxisEnds}
 unfoldable pub index_bits : Medium → Point → Result (List ℕ)
 index_bits m p =
     passing (map_fault m)
-    (ok (to_bits binary32 (world_to_index m p xAxis) ∷ to_bits binary32 (world_to_index m p yAxis) ∷ to_bits binary32 (world_to_index m p zAxis) ∷ []))
+    (ok (to_bits binary32 (world_to_index m p x_axis) ∷ to_bits binary32 (world_to_index m p y_axis) ∷ to_bits binary32 (world_to_index m p z_axis) ∷ []))
 
 -- the number, and the three bits, or zeros after a refusal
 abbrev pub position_of : Result (List ℕ) → Position

@@ -5,7 +5,7 @@ use Rattle.std.specs.Float.Ieee.{add, sub, mul, div, of_int}
 use Rattle.refusals.specs.Results.{Result, ok, bind}
 use Rattle.float.specs.Fused.{narrow, trunc, floor}
 use Rattle.float.specs.Coordinate.{coordinate}
-use Rattle.medium.specs.Medium.{Medium, Axis, xAxis, yAxis, zAxis, on_point, on_coord, map_at}
+use Rattle.medium.specs.Medium.{Medium, Axis, x_axis, y_axis, z_axis, on_point, on_coord, map_at}
 use Rattle.index.specs.Cells.{Cells, cell_axis, cells_on, Ends, max_z, min_z, one}
 
 -- one axis of a medium: the world box, the translation, the place on the map's diagonal, and the index box
@@ -76,14 +76,14 @@ axis_ends l n k = ends_on l (corner_on l.low l.high n k) (corner_on l.low l.high
 -- ---- an axis of a medium
 
 abbrev pub is_last : Axis → Bool
-is_last xAxis = false
-is_last yAxis = false
-is_last zAxis = true
+is_last x_axis = false
+is_last y_axis = false
+is_last z_axis = true
 
 abbrev pub column : Axis → ℕ
-column xAxis = 0
-column yAxis = 1
-column zAxis = 2
+column x_axis = 0
+column y_axis = 1
+column z_axis = 2
 
 abbrev pub line_of : Medium → Axis → Line
 line_of m a = record {

@@ -10,7 +10,7 @@ use Rattle.float.specs.Coordinate.{coordinate}
 use Rattle.float.specs.Integer.{floor_z}
 use Rattle.layout.specs.Coordinates.{Coord}
 pub use Rattle.cells.specs.Cells.{Cells}
-use Rattle.medium.specs.Medium.{Point, Medium, Axis, xAxis, yAxis, zAxis, on_point, on_coord}
+use Rattle.medium.specs.Medium.{Point, Medium, Axis, x_axis, y_axis, z_axis, on_point, on_coord}
 use Rattle.index.specs.Index.{world_to_index, majorant_index}
 
 -- the corner k of n on one axis: (1 - t) * low + t * high with t = k / n, each step rounded
@@ -21,26 +21,26 @@ corner m a n k =
 
 -- where cell k stands on an axis: k = x + X * (y + Y * z)
 abbrev pub cell_axis : Cells → ℕ → Axis → ℕ
-cell_axis n k xAxis = k % n.x
-cell_axis n k yAxis = k / n.x % n.y
-cell_axis n k zAxis = k / (n.x * n.y)
+cell_axis n k x_axis = k % n.x
+cell_axis n k y_axis = k / n.x % n.y
+cell_axis n k z_axis = k / (n.x * n.y)
 
 -- the cell that stands there on the three axes
 abbrev pub cell_of : Cells → ℕ → ℕ → ℕ → ℕ
 cell_of n x y z = (z * n.y + y) * n.x + x
 
 abbrev pub cells_on : Cells → Axis → ℕ
-cells_on n xAxis = n.x
-cells_on n yAxis = n.y
-cells_on n zAxis = n.z
+cells_on n x_axis = n.x
+cells_on n y_axis = n.y
+cells_on n z_axis = n.z
 
 -- the corner of cell k with + 0 or + 1
 abbrev pub cell_corner : Medium → Cells → ℕ → ℕ → Point
 cell_corner m n k o =
     record {
-      x = corner m xAxis n.x (cell_axis n k xAxis + o);
-      y = corner m yAxis n.y (cell_axis n k yAxis + o);
-      z = corner m zAxis n.z (cell_axis n k zAxis + o);
+      x = corner m x_axis n.x (cell_axis n k x_axis + o);
+      y = corner m y_axis n.y (cell_axis n k y_axis + o);
+      z = corner m z_axis n.z (cell_axis n k z_axis + o);
     }
 
 abbrev pub max_z : ℤ → ℤ → ℤ

@@ -7,7 +7,7 @@ use Rattle.std.proofs.Math.Arith.{digits_div, digits_mod, digits_lt}
 use Rattle.std.specs.Float.{binary32}
 use Rattle.std.specs.Float.Ieee.{lt, le, sub, fits}
 use Rattle.std.specs.Float.Ieee.Scale.{finite}
-use Rattle.medium.specs.Medium.{xAxis, yAxis, zAxis}
+use Rattle.medium.specs.Medium.{x_axis, y_axis, z_axis}
 use Rattle.medium.specs.Medium.{Point, Medium, Axis, on_point, bounds_fault}
 use Rattle.cells.specs.Counted.{Counted}
 use Rattle.index.specs.Cells.{corner, Cells, cell_axis, cell_of, cells_on, Between, EnclosesIn}
@@ -32,8 +32,8 @@ pub record Numbered (n : Cells) : Type 0 where
 -- so are numbers of cells that pass
 pub numbered : {n : Cells} → Counted n → Numbered n
 numbered N = record {
-  some = λ a. elim a [ xAxis ↦ N.x.some | yAxis ↦ N.y.some | zAxis ↦ N.z.some ];
-  few = λ a. elim a [ xAxis ↦ le_trans N.x.most (lit≤ tt) | yAxis ↦ le_trans N.y.most (lit≤ tt) | zAxis ↦ le_trans N.z.most (lit≤ tt) ];
+  some = λ a. elim a [ x_axis ↦ N.x.some | y_axis ↦ N.y.some | z_axis ↦ N.z.some ];
+  few = λ a. elim a [ x_axis ↦ le_trans N.x.most (lit≤ tt) | y_axis ↦ le_trans N.y.most (lit≤ tt) | z_axis ↦ le_trans N.z.most (lit≤ tt) ];
 }
 
 bounds_finite : (m : Medium) (a : Axis) → bounds_fault m a ≡ 0 → T (finite (on_point a m.low)) × T (finite (on_point a m.high))
@@ -48,13 +48,13 @@ bounds_finite m a e =
 
 -- ---- the number of a cell, and its three numbers on the axes
 module _ (n : Cells) (x y z : ℕ) (X : x < n.x) (Y : y < n.y) (Z : z < n.z) where
-  pub cell_x : cell_axis n (cell_of n x y z) xAxis ≡ x
+  pub cell_x : cell_axis n (cell_of n x y z) x_axis ≡ x
   cell_x = digits_mod (z * n.y + y) X
 
-  pub cell_y : cell_axis n (cell_of n x y z) yAxis ≡ y
+  pub cell_y : cell_axis n (cell_of n x y z) y_axis ≡ y
   cell_y = ap (λ (k : ℕ). k % n.y) (digits_div (z * n.y + y) X) ∙ digits_mod z Y
 
-  pub cell_z : cell_axis n (cell_of n x y z) zAxis ≡ z
+  pub cell_z : cell_axis n (cell_of n x y z) z_axis ≡ z
   cell_z = sym (div-div-eq-div-mul (cell_of n x y z) n.x n.y) ∙ ap (λ (k : ℕ). k / n.y) (digits_div (z * n.y + y) X) ∙ digits_div z Y
 
   cell_lt : cell_of n x y z < n.x * n.y * n.z
@@ -69,27 +69,27 @@ module _ (n : Cells) (x y z : ℕ) (X : x < n.x) (Y : y < n.y) (Z : z < n.z) whe
 abbrev pub Met : Medium → Cells → Point → Type 0
 Met m n p = (a : Axis) → cell_on m n p a < cells_on n a
 
-pub cell_met : (m : Medium) (n : Cells) (p : Point) → Met m n p → cell_at m n p ≡ cell_of n (cell_on m n p xAxis) (cell_on m n p yAxis) (cell_on m n p zAxis)
+pub cell_met : (m : Medium) (n : Cells) (p : Point) → Met m n p → cell_at m n p ≡ cell_of n (cell_on m n p x_axis) (cell_on m n p y_axis) (cell_on m n p z_axis)
 unfolding cell_at
-cell_met m n p f = rw (lt-ltb (cell_on m n p xAxis) n.x (f xAxis), lt-ltb (cell_on m n p yAxis) n.y (f yAxis), lt-ltb (cell_on m n p zAxis) n.z (f zAxis))
+cell_met m n p f = rw (lt-ltb (cell_on m n p x_axis) n.x (f x_axis), lt-ltb (cell_on m n p y_axis) n.y (f y_axis), lt-ltb (cell_on m n p z_axis) n.z (f z_axis))
 
 -- an axis that has found none
 pub cell_none : (m : Medium) (n : Cells) (p : Point) (a : Axis) → cells_on n a ≤ cell_on m n p a → cell_at m n p ≡ n.x * n.y * n.z
 unfolding cell_at
 cell_none m n p = λ a. elim a [
-  | xAxis ↦ λ l. let e = le-ltb x n.x l in (λ i. pick (e i && ltb y n.y && ltb z n.z))
-  | yAxis ↦ λ l. let e = le-ltb y n.y l in (λ i. pick (ltb x n.x && e i && ltb z n.z)) ∙ (λ i. pick (none (ltb x n.x) i && ltb z n.z))
-  | zAxis ↦ λ l. let e = le-ltb z n.z l in (λ i. pick (ltb x n.x && ltb y n.y && e i)) ∙ (λ i. pick (none (ltb x n.x && ltb y n.y) i))
+  | x_axis ↦ λ l. let e = le-ltb x n.x l in (λ i. pick (e i && ltb y n.y && ltb z n.z))
+  | y_axis ↦ λ l. let e = le-ltb y n.y l in (λ i. pick (ltb x n.x && e i && ltb z n.z)) ∙ (λ i. pick (none (ltb x n.x) i && ltb z n.z))
+  | z_axis ↦ λ l. let e = le-ltb z n.z l in (λ i. pick (ltb x n.x && ltb y n.y && e i)) ∙ (λ i. pick (none (ltb x n.x && ltb y n.y) i))
 ]
   where
     x : ℕ
-    x = cell_on m n p xAxis
+    x = cell_on m n p x_axis
 
     y : ℕ
-    y = cell_on m n p yAxis
+    y = cell_on m n p y_axis
 
     z : ℕ
-    z = cell_on m n p zAxis
+    z = cell_on m n p z_axis
 
     pick : Bool → ℕ
     pick t = cond t (cell_of n x y z) (n.x * n.y * n.z)
@@ -104,19 +104,19 @@ unfolding cell_at
 cell_below m n p l = go (ltb x n.x) refl (ltb y n.y) refl (ltb z n.z) refl
   where
     x : ℕ
-    x = cell_on m n p xAxis
+    x = cell_on m n p x_axis
 
     y : ℕ
-    y = cell_on m n p yAxis
+    y = cell_on m n p y_axis
 
     z : ℕ
-    z = cell_on m n p zAxis
+    z = cell_on m n p z_axis
 
     all : Bool → ℕ
     all t = cond t (cell_of n x y z) (n.x * n.y * n.z)
 
     go : (a : Bool) → ltb x n.x ≡ a → (b : Bool) → ltb y n.y ≡ b → (c : Bool) → ltb z n.z ≡ c → Met m n p
-    go true i true j true k = λ a. elim a [ xAxis ↦ ltb-true x n.x i | yAxis ↦ ltb-true y n.y j | zAxis ↦ ltb-true z n.z k ]
+    go true i true j true k = λ a. elim a [ x_axis ↦ ltb-true x n.x i | y_axis ↦ ltb-true y n.y j | z_axis ↦ ltb-true z n.z k ]
     go false i b j c k = absurd (lt_irrefl _ (subst (λ (t : Bool). all (t && ltb y n.y && ltb z n.z) < n.x * n.y * n.z) i l))
     go true i false j c k = absurd (lt_irrefl _ (subst (λ (t : Bool). all (t && ltb z n.z) < n.x * n.y * n.z) (and_same i j) l))
     go true i true j false k = absurd (lt_irrefl _ (subst (λ (t : Bool). all t < n.x * n.y * n.z) (and_same (and_same i j) k) l))
@@ -130,7 +130,7 @@ met_ends m n p a i e l =
     let N = cells_on n a in
     let v = on_point a p in
     let t : T (holds_on low high N i v) = yes (ap (λ (k : ℕ). holds_on low high N k v) e ∙ found_holds low high N v l) in (
-      ap (λ (c : Float). le c v) (corner_on_lem m a N (i + 0) ∙ ap (corner_on low high N) (NatL.add_zero i))
+      ap (λ (c : Float). le c v) (corner_on_lem m a N (i + 0) ∙ ap (corner_on low high N) (NatL.add-zero i))
           ∙ is_true (le (corner_on low high N i) v) (and_l (le (corner_on low high N i) v) (le v (corner_on low high N (i + 1))) t),
       ap (le v) (corner_on_lem m a N (i + 1))
           ∙ is_true (le v (corner_on low high N (i + 1))) (and_r (le (corner_on low high N i) v) (le v (corner_on low high N (i + 1))) t),
@@ -139,22 +139,22 @@ met_ends m n p a i e l =
 -- a number that is a cell's is that of one which encloses the point
 pub cell_encloses : (m : Medium) (n : Cells) (p : Point) → cell_at m n p < n.x * n.y * n.z → EnclosesIn m n (cell_at m n p) p
 cell_encloses m n p l = subst (λ (k : ℕ). EnclosesIn m n k p) (sym (cell_met m n p f)) (λ a. elim a [
-  | xAxis ↦ met_ends m n p xAxis (cell_axis n k xAxis) (cell_x n x y z (f xAxis) (f yAxis) (f zAxis)) (f xAxis)
-  | yAxis ↦ met_ends m n p yAxis (cell_axis n k yAxis) (cell_y n x y z (f xAxis) (f yAxis) (f zAxis)) (f yAxis)
-  | zAxis ↦ met_ends m n p zAxis (cell_axis n k zAxis) (cell_z n x y z (f xAxis) (f yAxis) (f zAxis)) (f zAxis)
+  | x_axis ↦ met_ends m n p x_axis (cell_axis n k x_axis) (cell_x n x y z (f x_axis) (f y_axis) (f z_axis)) (f x_axis)
+  | y_axis ↦ met_ends m n p y_axis (cell_axis n k y_axis) (cell_y n x y z (f x_axis) (f y_axis) (f z_axis)) (f y_axis)
+  | z_axis ↦ met_ends m n p z_axis (cell_axis n k z_axis) (cell_z n x y z (f x_axis) (f y_axis) (f z_axis)) (f z_axis)
 ])
   where
     f : Met m n p
     f = cell_below m n p l
 
     x : ℕ
-    x = cell_on m n p xAxis
+    x = cell_on m n p x_axis
 
     y : ℕ
-    y = cell_on m n p yAxis
+    y = cell_on m n p y_axis
 
     z : ℕ
-    z = cell_on m n p zAxis
+    z = cell_on m n p z_axis
 
     k : ℕ
     k = cell_of n x y z
@@ -164,7 +164,7 @@ pub cell_found : (m : Medium) (n : Cells) → Numbered n → Fitting m → ((a :
     → cell_at m n p < n.x * n.y * n.z
 cell_found m n c f e p h =
     subst (λ (k : ℕ). k < n.x * n.y * n.z) (sym (cell_met m n p on))
-    (cell_lt n (cell_on m n p xAxis) (cell_on m n p yAxis) (cell_on m n p zAxis) (on xAxis) (on yAxis) (on zAxis))
+    (cell_lt n (cell_on m n p x_axis) (cell_on m n p y_axis) (cell_on m n p z_axis) (on x_axis) (on y_axis) (on z_axis))
   where
     on : Met m n p
     on a =

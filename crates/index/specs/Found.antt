@@ -1,7 +1,7 @@
 -- The cell that a point is found in: on each axis the first whose corners enclose it.
 use Rattle.std.specs.Prelude.{ℕ, zero, suc, ◌+◌, ◌*◌, Bool, cond, ◌&&◌, ltb, Float}
 use Rattle.std.specs.Float.Ieee.{le}
-use Rattle.medium.specs.Medium.{Point, Medium, Axis, xAxis, yAxis, zAxis, on_point}
+use Rattle.medium.specs.Medium.{Point, Medium, Axis, x_axis, y_axis, z_axis, on_point}
 use Rattle.index.specs.Cells.{Cells, cell_of, cells_on}
 use Rattle.index.specs.Axes.{corner_on}
 
@@ -25,7 +25,7 @@ cell_on m n p a = axis_cell (on_point a m.low) (on_point a m.high) (cells_on n a
 unfoldable pub cell_at : Medium → Cells → Point → ℕ
 unfolding cell_from
 cell_at m n p =
-    let x = cell_on m n p xAxis in
-    let y = cell_on m n p yAxis in
-    let z = cell_on m n p zAxis in
+    let x = cell_on m n p x_axis in
+    let y = cell_on m n p y_axis in
+    let z = cell_on m n p z_axis in
     cond (ltb x n.x && ltb y n.y && ltb z n.z) (cell_of n x y z) (n.x * n.y * n.z)

@@ -58,7 +58,7 @@ module _ (low high : Float) (n : ℕ) (v : Float) where
   -- where some cell holds v, one is found
   from_some : (c k i : ℕ) → i < c → holds_on low high n (k + i) v ≡ true → cell_from low high n v c k < k + c
   from_some zero k i l h = absurd (omega (arith, l))
-  from_some (suc c) k zero l h = omega (arith, found_here c k (subst (λ (j : ℕ). holds_on low high n j v ≡ true) (NatL.add_zero k) h))
+  from_some (suc c) k zero l h = omega (arith, found_here c k (subst (λ (j : ℕ). holds_on low high n j v ≡ true) (NatL.add-zero k) h))
   from_some (suc c) k (suc i) l h =
       go (holds_on low high n k v) refl (from_some c (k + 1) i (omega (arith, l)) (subst (λ (j : ℕ). holds_on low high n j v ≡ true) (next k i) h))
     where

@@ -10,7 +10,7 @@ use Rattle.float.specs.Zeros.{is_zero}
 use Rattle.float.specs.Zero.{+0}
 use Rattle.float.specs.Tests.{yes}
 use Rattle.float.specs.Middle.{mul_left, fma_left, fma_last, sub_left, Mid, mid, Factor, mid_sub, mid_mul, mid_fma, positive_unsigned, equals_zero}
-use Rattle.medium.specs.Medium.{xAxis, yAxis, zAxis}
+use Rattle.medium.specs.Medium.{x_axis, y_axis, z_axis}
 use Rattle.medium.specs.Medium.{Point, Medium, Axis, on_point, map_at, map_fault, diagonal, zeroes}
 use Rattle.refusals.specs.FaultLaws.{unless_zero}
 use Rattle.index.specs.Index.{world_to_index}
@@ -71,24 +71,24 @@ scaled m e =
     record {
       factor =
           λ a. elim a [
-            | xAxis ↦ (d 0 (first_passed m e), z 1 (t 0), z 2 (t 1))
-            | yAxis ↦ (z 3 (t 2), d 4 (t 3), z 5 (t 4))
-            | zAxis ↦ (z 6 (t 5), z 7 (t 6), d 8 (t 7))
+            | x_axis ↦ (d 0 (first_passed m e), z 1 (t 0), z 2 (t 1))
+            | y_axis ↦ (z 3 (t 2), d 4 (t 3), z 5 (t 4))
+            | z_axis ↦ (z 6 (t 5), z 7 (t 6), d 8 (t 7))
           ];
-      moved = λ a. elim a [ xAxis ↦ t 8 | yAxis ↦ t 9 | zAxis ↦ t 10 ];
+      moved = λ a. elim a [ x_axis ↦ t 8 | y_axis ↦ t 9 | z_axis ↦ t 10 ];
     }
 
 -- the map is diagonal: finite there, and zeros of either sign elsewhere
 pub record Straight (m : Medium) : Type 0 where
-  pub xx : T (finite (map_at m xAxis 0))
-  pub xy : T (is_zero (map_at m xAxis 1))
-  pub xz : T (is_zero (map_at m xAxis 2))
-  pub yx : T (is_zero (map_at m yAxis 0))
-  pub yy : T (finite (map_at m yAxis 1))
-  pub yz : T (is_zero (map_at m yAxis 2))
-  pub zx : T (is_zero (map_at m zAxis 0))
-  pub zy : T (is_zero (map_at m zAxis 1))
-  pub zz : T (finite (map_at m zAxis 2))
+  pub xx : T (finite (map_at m x_axis 0))
+  pub xy : T (is_zero (map_at m x_axis 1))
+  pub xz : T (is_zero (map_at m x_axis 2))
+  pub yx : T (is_zero (map_at m y_axis 0))
+  pub yy : T (finite (map_at m y_axis 1))
+  pub yz : T (is_zero (map_at m y_axis 2))
+  pub zx : T (is_zero (map_at m z_axis 0))
+  pub zy : T (is_zero (map_at m z_axis 1))
+  pub zz : T (finite (map_at m z_axis 2))
 
 pub straight : (m : Medium) → map_fault m ≡ 0 → Straight m
 straight m e =
@@ -128,11 +128,11 @@ index_mid m s l h p b a L H =
     let LZ : T (finite lz) = fma_last binary32 (sub binary32 l.y t.y) r1 lz LY in
     let HZ : T (finite hz) = fma_last binary32 (sub binary32 h.y t.y) r1 hz HY in
     let z : Mid lz pz hz = mid_mul binary32 (sub binary32 l.z t.z) (sub binary32 p.z t.z) (sub binary32 h.z t.z) r2
-    (less zAxis (mul_left binary32 (sub binary32 l.z t.z) r2 LZ) (mul_left binary32 (sub binary32 h.z t.z) r2 HZ)) (s.factor a).2 LZ HZ in
+    (less z_axis (mul_left binary32 (sub binary32 l.z t.z) r2 LZ) (mul_left binary32 (sub binary32 h.z t.z) r2 HZ)) (s.factor a).2 LZ HZ in
     let y : Mid ly py hy = mid_fma binary32 (sub binary32 l.y t.y) (sub binary32 p.y t.y) (sub binary32 h.y t.y) r1 lz pz hz
-    (less yAxis (fma_left binary32 (sub binary32 l.y t.y) r1 lz LY) (fma_left binary32 (sub binary32 h.y t.y) r1 hz HY)) (s.factor a).1 z LY HY in
+    (less y_axis (fma_left binary32 (sub binary32 l.y t.y) r1 lz LY) (fma_left binary32 (sub binary32 h.y t.y) r1 hz HY)) (s.factor a).1 z LY HY in
     mid_fma binary32 (sub binary32 l.x t.x) (sub binary32 p.x t.x) (sub binary32 h.x t.x) r0 ly py hy
-    (less xAxis (fma_left binary32 (sub binary32 l.x t.x) r0 ly L) (fma_left binary32 (sub binary32 h.x t.x) r0 hy H)) (s.factor a).0 y L H
+    (less x_axis (fma_left binary32 (sub binary32 l.x t.x) r0 ly L) (fma_left binary32 (sub binary32 h.x t.x) r0 hy H)) (s.factor a).0 y L H
   where
     less : (a : Axis) → T (finite (sub binary32 (on_point a l) (on_point a m.translation)))
         → T (finite (sub binary32 (on_point a h) (on_point a m.translation)))

@@ -1,11 +1,12 @@
 // The index position of a point, and the ends of a cell's two boxes on one axis (nanovdb.rs, world_to_index_f to build_majorant).
 #![tactic(auto)]
+
 ghost use Rattle.std.specs.Prelude.{◌≡◌, ◌≤◌, pos};
 ghost use Rattle.std.specs.Float.{binary32};
 ghost use Rattle.std.specs.Float.Ieee.{mul, of_int, to_bits};
 ghost use Rattle.float.specs.Fused.{fma};
 ghost use Rattle.float.specs.Answers.{coordinate_of};
-ghost use Rattle.medium.specs.Medium.{xAxis, yAxis, zAxis};
+ghost use Rattle.medium.specs.Medium.{x_axis, y_axis, z_axis};
 ghost use Rattle.medium.specs.Record.{as_medium};
 ghost use Rattle.index.specs.Cells.{max_z, min_z};
 ghost use Rattle.index.specs.Axes.{corner_on, index_on, majorant_on, first_low, first_high, second_low, second_high, first_on, second_on, axis_ends, line_of};
@@ -287,7 +288,7 @@ pub fn axis_cell(l: Line, n: u32, v: f32) -> u32
 // ---- the axes of a medium
 
 pub fn x_line(m: Medium) -> Line
-    ensures { as_line result ≡ line_of (as_medium m) xAxis }
+    ensures { as_line result ≡ line_of (as_medium m) x_axis }
 {
     Line {
         last: false,
@@ -301,7 +302,7 @@ pub fn x_line(m: Medium) -> Line
 }
 
 pub fn y_line(m: Medium) -> Line
-    ensures { as_line result ≡ line_of (as_medium m) yAxis }
+    ensures { as_line result ≡ line_of (as_medium m) y_axis }
 {
     Line {
         last: false,
@@ -315,7 +316,7 @@ pub fn y_line(m: Medium) -> Line
 }
 
 pub fn z_line(m: Medium) -> Line
-    ensures { as_line result ≡ line_of (as_medium m) zAxis }
+    ensures { as_line result ≡ line_of (as_medium m) z_axis }
 {
     Line {
         last: true,

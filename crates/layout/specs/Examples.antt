@@ -3,7 +3,7 @@ use Rattle.std.specs.Prelude.{◌≡◌, refl, cond, List, [], ◌∷◌, ℕ, �
 use Rattle.std.specs.Int.Signed.{shr_z}
 use Rattle.layout.specs.Bytes.{le, signed, u32_at, u64_at, i32_at, mask_bit, mask_word}
 use Rattle.layout.specs.Coordinates.{Coord, slot}
-use Rattle.layout.specs.Walk.{ofRoot, ofBackground, key, walk}
+use Rattle.layout.specs.Walk.{of_root, of_background, key, walk}
 use Rattle.layout.specs.Sample.{sample}
 
 sample_length : length sample ≡ 832
@@ -71,6 +71,6 @@ tile_key = refl
 
 -- 0.5 where the coordinate has the tile's key, and the background everywhere else
 pub sample_walk : (c : Coord)
-    → walk sample c ≡ cond (eqb 0x3ffffc0000000000 (key c)) (record { bits = 0x3f000000; level = ofRoot }) (record { bits = 0; level = ofBackground })
+    → walk sample c ≡ cond (eqb 0x3ffffc0000000000 (key c)) (record { bits = 0x3f000000; level = of_root }) (record { bits = 0; level = of_background })
 unfolding sample walk le
 sample_walk c = refl

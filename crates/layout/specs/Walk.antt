@@ -7,7 +7,7 @@ use Rattle.layout.specs.Coordinates.{Coord, mod_z, slot, block_of}
 
 -- which level of the tree a reading came from
 pub data Level : Type 0 where
-  ofLeaf ofLower ofUpper ofRoot ofBackground : Level
+  of_leaf of_lower of_upper of_root of_background : Level
 
 -- the 32 bits that are read, and the level that they stood at
 pub record Reading : Type 0 where
@@ -25,32 +25,32 @@ key c = let k = block_of c in mod_z k.x (2 ^ 20) * 2 ^ 42 + mod_z k.y (2 ^ 20) *
 
 -- below a leaf, a lower node, an upper node that stands at `at`
 abbrev pub leaf_walk : List ℕ → ℕ → Coord → Reading
-leaf_walk b at c = record { bits = u32_at b (at + 96 + 4 * slot 8 1 c); level = ofLeaf }
+leaf_walk b at c = record { bits = u32_at b (at + 96 + 4 * slot 8 1 c); level = of_leaf }
 
 abbrev pub lower_walk : List ℕ → ℕ → Coord → Reading
 lower_walk b at c =
     let s = slot 16 8 c in
     cond (eqb (mask_bit b (at + 544) s) 0)
-    (record { bits = u32_at b (at + 1088 + 8 * s); level = ofLower })
+    (record { bits = u32_at b (at + 1088 + 8 * s); level = of_lower })
     (leaf_walk b (shift at (i64_at b (at + 1088 + 8 * s))) c)
 
 abbrev pub upper_walk : List ℕ → ℕ → Coord → Reading
 upper_walk b at c =
     let s = slot 32 128 c in
     cond (eqb (mask_bit b (at + 4128) s) 0)
-    (record { bits = u32_at b (at + 8256 + 8 * s); level = ofUpper })
+    (record { bits = u32_at b (at + 8256 + 8 * s); level = of_upper })
     (lower_walk b (shift at (i64_at b (at + 8256 + 8 * s))) c)
 
 -- the tile at `tile` of the root at `root`
 abbrev pub tile_walk : List ℕ → ℕ → ℕ → Coord → Reading
 tile_walk b root tile c =
     cond (eqb (u64_at b (tile + 8)) 0)
-    (record { bits = u32_at b (tile + 20); level = ofRoot })
+    (record { bits = u32_at b (tile + 20); level = of_root })
     (upper_walk b (shift root (i64_at b (tile + 8))) c)
 
 -- the first of n tiles from `tile` on whose key is the coordinate's block
 unfoldable pub tiles_walk : ℕ → List ℕ → ℕ → ℕ → Coord → Reading
-tiles_walk zero b root tile c = record { bits = u32_at b (root + 28); level = ofBackground }
+tiles_walk zero b root tile c = record { bits = u32_at b (root + 28); level = of_background }
 tiles_walk (suc n) b root tile c =
     let rest = tiles_walk n b root (tile + 32) c in
     cond (eqb (u64_at b tile) (key c)) (tile_walk b root tile c) rest

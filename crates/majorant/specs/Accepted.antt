@@ -11,7 +11,7 @@ use Rattle.sparse_grid.specs.Validate.{validate, density_fault}
 use Rattle.sparse_grid.specs.Lookup.{read_in}
 use Rattle.cells.specs.Cells.{cell_count, table_fault}
 use Rattle.cells.specs.Counted.{Tabled, tabled}
-use Rattle.medium.specs.Medium.{Medium, Axis, xAxis, yAxis, zAxis, medium_fault}
+use Rattle.medium.specs.Medium.{Medium, Axis, x_axis, y_axis, z_axis, medium_fault}
 use Rattle.index.specs.Cells.{Cells, Ends, first_ends, second_ends}
 use Rattle.index.specs.Sixteen.{Only}
 use Rattle.index.specs.Alone.{only_first, only_second}
@@ -44,9 +44,9 @@ given_only r (inr p) e = let z : ◌≡◌ {A = ℕ} 16 0 = ap number_of (sym p)
 
 given_box : (f : Axis → Result Ends) → ((a : Axis) → Given (f a)) → Given (box_of f)
 given_box f h =
-    given_bind (f xAxis) (λ (x : Ends). bind (f yAxis) (λ (y : Ends). bind (f zAxis) (λ (z : Ends). ok (made x y z)))) (h xAxis) (λ x.
-    given_bind (f yAxis) (λ (y : Ends). bind (f zAxis) (λ (z : Ends). ok (made x y z))) (h yAxis) (λ y.
-    given_bind (f zAxis) (λ (z : Ends). ok (made x y z)) (h zAxis) (λ z. given_ok (made x y z))))
+    given_bind (f x_axis) (λ (x : Ends). bind (f y_axis) (λ (y : Ends). bind (f z_axis) (λ (z : Ends). ok (made x y z)))) (h x_axis) (λ x.
+    given_bind (f y_axis) (λ (y : Ends). bind (f z_axis) (λ (z : Ends). ok (made x y z))) (h y_axis) (λ y.
+    given_bind (f z_axis) (λ (z : Ends). ok (made x y z)) (h z_axis) (λ z. given_ok (made x y z))))
   where
     made : Ends → Ends → Ends → Box
     made x y z = record { lo = record { x = x.lo; y = y.lo; z = z.lo }; hi = record { x = x.hi; y = y.hi; z = z.hi } }

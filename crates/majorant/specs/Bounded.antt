@@ -16,7 +16,7 @@ use Rattle.float.specs.Zero.{+0}
 use Rattle.float.specs.Coordinate.{coordinate}
 use Rattle.float.specs.Ordered.{not_lt_through}
 use Rattle.std.specs.Float.Ieee.Bits.{is_false}
-use Rattle.medium.specs.Medium.{xAxis, yAxis, zAxis}
+use Rattle.medium.specs.Medium.{x_axis, y_axis, z_axis}
 use Rattle.refusals.specs.Faults.{◌then◌}
 use Rattle.refusals.specs.ResultLaws.{bind_ok, need_ok, ok_injective}
 use Rattle.layout.specs.Coordinates.{Coord, Signed32}
@@ -79,16 +79,16 @@ EndsOf f s a = f a ≡ ok (record { lo = on_coord a s.lo; hi = on_coord a s.hi }
 
 ends_of_lem : (f : Axis → Result Ends) (s : Box) → box_of f ≡ ok s → (a : Axis) → EndsOf f s a
 ends_of_lem f s e =
-    let (x, p, q) = bind_ok (f xAxis) (λ (x : Ends). bind (f yAxis) (λ (y : Ends). bind (f zAxis) (λ (z : Ends). ok (made x y z)))) e in
-    let (y, r, t) = bind_ok (f yAxis) (λ (y : Ends). bind (f zAxis) (λ (z : Ends). ok (made x y z))) q in
-    let (z, u, v) = bind_ok (f zAxis) (λ (z : Ends). ok (made x y z)) t in
+    let (x, p, q) = bind_ok (f x_axis) (λ (x : Ends). bind (f y_axis) (λ (y : Ends). bind (f z_axis) (λ (z : Ends). ok (made x y z)))) e in
+    let (y, r, t) = bind_ok (f y_axis) (λ (y : Ends). bind (f z_axis) (λ (z : Ends). ok (made x y z))) q in
+    let (z, u, v) = bind_ok (f z_axis) (λ (z : Ends). ok (made x y z)) t in
     all x y z p r u (ok_injective v)
   where
     made : Ends → Ends → Ends → Box
     made x y z = record { lo = record { x = x.lo; y = y.lo; z = z.lo }; hi = record { x = x.hi; y = y.hi; z = z.hi } }
 
-    all : (x y z : Ends) → f xAxis ≡ ok x → f yAxis ≡ ok y → f zAxis ≡ ok z → made x y z ≡ s → (a : Axis) → EndsOf f s a
-    all x y z p r u e = subst (λ (s : Box). (a : Axis) → EndsOf f s a) e (λ a. elim a [ xAxis ↦ p | yAxis ↦ r | zAxis ↦ u ])
+    all : (x y z : Ends) → f x_axis ≡ ok x → f y_axis ≡ ok y → f z_axis ≡ ok z → made x y z ≡ s → (a : Axis) → EndsOf f s a
+    all x y z p r u e = subst (λ (s : Box). (a : Axis) → EndsOf f s a) e (λ a. elim a [ x_axis ↦ p | y_axis ↦ r | z_axis ↦ u ])
 
 record Floored (m : Medium) (n : Cells) (k : ℕ) (s : Box) (a : Axis) : Type 0 where
   low : End (world_to_index m (cell_corner m n k 0) a) (on_coord a s.lo) (floor_z (world_to_index m (cell_corner m n k 0) a))
@@ -149,17 +149,17 @@ figure_bounds read m n k v S e p i c r =
     let C = cell (box_maximum read) m n k v e in
     let s = C.second in
     let on : (a : Axis) → Inside s c a = λ a. inside m n k s p c S i r a (floored m n k s a (ends_of_lem (second_ends m n k) s C.accepted a)) in (
-      record { x = (on xAxis).small; y = (on yAxis).small; z = (on zAxis).small },
+      record { x = (on x_axis).small; y = (on y_axis).small; z = (on z_axis).small },
       subst (λ (x : Float). lt x (read c) ≡ false) (sym C.is)
           (not_lt_through (box_maximum read C.first) (box_maximum read s) (read c) (max_number read s) C.above
           ((greatest read s).covers c
           (record {
-            x_low = le_z_yes (on xAxis).low;
-            x_high = le_z_yes (on xAxis).high;
-            y_low = le_z_yes (on yAxis).low;
-            y_high = le_z_yes (on yAxis).high;
-            z_low = le_z_yes (on zAxis).low;
-            z_high = le_z_yes (on zAxis).high;
+            x_low = le_z_yes (on x_axis).low;
+            x_high = le_z_yes (on x_axis).high;
+            y_low = le_z_yes (on y_axis).low;
+            y_high = le_z_yes (on y_axis).high;
+            z_low = le_z_yes (on z_axis).low;
+            z_high = le_z_yes (on z_axis).high;
           }))),
     )
 
@@ -173,9 +173,9 @@ pub record Built (g : Grid) (m : Medium) (l : List Float) : Type 0 where
 
 each_none : (f : Axis → ℕ) → each f ≡ 0 → (a : Axis) → f a ≡ 0
 each_none f e =
-    let p = then_zero (f xAxis) (f yAxis then f zAxis) e in
-    let q = then_zero (f yAxis) (f zAxis) p.1 in
-    λ a. elim a [ xAxis ↦ p.0 | yAxis ↦ q.0 | zAxis ↦ q.1 ]
+    let p = then_zero (f x_axis) (f y_axis then f z_axis) e in
+    let q = then_zero (f y_axis) (f z_axis) p.1 in
+    λ a. elim a [ x_axis ↦ p.0 | y_axis ↦ q.0 | z_axis ↦ q.1 ]
 
 pub built : (g : Grid) (m : Medium) (l : List Float) → build g m ≡ ok l → Built g m l
 unfolding build

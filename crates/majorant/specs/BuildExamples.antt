@@ -3,7 +3,7 @@ use Rattle.std.specs.Prelude.{◌≡◌, ℕ, true, false, [], ◌∷◌, ℤ, p
 use Rattle.std.specs.Float.{fin, binary32}
 use Rattle.std.specs.Float.Ieee.{add, sub, mul, div, lt, le, eq, of_int, to_signed, of_bits}
 use Rattle.float.specs.Fused as F
-use Rattle.medium.specs.Medium.{xAxis}
+use Rattle.medium.specs.Medium.{x_axis}
 use Rattle.layout.specs.Coordinates.{Coord}
 use Rattle.sparse_grid.specs.Tables.{Grid}
 use Rattle.sparse_grid.specs.Validate.{validate, density_fault}
@@ -110,6 +110,6 @@ no_width = refl
 abbrev thin : Medium
 thin = medium_of (at (of_bits binary32 1068668056)) (at (of_bits binary32 1068668065)) (here (pos 0)) (here (pos 3)) (cells 64 64 64)
 
-swapped : lt (corner thin xAxis 64 63) (corner thin xAxis 64 62) ≡ true
+swapped : lt (corner thin x_axis 64 63) (corner thin x_axis 64 62) ≡ true
 unfolding corner add sub mul div lt of_int of_bits
 swapped = refl

@@ -2,14 +2,14 @@
 use Rattle.std.specs.Prelude.{ℕ, zero, suc, not, List, [], ◌∷◌, ◌++◌, Float}
 use Rattle.std.specs.Float.Ieee.{lt}
 use Rattle.refusals.specs.Results.{Result, ok, bind, need}
-use Rattle.medium.specs.Medium.{Medium, Axis, xAxis, yAxis, zAxis}
+use Rattle.medium.specs.Medium.{Medium, Axis, x_axis, y_axis, z_axis}
 use Rattle.index.specs.Cells.{Cells, Ends, first_ends, second_ends}
 use Rattle.boxes.specs.Boxes.{Box}
 
 -- the box of its three axes, or the fault of the first axis that has one
 abbrev pub box_of : (Axis → Result Ends) → Result Box
 box_of f =
-    bind (f xAxis) (λ (x : Ends). bind (f yAxis) (λ (y : Ends). bind (f zAxis) (λ (z : Ends).
+    bind (f x_axis) (λ (x : Ends). bind (f y_axis) (λ (y : Ends). bind (f z_axis) (λ (z : Ends).
     ok (record { lo = record { x = x.lo; y = y.lo; z = z.lo }; hi = record { x = x.hi; y = y.hi; z = z.hi } }))))
 
 -- the figure of cell k: the maximum of the first box; 17 where that of the second is greater

@@ -10,7 +10,7 @@ use Rattle.refusals.specs.Results.{Result, ok, refused, bind}
 use Rattle.refusals.specs.TestLaws.{and_l, and_r}
 use Rattle.float.specs.Tests.{yes}
 use Rattle.layout.specs.Coordinates.{Coord}
-use Rattle.medium.specs.Medium.{Medium, xAxis, yAxis, zAxis, map_fault}
+use Rattle.medium.specs.Medium.{Medium, x_axis, y_axis, z_axis, map_fault}
 use Rattle.index.specs.Cells.{Cells, cell_of}
 use Rattle.index.specs.Axes.{Both, axis_ends, line_of, ends_at}
 use Rattle.index.specs.Alone.{boxes_alone}
@@ -49,7 +49,7 @@ held read x y z e =
 
 -- ---- a cell by its axes
 cell_alone : (maximum : Box → Float) (m : Medium) → map_fault m ≡ 0 → (n : Cells) (k : ℕ)
-    → figure maximum m n k ≡ cell_figure maximum (ends_at m n k xAxis) (ends_at m n k yAxis) (ends_at m n k zAxis)
+    → figure maximum m n k ≡ cell_figure maximum (ends_at m n k x_axis) (ends_at m n k y_axis) (ends_at m n k z_axis)
 unfolding figure cell_figure
 cell_alone maximum m M n k = boxes_alone m M n k box_made (box_figure maximum)
 
@@ -87,13 +87,13 @@ module _ (maximum : Box → Float) (m : Medium) (n : Cells) (start size : ℕ) (
       last c = omega arith
 
 module _ (maximum : Box → Float) (m : Medium) (M : map_fault m ≡ 0) (n : Cells) (xs ys zs : ℕ → Result Both)
-    (hx : (i : ℕ) → i < n.x → xs i ≡ axis_ends (line_of m xAxis) n.x i) (hy : (i : ℕ) → i < n.y → ys i ≡ axis_ends (line_of m yAxis) n.y i)
-    (hz : (i : ℕ) → i < n.z → zs i ≡ axis_ends (line_of m zAxis) n.z i) where
+    (hx : (i : ℕ) → i < n.x → xs i ≡ axis_ends (line_of m x_axis) n.x i) (hy : (i : ℕ) → i < n.y → ys i ≡ axis_ends (line_of m y_axis) n.y i)
+    (hz : (i : ℕ) → i < n.z → zs i ≡ axis_ends (line_of m z_axis) n.z i) where
   cell_is : (x y z : ℕ) → x < n.x → y < n.y → z < n.z → cell_figure maximum (xs x) (ys y) (zs z) ≡ figure maximum m n (cell_of n x y z)
   cell_is x y z X Y Z =
-      (λ t. cell_figure maximum ((hx x X ∙ ap (axis_ends (line_of m xAxis) n.x) (sym (cell_x n x y z X Y Z))) t)
-      ((hy y Y ∙ ap (axis_ends (line_of m yAxis) n.y) (sym (cell_y n x y z X Y Z))) t)
-      ((hz z Z ∙ ap (axis_ends (line_of m zAxis) n.z) (sym (cell_z n x y z X Y Z))) t))
+      (λ t. cell_figure maximum ((hx x X ∙ ap (axis_ends (line_of m x_axis) n.x) (sym (cell_x n x y z X Y Z))) t)
+      ((hy y Y ∙ ap (axis_ends (line_of m y_axis) n.y) (sym (cell_y n x y z X Y Z))) t)
+      ((hz z Z ∙ ap (axis_ends (line_of m z_axis) n.z) (sym (cell_z n x y z X Y Z))) t))
       ∙ sym (cell_alone maximum m M n (cell_of n x y z))
 
   abbrev row_start : ℕ → ℕ → ℕ

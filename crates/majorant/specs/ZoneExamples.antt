@@ -10,7 +10,7 @@ use Rattle.sparse_grid.specs.Tables.{Grid, grid_of}
 use Rattle.sparse_grid.specs.Validate.{pair_fault, shape_fault, earlier, root_fault, validate}
 use Rattle.sparse_grid.specs.Lookup.{roots_from, lookup}
 use Rattle.sparse_grid.specs.ReorderExamples.{two_roots, roots_swapped, two_valid, swapped}
-use Rattle.medium.specs.Medium.{xAxis, yAxis}
+use Rattle.medium.specs.Medium.{x_axis, y_axis}
 use Rattle.boxes.specs.Boxes.{Box, between, greatest_run, box_maximum}
 use Rattle.boxes.specs.Cuts.{up_to, past, Cuts}
 use Rattle.boxes.specs.CutLaws.{empty_inside}
@@ -29,10 +29,10 @@ sample = grid_of (of_bits binary32 0) (negsuc 0 ∷ pos 0 ∷ pos 0 ∷ []) (0 �
 abbrev bar : Box
 bar = between (negsuc 1) (pos 0) (pos 0) (pos 1) (pos 0) (pos 0)
 
-bar_cut : Cuts xAxis (negsuc 0) bar
+bar_cut : Cuts x_axis (negsuc 0) bar
 bar_cut = record { low = le_z_yes tt; high = lt_z_yes tt }
 
-sample_cut : (public_maximum sample (up_to xAxis (negsuc 0) bar) ≡ ok half) × (public_maximum sample (past xAxis (negsuc 0) bar) ≡ ok +0)
+sample_cut : (public_maximum sample (up_to x_axis (negsuc 0) bar) ≡ ok half) × (public_maximum sample (past x_axis (negsuc 0) bar) ≡ ok +0)
     × (public_maximum sample bar ≡ ok half)
 unfolding public_maximum sample half validate pair_fault shape_fault first_fault root_fault earlier box_maximum greatest_run lookup roots_from lt of_bits
 sample_cut = (refl, refl, refl)
@@ -42,7 +42,7 @@ abbrev hollow : Box
 hollow = between (negsuc 1) (pos 1) (pos 0) (pos 1) (pos 0) (pos 0)
 
 hollow_figure : (b : Box) → lt (said +0 (public_maximum sample b)).value (said +0 (public_maximum sample hollow)).value ≡ false
-hollow_figure b = (inside_another sample hollow b (empty_inside b (record { axis = yAxis; turned = lt_z_yes tt })) _ _ refl refl).1
+hollow_figure b = (inside_another sample hollow b (empty_inside b (record { axis = y_axis; turned = lt_z_yes tt })) _ _ refl refl).1
 
 -- two roots that changed places: every answer is the old one
 two_unchanged : Unchanged two_roots roots_swapped

@@ -9,7 +9,7 @@ use mir.Val.{to_z, of_z}
 use mir.Facts.{to_z-of_z}
 use Rattle.refusals.specs.Faults.{◌then◌, unless}
 use Rattle.refusals.specs.TestLaws.{and_same}
-use Rattle.medium.specs.Medium.{Axis, xAxis, yAxis, zAxis, each}
+use Rattle.medium.specs.Medium.{Axis, x_axis, y_axis, z_axis, each}
 
 pub passes : {r t : Bool} (n : ℕ) → r ≡ t → r ≡ true → 0 ≡ unless t n
 passes n e y = ap (λ (b : Bool). unless b n) (sym y ∙ e)
@@ -26,7 +26,7 @@ pub then_same : {a b x y : ℕ} → a ≡ x → b ≡ y → (a then b) ≡ (x th
 then_same p q = λ i. p i then q i
 
 -- the first fault of three axes
-pub each_is : {x y z yz r : ℕ} (f : Axis → ℕ) → x ≡ f xAxis → y ≡ f yAxis → z ≡ f zAxis → yz ≡ (y then z) → r ≡ (x then yz) → r ≡ each f
+pub each_is : {x y z yz r : ℕ} (f : Axis → ℕ) → x ≡ f x_axis → y ≡ f y_axis → z ≡ f z_axis → yz ≡ (y then z) → r ≡ (x then yz) → r ≡ each f
 each_is f p q s t u = u ∙ then_same p (t ∙ then_same q s)
 
 -- two i32, which locals hold as bits, are compared as the numbers that they are

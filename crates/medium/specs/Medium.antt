@@ -62,23 +62,23 @@ with_temperature t m = record {
 
 -- the three axes
 pub data Axis : Type 0 where
-  xAxis yAxis zAxis : Axis
+  x_axis y_axis z_axis : Axis
 
 abbrev pub on_point : Axis → Point → Float
-on_point xAxis p = p.x
-on_point yAxis p = p.y
-on_point zAxis p = p.z
+on_point x_axis p = p.x
+on_point y_axis p = p.y
+on_point z_axis p = p.z
 
 abbrev pub on_coord : Axis → Coord → ℤ
-on_coord xAxis c = c.x
-on_coord yAxis c = c.y
-on_coord zAxis c = c.z
+on_coord x_axis c = c.x
+on_coord y_axis c = c.y
+on_coord z_axis c = c.z
 
 -- where the row of an axis begins in the map
 abbrev pub row : Axis → ℕ
-row xAxis = 0
-row yAxis = 3
-row zAxis = 6
+row x_axis = 0
+row y_axis = 3
+row z_axis = 6
 
 abbrev pub map_at : Medium → Axis → ℕ → Float
 map_at m a col = get_or m.map (row a + col) +0
@@ -87,7 +87,7 @@ map_at m a col = get_or m.map (row a + col) +0
 
 -- the fault of the first axis that has one
 abbrev pub each : (Axis → ℕ) → ℕ
-each f = f xAxis then f yAxis then f zAxis
+each f = f x_axis then f y_axis then f z_axis
 
 -- 4: a corner that is not finite, a minimum that is not below its maximum, or an infinite width
 unfoldable pub bounds_fault : Medium → Axis → ℕ

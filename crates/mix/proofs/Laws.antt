@@ -30,7 +30,7 @@ use Rattle.sparse_grid.specs.Validate.{validate, density_fault, validate_density
 use Rattle.sparse_grid.specs.Lookup.{read_in}
 use Rattle.sparse_grid.specs.declared.Answer.{Answer}
 use Rattle.sparse_grid.specs.Answers.{at, answer}
-use Rattle.medium.specs.Medium.{Point, Medium, Axis, xAxis, yAxis, zAxis, each, bounds_fault, map_fault}
+use Rattle.medium.specs.Medium.{Point, Medium, Axis, x_axis, y_axis, z_axis, each, bounds_fault, map_fault}
 use Rattle.index.specs.Cells.{Ends}
 use Rattle.index.specs.Index.{world_to_index}
 use Rattle.index.specs.Sides.{sides_of}
@@ -70,14 +70,14 @@ pub tested : {r t : Bool} (n : ℕ) → r ≡ t → (b : Bool) → r ≡ b → u
 tested n e b y = ap (λ (b : Bool). unless b n) (sym y ∙ e)
 
 -- the first fault of three axes
-pub each_is : {x y z yz r : ℕ} (f : Axis → ℕ) → x ≡ f xAxis → y ≡ f yAxis → z ≡ f zAxis → yz ≡ (y then z) → r ≡ (x then yz)
+pub each_is : {x y z yz r : ℕ} (f : Axis → ℕ) → x ≡ f x_axis → y ≡ f y_axis → z ≡ f z_axis → yz ≡ (y then z) → r ≡ (x then yz)
     → r ≡ each f
 each_is f p q s t u = u ∙ (λ i. p i then (t ∙ (λ j. q j then s j)) i)
 
 -- the bits of the three positions, of a medium that passed 13
 abbrev pub three_bits : Medium → Point → List ℕ
 three_bits m p =
-    to_bits binary32 (world_to_index m p xAxis) ∷ to_bits binary32 (world_to_index m p yAxis) ∷ to_bits binary32 (world_to_index m p zAxis) ∷ []
+    to_bits binary32 (world_to_index m p x_axis) ∷ to_bits binary32 (world_to_index m p y_axis) ∷ to_bits binary32 (world_to_index m p z_axis) ∷ []
 
 pub bits_are : (m : Medium) (p : Point) {r : Position} → map_fault m ≡ 0 → r ≡ position_of (index_bits m p)
     → r.bits ≡ three_bits m p
@@ -139,7 +139,7 @@ module _ (read : Coord → Float) (m : Medium) (p : Point) where
   pub outside : {n : ℕ} (v : Float) → n ≡ each (outside_fault m p) → (n ≡ 0 → ⊥) → passing n (ok v) ≡ density_by read m p
   unfolding density_by joined
   outside {n} v e h =
-      let rest = joined (sides_of (world_to_index m p xAxis)) (sides_of (world_to_index m p yAxis)) (sides_of (world_to_index m p zAxis)) in
+      let rest = joined (sides_of (world_to_index m p x_axis)) (sides_of (world_to_index m p y_axis)) (sides_of (world_to_index m p z_axis)) in
       passing_stop n (ok v) h ∙ sym (passing_stop n rest h) ∙ ap (λ (k : ℕ). passing k rest) e
 
   by_faults : (v : Float) (a b c : ℕ) (A B C : Ends) → ((a then (b then c)) ≡ 0 → ⊥)
@@ -150,7 +150,7 @@ module _ (read : Coord → Float) (m : Medium) (p : Point) where
   by_faults v zero (suc b) c A B C h = ap (λ (k : ℕ). passing k (ok v)) (then_stop (suc b) c (λ (e : suc b ≡ 0). omega arith))
   by_faults v (suc a) b c A B C h = ap (λ (k : ℕ). passing k (ok v)) (then_stop (suc a) (b then c) (λ (e : suc a ≡ 0). omega arith))
 
-  module _ (i j k : Side) (x : Stands m p xAxis i) (y : Stands m p yAxis j) (z : Stands m p zAxis k) {o n : ℕ}
+  module _ (i j k : Side) (x : Stands m p x_axis i) (y : Stands m p y_axis j) (z : Stands m p z_axis k) {o n : ℕ}
       (inside : o ≡ each (outside_fault m p)) (none : o ≡ 0) (e : n ≡ (i.fault then (j.fault then k.fault))) where
     sides_are : joined (sided i) (sided j) (sided k) ≡ density_by read m p
     unfolding density_by joined

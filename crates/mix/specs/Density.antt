@@ -9,7 +9,7 @@ use Rattle.layout.specs.Coordinates.{Coord}
 use Rattle.sparse_grid.specs.Tables.{Grid}
 use Rattle.sparse_grid.specs.Validate.{validate, density_fault}
 use Rattle.sparse_grid.specs.Lookup.{read_in}
-use Rattle.medium.specs.Medium.{Point, Medium, Axis, xAxis, yAxis, zAxis, on_point, bounds_fault, map_fault, each}
+use Rattle.medium.specs.Medium.{Point, Medium, Axis, x_axis, y_axis, z_axis, on_point, bounds_fault, map_fault, each}
 use Rattle.index.specs.Cells.{Ends}
 use Rattle.index.specs.Index.{world_to_index}
 use Rattle.index.specs.Sides.{sides_of}
@@ -27,15 +27,15 @@ corner_of i j k x y z = record { x = cond x i.hi i.lo; y = cond y j.hi j.lo; z =
 unfoldable pub mix_between : (Coord → Float) → Medium → Point → Ends → Ends → Ends → Float
 mix_between read m p i j k =
     mix (λ x y z. read (corner_of i j k x y z))
-    (part (world_to_index m p xAxis)) (part (world_to_index m p yAxis)) (part (world_to_index m p zAxis))
+    (part (world_to_index m p x_axis)) (part (world_to_index m p y_axis)) (part (world_to_index m p z_axis))
 
 -- 24, then 16 where one of the eight voxels lies outside i32
 unfoldable pub density_by : (Coord → Float) → Medium → Point → Result Float
 density_by read m p =
     passing (each (outside_fault m p))
-    (bind (sides_of (world_to_index m p xAxis)) (λ (i : Ends).
-    bind (sides_of (world_to_index m p yAxis)) (λ (j : Ends).
-    bind (sides_of (world_to_index m p zAxis)) (λ (k : Ends).
+    (bind (sides_of (world_to_index m p x_axis)) (λ (i : Ends).
+    bind (sides_of (world_to_index m p y_axis)) (λ (j : Ends).
+    bind (sides_of (world_to_index m p z_axis)) (λ (k : Ends).
     ok (mix_between read m p i j k)))))
 
 -- what is tested of the grid and the medium. The index box, 14, plays no part

@@ -7,7 +7,7 @@ use Rattle.refusals.specs.Results.{Result, ok, refused, number_of}
 use Rattle.float.specs.Fused.{narrow}
 use Rattle.layout.specs.Bytes.{le, signed}
 use Rattle.layout.specs.Coordinates.{Coord, Signed32, block_of, same_block}
-use Rattle.layout.specs.Walk.{ofRoot, ofBackground, walk}
+use Rattle.layout.specs.Walk.{of_root, of_background, walk}
 use Rattle.layout.specs.Sample.{field, written, bytes_of, header, root_at, sample, sample_with}
 use Rattle.layout.specs.Examples.{sample_walk}
 use Rattle.sparse_grid.specs.declared.Entry.{Entry}
@@ -59,11 +59,11 @@ sample_tables = refl
 -- the walk reads 0.5 in the block (-1, 0, 0) and the background in every other
 reads : (c : Coord) → Signed32 c
     → walk sample c ≡ cond (same_block (record { x = negsuc 0; y = pos 0; z = pos 0 }) (block_of c))
-    (record { bits = 0x3f000000; level = ofRoot }) (record { bits = 0; level = ofBackground })
+    (record { bits = 0x3f000000; level = of_root }) (record { bits = 0; level = of_background })
 unfolding signed
 reads c s =
     sample_walk c
-    ∙ ap (λ (t : Bool). cond t (record { bits = 0x3f000000; level = ofRoot }) (record { bits = 0; level = ofBackground }))
+    ∙ ap (λ (t : Bool). cond t (record { bits = 0x3f000000; level = of_root }) (record { bits = 0; level = of_background }))
     (key_same 0x3ffffc0000000000 c tt s)
 
 -- bit 62 alone in the tile's key

@@ -105,7 +105,7 @@ leaf_grown {l = l} p s k r = record {
 
 -- place i of node k
 pub in_node : (n k i t : ℕ) → n * (k + 1) ≤ t → i < n → n * k + i < t
-in_node n k i t h l = omega (arith, native.Mathlib.Nat.mul_add_lem n k 1, native.Mathlib.Nat.mul-one n)
+in_node n k i t h l = omega (arith, native.Mathlib.Nat.mul-add n k 1, native.Mathlib.Nat.mul-one n)
 
 pub node_grown : {P Q : ℕ → ℕ → Type 0} {b : List ℕ} {level : ℕ} {l m : List Entry} → ((s k : ℕ) → P s k → Q s k) → Prefix l m → (s k : ℕ)
     → Node P b level l s k → Node Q b level m s k
@@ -130,7 +130,7 @@ node_new {P} {b} {level} l es s k hl he g = record {
 }
   where
     whole : (n t x y k : ℕ) → t ≡ x + y → x ≡ n * k → y ≡ n → n * (k + 1) ≤ t
-    whole n t x y k p q r = omega (arith, native.Mathlib.Nat.mul_add_lem n k 1, native.Mathlib.Nat.mul-one n)
+    whole n t x y k p q r = omega (arith, native.Mathlib.Nat.mul-add n k 1, native.Mathlib.Nat.mul-one n)
 
 -- ---- the values of a leaf
 
@@ -228,16 +228,16 @@ module _ (I : State → Type 0) (R : State → ℕ → ℕ → Type 0) (G : Stat
           (bind (child_target source (i64_at b at₀)) (λ (target : ℕ).
           bind (child target s.state) (λ (r : Read). ok (record { entries = s.entries ++ (Child r.number ∷ []); state = r.state }))))
           e in
-          let (target, isTarget, e₁) = bind_ok (child_target source (i64_at b at₀))
+          let (target, is_target, e₁) = bind_ok (child_target source (i64_at b at₀))
           (λ (target : ℕ).
           bind (child target s.state) (λ (r : Read). ok (record { entries = s.entries ++ (Child r.number ∷ []); state = r.state })))
           n8.1 in
-          let (r, isRead, e₂) = bind_ok (child target s.state)
+          let (r, is_read, e₂) = bind_ok (child target s.state)
           (λ (r : Read). ok (record { entries = s.entries ++ (Child r.number ∷ []); state = r.state })) e₁ in
-          let st = step target s.state r f.keeps isRead in
+          let st = step target s.state r f.keeps is_read in
           subst (λ (z : Slots). Filled I R G b level source (suc n) t z) (ok_injective e₂)
           (add r.state (Child r.number) f st.keeps st.grown
-          (subst (λ (z : ℕ). R r.state z r.number) (target_is source (i64_at b at₀) isTarget) st.reads))
+          (subst (λ (z : ℕ). R r.state z r.number) (target_is source (i64_at b at₀) is_target) st.reads))
 
   pub slots_filled : (n : ℕ) (t : State) (s : Slots) → I t → slots_read b child level source n t ≡ ok s → Filled I R G b level source n t s
   unfolding slots_read

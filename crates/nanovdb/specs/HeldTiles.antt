@@ -96,12 +96,12 @@ tile_read_lem b p root n r r' f e =
         → rest x ≡ ok r' → Tiled b root (suc n) r'
     go true add e = subst (Tiled b root (suc n)) (ok_injective e) (add r.state (Tile (of_bits binary32 bits)) f.keeps (same2 r.state) refl)
     go false add e =
-        let (target, isTarget, e₁) = bind_ok (child_target root offset) visit e in
-        let (m, isRead, e₂) = bind_ok (node 2 b p target r.state) after e₁ in
-        let st = read_upper b p target r.state m f.keeps isRead in
+        let (target, is_target, e₁) = bind_ok (child_target root offset) visit e in
+        let (m, is_read, e₂) = bind_ok (node 2 b p target r.state) after e₁ in
+        let st = read_upper b p target r.state m f.keeps is_read in
         subst (Tiled b root (suc n)) (ok_injective e₂)
         (add m.state (Child m.number) st.keeps st.grown
-        (subst (λ (z : ℕ). UpperIn b m.state z m.number) (target_is root offset isTarget) st.reads))
+        (subst (λ (z : ℕ). UpperIn b m.state z m.number) (target_is root offset is_target) st.reads))
 
 pub tiles_read_lem : (b : List ℕ) (p : Places) (root n : ℕ) (t : State) (r : Roots) → Inv2 b t → tiles_read b p root n t ≡ ok r → Tiled b root n r
 unfolding tiles_read

@@ -13,7 +13,7 @@ use Rattle.refusals.specs.Results.{ok}
 use Rattle.refusals.specs.TestLaws.{eq→eqb}
 use Rattle.float.specs.Zero.{+0}
 use Rattle.layout.specs.Bytes.{u32_at, u64_at, i64_at, mask_bit, Bytes}
-use Rattle.layout.specs.Walk.{Level, ofLeaf, ofLower, ofUpper, ofRoot, Reading, shift, key, leaf_walk, lower_walk, upper_walk, tile_walk, tiles_walk, walk, voxel}
+use Rattle.layout.specs.Walk.{Level, of_leaf, of_lower, of_upper, of_root, Reading, shift, key, leaf_walk, lower_walk, upper_walk, tile_walk, tiles_walk, walk, voxel}
 use Rattle.layout.specs.Coordinates.{Coord, slot, same_block, block_of, Signed32}
 use Rattle.sparse_grid.specs.declared.Entry.{Entry}
 use Rattle.sparse_grid.specs.declared.Entry.TheVariants.{Child, Tile}
@@ -131,7 +131,7 @@ module _ (b : List ℕ) (bytes : Bytes b) (r : Roots) (s : Sound (tables_of b r)
   leaf_agrees source k l =
       let leaf = r.state.leaf in
       let i = slot 8 1 c in
-      met (leb (512 * (k + 1)) (length leaf)) (leaf_walk b source c) (value (get_or leaf (512 * k + i) +0) ofLeaf) (refused 11)
+      met (leb (512 * (k + 1)) (length leaf)) (leaf_walk b source c) (value (get_or leaf (512 * k + i) +0) of_leaf) (refused 11)
       (le→leb (512 * (k + 1)) (length leaf) l.fits)
       (record {
         number = l.each i (slot_leaf c);
@@ -143,13 +143,13 @@ module _ (b : List ℕ) (bytes : Bytes b) (r : Roots) (s : Sound (tables_of b r)
   lower_agrees : (source k : ℕ) → LowerIn b r.state source k → Agrees (lower_walk b source c) (lower_at (tables_of b r) k c)
   unfolding tables_of
   lower_agrees =
-      node_agrees b bytes (λ (z : ℕ). leaf_walk b z c) (lower_entry (tables_of b r) c) ofLower (λ v. refl) leaf_agrees 1 r.state.lower
+      node_agrees b bytes (λ (z : ℕ). leaf_walk b z c) (lower_entry (tables_of b r) c) of_lower (λ v. refl) leaf_agrees 1 r.state.lower
       s.lower_finite (slot 16 8 c) (slot_lower c)
 
   upper_agrees : (source k : ℕ) → UpperIn b r.state source k → Agrees (upper_walk b source c) (upper_at (tables_of b r) k c)
   unfolding tables_of
   upper_agrees =
-      node_agrees b bytes (λ (z : ℕ). lower_walk b z c) (upper_entry (tables_of b r) c) ofUpper (λ v. refl) lower_agrees 2 r.state.upper
+      node_agrees b bytes (λ (z : ℕ). lower_walk b z c) (upper_entry (tables_of b r) c) of_upper (λ v. refl) lower_agrees 2 r.state.upper
       s.upper_finite (slot 32 128 c) (slot_upper c)
 
 -- ---- the roots
@@ -206,7 +206,7 @@ module _ (b : List ℕ) (bytes : Bytes b) (r : Roots) (count : ℕ) (tiled : Til
       let inside : i < length (map (λ (e : Root). link_of e.entry) rs) = omega (arith, length-map rs (λ (e : Root). link_of e.entry), tiled.size) in
       let fine = finite_at entry_in no_root refl rs i (s.root_finite i inside) in
       subst (λ (z : Entry). Agrees (tile_walk b root at c) (root_entry (tables_of b r) c z)) (sym (entry_at_lem entry_in no_root refl rs i))
-      (step (λ (z : ℕ). upper_walk b z c) (root_entry (tables_of b r) c) ofRoot (λ v. refl) (upper_agrees b bytes r s c)
+      (step (λ (z : ℕ). upper_walk b z c) (root_entry (tables_of b r) c) of_root (λ v. refl) (upper_agrees b bytes r s c)
       (eqb (u64_at b (at + 8)) 0) (u32_at b (at + 20)) (shift root (i64_at b (at + 8))) (get_or rs i no_root).entry (u32_lt b (at + 20) bytes) fine t.entry)
 
   roots_agree : (n i : ℕ) → i + n ≡ count → Agrees (tiles_walk n b (root_of_bytes b) (tile_at (root_of_bytes b) i) c) (roots_from (tables_of b r) n i c)

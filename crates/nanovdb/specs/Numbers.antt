@@ -15,7 +15,7 @@ use Rattle.layout.specs.Bytes.{u32_at, u64_at, i64_at, f32_at, mask_bit}
 use Rattle.sparse_grid.specs.Tables.{Grid, block_at}
 use Rattle.sparse_grid.specs.Validate.{value_fault, entry_fault, block_in, earlier, root_fault, entries_fault, values_fault}
 use Rattle.sparse_grid.specs.Validate.{pair_fault, shape_fault, validate, density_fault}
-use Rattle.medium.specs.Medium.{Medium, Axis, xAxis, yAxis, zAxis, on_point, on_coord, each, bounds_fault, index_fault, diagonal, zeroes, map_fault}
+use Rattle.medium.specs.Medium.{Medium, Axis, x_axis, y_axis, z_axis, on_point, on_coord, each, bounds_fault, index_fault, diagonal, zeroes, map_fault}
 use Rattle.sparse_grid.specs.declared.Entry.TheVariants.{Child, Tile}
 use Rattle.nanovdb.specs.Spans.{Span, overlaps, Seen, at, nowhere, seen}
 use Rattle.nanovdb.specs.Nodes.{Places, State, empty, with_span, claim, child_target, table_of, mask_of, entries_of, size_of, nodes_at, places_at}
@@ -225,7 +225,7 @@ other_tree = record {
 
 other_each : (f : Axis → ℕ) → ((a : Axis) → Fault Other (f a)) → Fault Other (each f)
 other_each f h =
-    fault_then Other (f xAxis) (f yAxis then f zAxis) (h xAxis) (fault_then Other (f yAxis) (f zAxis) (h yAxis) (h zAxis))
+    fault_then Other (f x_axis) (f y_axis then f z_axis) (h x_axis) (fault_then Other (f y_axis) (f z_axis) (h y_axis) (h z_axis))
 
 other_bounds : (m : Medium) (a : Axis) → Fault Other (bounds_fault m a)
 unfolding bounds_fault

@@ -8,7 +8,7 @@ use Rattle.refusals.specs.Faults.{passing}
 use Rattle.float.specs.Zero.{+0}
 use Rattle.float.specs.Exactly.{unique}
 use Rattle.float.specs.Numbers.{fits_plain}
-use Rattle.medium.specs.Medium.{Axis, xAxis, yAxis, zAxis}
+use Rattle.medium.specs.Medium.{Axis, x_axis, y_axis, z_axis}
 use Rattle.index.specs.Axes.{column}
 use Rattle.float.specs.Saturated.{clamp_z}
 use Rattle.rays.specs.Ray.{State, Step, on_state, exit_at, step_on}
@@ -96,17 +96,17 @@ piece_by s g a = piece_answer (record { from = s.t_min; to = exit_at s.t_max (on
 
 -- ---- an axis by its number
 
-pub axis_x : (a : Axis) → column a ≡ 0 → a ≡ xAxis
-axis_x xAxis e = refl
-axis_x yAxis e = absurd (omega arith)
-axis_x zAxis e = absurd (omega arith)
+pub axis_x : (a : Axis) → column a ≡ 0 → a ≡ x_axis
+axis_x x_axis e = refl
+axis_x y_axis e = absurd (omega arith)
+axis_x z_axis e = absurd (omega arith)
 
-pub axis_y : (a : Axis) → column a ≡ 1 → a ≡ yAxis
-axis_y xAxis e = absurd (omega arith)
-axis_y yAxis e = refl
-axis_y zAxis e = absurd (omega arith)
+pub axis_y : (a : Axis) → column a ≡ 1 → a ≡ y_axis
+axis_y x_axis e = absurd (omega arith)
+axis_y y_axis e = refl
+axis_y z_axis e = absurd (omega arith)
 
-pub axis_z : (a : Axis) → (column a ≡ 0 → ⊥) → (column a ≡ 1 → ⊥) → a ≡ zAxis
-axis_z xAxis p q = absurd (p refl)
-axis_z yAxis p q = absurd (q refl)
-axis_z zAxis p q = refl
+pub axis_z : (a : Axis) → (column a ≡ 0 → ⊥) → (column a ≡ 1 → ⊥) → a ≡ z_axis
+axis_z x_axis p q = absurd (p refl)
+axis_z y_axis p q = absurd (q refl)
+axis_z z_axis p q = refl

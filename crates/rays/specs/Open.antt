@@ -7,7 +7,7 @@ use Rattle.refusals.specs.Results.{Result, ok}
 use Rattle.refusals.specs.Faults.{◌then◌, unless, passing}
 use Rattle.float.specs.Zero.{+0}
 use Rattle.cells.specs.Cells.{table_fault}
-use Rattle.medium.specs.Medium.{Point, Medium, Axis, xAxis, yAxis, zAxis, on_point, each, bounds_fault}
+use Rattle.medium.specs.Medium.{Point, Medium, Axis, x_axis, y_axis, z_axis, on_point, each, bounds_fault}
 use Rattle.index.specs.Cells.{cells_on}
 use Rattle.float.specs.Saturated.{clamp_z, saturated}
 use Rattle.rays.specs.Ray.{Track, State}
@@ -77,7 +77,7 @@ abbrev pub track_of : Medium → Beam → Axis → Track
 track_of m b a = track_on (on_point a m.low) (on_point a m.high) (on_point a b.origin) (on_point a b.direction) b.t_min (cells_on m.cells a)
 
 abbrev pub start_of : Medium → Beam → State
-start_of m b = record { t_min = b.t_min; t_max = b.t_max; x = track_of m b xAxis; y = track_of m b yAxis; z = track_of m b zAxis }
+start_of m b = record { t_min = b.t_min; t_max = b.t_max; x = track_of m b x_axis; y = track_of m b y_axis; z = track_of m b z_axis }
 
 -- l is the table's length. 23, 18, 4, 22, in this order.
 unfoldable pub open_ray : Medium → Beam → ℕ → Result State

@@ -14,7 +14,7 @@ use Rattle.float.specs.Zero.{+0}
 use Rattle.float.specs.Saturated.{clamp_z, saturated}
 use Rattle.cells.specs.Cells.{Cells, cells, table_fault}
 use Rattle.cells.specs.Counted.{Few, Counted, tabled}
-use Rattle.medium.specs.Medium.{Medium, Axis, xAxis, yAxis, zAxis, each, bounds_fault}
+use Rattle.medium.specs.Medium.{Medium, Axis, x_axis, y_axis, z_axis, each, bounds_fault}
 use Rattle.index.specs.Cells.{cells_on}
 use Rattle.rays.specs.Ray.{State, cells_in, inside, is_step, sound}
 use Rattle.rays.specs.Open.{Beam, all_finite, all_zero, beam_fault, count, cell_at, track_from, track_on, track_of, start_of, open_ray}
@@ -60,9 +60,9 @@ module _ (m : Medium) (b : Beam) (a : Axis) where
 
 -- each number of a table without a fault is 1 to 128
 pub few_on : {n : Cells} → Counted n → (a : Axis) → Few (cells_on n a)
-few_on N xAxis = N.x
-few_on N yAxis = N.y
-few_on N zAxis = N.z
+few_on N x_axis = N.x
+few_on N y_axis = N.y
+few_on N z_axis = N.z
 
 finite_number : (x : Float) → T (finite x) → T (not (is_nan x))
 unfolding is_nan
@@ -88,7 +88,7 @@ module _ (m : Medium) (b : Beam) (table : List Float) (s : State) (e : open_ray 
       (t.0, ((then_zero (each (bounds_fault m)) (beam_fault b) t.1).1, ok_injective p.1))
 
   cells_kept : cells_in (start_of m b) ≡ m.cells
-  cells_kept = λ i. cells (track_cells m b xAxis i) (track_cells m b yAxis i) (track_cells m b zAxis i)
+  cells_kept = λ i. cells (track_cells m b x_axis i) (track_cells m b y_axis i) (track_cells m b z_axis i)
 
   pub opened_at : s.t_min ≡ b.t_min
   opened_at = ap (λ (t : State). t.t_min) (sym halves.1.1)
@@ -101,8 +101,8 @@ module _ (m : Medium) (b : Beam) (table : List Float) (s : State) (e : open_ray 
         fitting = ap (λ (c : Cells). table_fault c (length table)) cells_kept ∙ halves.0;
         number = finite_number b.t_max (end_finite b halves.1.0);
         going = inr (
-          λ i. track_sound m b xAxis (some xAxis) i && track_sound m b yAxis (some yAxis) i && track_sound m b zAxis (some zAxis) i,
-          omega (arith, few xAxis, few yAxis, few zAxis, some xAxis, some yAxis, some zAxis),
+          λ i. track_sound m b x_axis (some x_axis) i && track_sound m b y_axis (some y_axis) i && track_sound m b z_axis (some z_axis) i,
+          omega (arith, few x_axis, few y_axis, few z_axis, some x_axis, some y_axis, some z_axis),
         );
       }
 

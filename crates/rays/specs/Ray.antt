@@ -7,7 +7,7 @@ use Rattle.refusals.specs.Faults.{passing}
 use Rattle.float.specs.Zero.{+0}
 use Rattle.layout.specs.Coordinates.{eq_z}
 use Rattle.cells.specs.Cells.{Cells, cells, table_fault}
-use Rattle.medium.specs.Medium.{Axis, xAxis, yAxis, zAxis}
+use Rattle.medium.specs.Medium.{Axis, x_axis, y_axis, z_axis}
 use Rattle.index.specs.Cells.{cell_of}
 
 -- One axis of a ray: the t at which it leaves its cell there, the t from one crossing to the next, the way that it goes, 1 or -1, the cell, and the number
@@ -28,9 +28,9 @@ pub record State : Type 0 where
   pub z : Track
 
 abbrev pub on_state : State → Axis → Track
-on_state s xAxis = s.x
-on_state s yAxis = s.y
-on_state s zAxis = s.z
+on_state s x_axis = s.x
+on_state s y_axis = s.y
+on_state s z_axis = s.z
 
 abbrev pub cells_in : State → Cells
 cells_in s = cells s.x.cells s.y.cells s.z.cells
@@ -54,14 +54,14 @@ sound t = inside t.cell t.cells && is_step t.step
 
 -- The axis of the first crossing, by the source's table of eight cases: 2, 1, 2, 1, 2, 2, 0, 0. The tests are x < y, x < z and y < z; no test holds of a NaN.
 abbrev pub axis_by : Bool → Bool → Bool → Axis
-axis_by false false false = zAxis
-axis_by false false true = yAxis
-axis_by false true false = zAxis
-axis_by false true true = yAxis
-axis_by true false false = zAxis
-axis_by true false true = zAxis
-axis_by true true false = xAxis
-axis_by true true true = xAxis
+axis_by false false false = z_axis
+axis_by false false true = y_axis
+axis_by false true false = z_axis
+axis_by false true true = y_axis
+axis_by true false false = z_axis
+axis_by true false true = z_axis
+axis_by true true false = x_axis
+axis_by true true true = x_axis
 
 abbrev pub axis_of : Float → Float → Float → Axis
 axis_of x y z = axis_by (lt x y) (lt x z) (lt y z)
@@ -96,9 +96,9 @@ advanced t = record {
 }
 
 abbrev pub step_on : State → Axis → State
-step_on s xAxis = record { t_min = goes_on s.t_max s.x; t_max = s.t_max; x = advanced s.x; y = s.y; z = s.z }
-step_on s yAxis = record { t_min = goes_on s.t_max s.y; t_max = s.t_max; x = s.x; y = advanced s.y; z = s.z }
-step_on s zAxis = record { t_min = goes_on s.t_max s.z; t_max = s.t_max; x = s.x; y = s.y; z = advanced s.z }
+step_on s x_axis = record { t_min = goes_on s.t_max s.x; t_max = s.t_max; x = advanced s.x; y = s.y; z = s.z }
+step_on s y_axis = record { t_min = goes_on s.t_max s.y; t_max = s.t_max; x = s.x; y = advanced s.y; z = s.z }
+step_on s z_axis = record { t_min = goes_on s.t_max s.z; t_max = s.t_max; x = s.x; y = s.y; z = advanced s.z }
 
 -- ---- the next piece
 

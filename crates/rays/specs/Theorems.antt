@@ -14,7 +14,7 @@ use Rattle.float.specs.Tests.{yes, clash}
 use Rattle.float.specs.Ordered.{lt_turned, le→not_lt}
 use Rattle.cells.specs.Cells.{Cells, cells, table_fault}
 use Rattle.cells.specs.Counted.{tabled}
-use Rattle.medium.specs.Medium.{Medium, Axis, xAxis, yAxis, zAxis}
+use Rattle.medium.specs.Medium.{Medium, Axis, x_axis, y_axis, z_axis}
 use Rattle.index.specs.Cells.{cell_of}
 use Rattle.rays.specs.Ray.{Track, State, on_state, cells_in, sound, sound_state, leaves, exit_at, goes_on}
 use Rattle.rays.specs.Ray.{Piece, Step, piece, over, place_of, piece_of, axis_in, step_on, next}
@@ -94,9 +94,9 @@ at_its_end s table e = go (le s.t_max s.t_min) (asked s table over e).1
 -- ---- the last piece
 
 goes_at : (s : State) (a : Axis) → (step_on s a).t_min ≡ goes_on s.t_max (on_state s a)
-goes_at s xAxis = refl
-goes_at s yAxis = refl
-goes_at s zAxis = refl
+goes_at s x_axis = refl
+goes_at s y_axis = refl
+goes_at s z_axis = refl
 
 ends : (t_max : Float) (t : Track) → le t_max (goes_on t_max t) ≡ true → (exit_at t_max t.next ≡ t_max) ⊎ (leaves t ≡ true)
 ends t_max t h = go (leaves t) (lt t.next t_max) refl refl

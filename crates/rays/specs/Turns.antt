@@ -7,7 +7,7 @@ use Rattle.std.specs.Float.Ieee.Bits.{is_true}
 use Rattle.refusals.specs.Results.{ok, refused}
 use Rattle.float.specs.Ordered.{le_same}
 use Rattle.cells.specs.Cells.{Cells, table_fault}
-use Rattle.medium.specs.Medium.{Axis, xAxis, yAxis, zAxis}
+use Rattle.medium.specs.Medium.{Axis, x_axis, y_axis, z_axis}
 use Rattle.rays.specs.Ray.{State, on_state, cells_in, sound, sound_state, exit_at, axis_in, step_on}
 use Rattle.rays.specs.Ray.{Piece, piece, over, piece_of, next}
 use Rattle.rays.specs.Remaining.{remaining, left_some, left_less, onward}
@@ -64,31 +64,31 @@ sounds s h = three (sound s.x) (sound s.y) (sound s.z) h
 -- ---- a step along an axis
 
 fewer : (s : State) (a : Axis) → sound_state s ≡ true → measure (step_on s a) + 1 ≡ measure s
-fewer s xAxis h = omega (arith, left_less s.x (sounds s h).0)
-fewer s yAxis h = omega (arith, left_less s.y (sounds s h).1.0)
-fewer s zAxis h = omega (arith, left_less s.z (sounds s h).1.1)
+fewer s x_axis h = omega (arith, left_less s.x (sounds s h).0)
+fewer s y_axis h = omega (arith, left_less s.y (sounds s h).1.0)
+fewer s z_axis h = omega (arith, left_less s.z (sounds s h).1.1)
 
 pub same_cells_lem : (s : State) (a : Axis) → cells_in (step_on s a) ≡ cells_in s
-same_cells_lem s xAxis = refl
-same_cells_lem s yAxis = refl
-same_cells_lem s zAxis = refl
+same_cells_lem s x_axis = refl
+same_cells_lem s y_axis = refl
+same_cells_lem s z_axis = refl
 
 pub same_end : (s : State) (a : Axis) → (step_on s a).t_max ≡ s.t_max
-same_end s xAxis = refl
-same_end s yAxis = refl
-same_end s zAxis = refl
+same_end s x_axis = refl
+same_end s y_axis = refl
+same_end s z_axis = refl
 
 stepped : (s : State) (a : Axis) → sound_state s ≡ true
     → ((step_on s a).t_min ≡ s.t_max) ⊎ (((step_on s a).t_min ≡ exit_at s.t_max (on_state s a).next) × (sound_state (step_on s a) ≡ true))
-stepped s xAxis h = elim (onward s.x (sounds s h).0 s.t_max) [
+stepped s x_axis h = elim (onward s.x (sounds s h).0 s.t_max) [
   | inl e ↦ inl e
   | inr w ↦ inr (w.0, all w.1 (sounds s h).1.0 (sounds s h).1.1)
 ]
-stepped s yAxis h = elim (onward s.y (sounds s h).1.0 s.t_max) [
+stepped s y_axis h = elim (onward s.y (sounds s h).1.0 s.t_max) [
   | inl e ↦ inl e
   | inr w ↦ inr (w.0, all (sounds s h).0 w.1 (sounds s h).1.1)
 ]
-stepped s zAxis h = elim (onward s.z (sounds s h).1.1 s.t_max) [
+stepped s z_axis h = elim (onward s.z (sounds s h).1.1 s.t_max) [
   | inl e ↦ inl e
   | inr w ↦ inr (w.0, all (sounds s h).0 (sounds s h).1.0 w.1)
 ]

@@ -3,7 +3,7 @@ use Rattle.std.proofs.Common.{◌≡◌, ℕ, zero, suc, ◌+◌, ◌-◌, ◌*�
 use lib.Ieee.{Float}
 use borrow.Author.Tests.{lt-leb}
 use Rattle.layout.specs.Coordinates.{Coord, slot, same_block, block_of}
-use Rattle.layout.specs.Walk.{ofBackground}
+use Rattle.layout.specs.Walk.{of_background}
 use Rattle.sparse_grid.specs.declared.Entry.{Entry}
 use Rattle.sparse_grid.specs.declared.Entry.TheVariants.{Child, Tile}
 use Rattle.sparse_grid.specs.Tables.{Grid, entry_at}
@@ -71,7 +71,7 @@ rooted g =
 from_only : (g : Grid) (c : Coord) (i : ℕ) → from_root (rooted g) c i ≡ from_root g c i
 from_only g c i =
     let e = entry_at g.root_links g.root_values i in
-    ap (λ (f : Found). cond (ltb i (length g.root_links)) f (value g.background ofBackground))
+    ap (λ (f : Found). cond (ltb i (length g.root_links)) f (value g.background of_background))
     (sym (root_only (rooted g) c e) ∙ root_only g c e)
 
 -- ---- the roots from i on
@@ -101,7 +101,7 @@ first_root : (g : Grid) (c : Coord) (n i : ℕ) → i + n ≡ length g.root_link
     → from_root g c (root_from g.blocks n i (block_of c)) ≡ roots_from g n i c
 unfolding root_from roots_from
 first_root g c zero i e =
-    ap (λ (t : Bool). cond t (root_entry g c (entry_at g.root_links g.root_values i)) (value g.background ofBackground))
+    ap (λ (t : Bool). cond t (root_entry g c (entry_at g.root_links g.root_values i)) (value g.background of_background))
     (le-ltb i (length g.root_links) (omega arith))
 first_root g c (suc n) i e = go (same_block (root_block g.blocks i) (block_of c)) (first_root g c n (i + 1) (omega arith))
   where
@@ -109,7 +109,7 @@ first_root g c (suc n) i e = go (same_block (root_block g.blocks i) (block_of c)
         → from_root g c (cond t i (root_from g.blocks n (i + 1) (block_of c)))
         ≡ cond t (root_entry g c (entry_at g.root_links g.root_values i)) (roots_from g n (i + 1) c)
     go true h =
-        ap (λ (t : Bool). cond t (root_entry g c (entry_at g.root_links g.root_values i)) (value g.background ofBackground))
+        ap (λ (t : Bool). cond t (root_entry g c (entry_at g.root_links g.root_values i)) (value g.background of_background))
         (lt-ltb i (length g.root_links) (omega arith))
     go false h = h
 

@@ -3,7 +3,7 @@ use Rattle.std.specs.Prelude.{ℕ, ℤ, Float}
 use Rattle.refusals.specs.Results.{Result, ok, refused, Said, said}
 use Rattle.float.specs.Zero.{+0}
 use Rattle.layout.specs.Coordinates.{Coord}
-use Rattle.layout.specs.Walk.{Level, ofLeaf, ofLower, ofUpper, ofRoot, ofBackground}
+use Rattle.layout.specs.Walk.{Level, of_leaf, of_lower, of_upper, of_root, of_background}
 use Rattle.sparse_grid.specs.declared.Answer.{Answer}
 use Rattle.sparse_grid.specs.declared.Answer.TheVariants.{Value, Refused}
 use Rattle.sparse_grid.specs.declared.Level as Code
@@ -34,7 +34,7 @@ pub record Spoken : Type 0 where
 
 -- what a refused lookup says: +0, and background
 abbrev pub unspoken : Spoken
-unspoken = record { value = +0; level = ofBackground }
+unspoken = record { value = +0; level = of_background }
 
 abbrev pub spoken : Found → Result Spoken
 spoken (lookup.value v l) = ok (record { value = v; level = l })
@@ -42,18 +42,18 @@ spoken (lookup.refused n) = refused n
 
 -- the level of the code's enum, and its number as C has it
 abbrev pub level_of : Code.Level → Level
-level_of Background = ofBackground
-level_of RootTile = ofRoot
-level_of UpperTile = ofUpper
-level_of LowerTile = ofLower
-level_of Leaf = ofLeaf
+level_of Background = of_background
+level_of RootTile = of_root
+level_of UpperTile = of_upper
+level_of LowerTile = of_lower
+level_of Leaf = of_leaf
 
 abbrev pub level_number : Level → ℕ
-level_number ofBackground = 0
-level_number ofRoot = 1
-level_number ofUpper = 2
-level_number ofLower = 3
-level_number ofLeaf = 4
+level_number of_background = 0
+level_number of_root = 1
+level_number of_upper = 2
+level_number of_lower = 3
+level_number of_leaf = 4
 
 -- the code's reading: a value with its level, or the number of a refusal
 abbrev pub heard : Reading → Result Spoken

@@ -4,7 +4,7 @@ use Rattle.std.proofs.Common.{ap, ◌∙◌, eq-eqb}
 use Rattle.std.specs.Float.{nan, fin}
 use Rattle.std.specs.Float.Ieee.{eq, lt}
 use Rattle.layout.specs.Coordinates.{Coord, mod_z, slot, block_of}
-use Rattle.layout.specs.Walk.{ofBackground}
+use Rattle.layout.specs.Walk.{of_background}
 use Rattle.sparse_grid.specs.Tables.{Grid}
 use Rattle.sparse_grid.specs.Validate.{entry_fault, negative, pair_fault}
 use Rattle.sparse_grid.specs.Lookup.{value, refused, roots_from, lookup}
@@ -43,7 +43,7 @@ unfolding lt minus_zero
 zero_density = refl
 
 -- with no roots every lookup reads the background
-pub no_roots : (g : Grid) (c : Coord) → pair_fault g ≡ 0 → length g.root_links ≡ 0 → lookup g c ≡ value g.background ofBackground
+pub no_roots : (g : Grid) (c : Coord) → pair_fault g ≡ 0 → length g.root_links ≡ 0 → lookup g c ≡ value g.background of_background
 unfolding lookup roots_from
 no_roots g c h e =
     ap (λ (t : Bool). cond t (roots_from g (length g.root_links) 0 c) (refused (pair_fault g))) (eq-eqb (pair_fault g) 0 h)

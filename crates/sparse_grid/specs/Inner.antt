@@ -3,7 +3,7 @@ use Rattle.std.specs.Prelude.{ℕ, zero, suc, ◌+◌, ◌*◌, ◌/◌, ◌<◌
 use Rattle.refusals.specs.Faults.{◌then◌, unless, first_fault}
 use Rattle.float.specs.Zero.{+0}
 use Rattle.layout.specs.Coordinates.{Coord, same_block}
-use Rattle.layout.specs.Walk.{Level, ofLeaf, ofLower, ofUpper, ofRoot, ofBackground}
+use Rattle.layout.specs.Walk.{Level, of_leaf, of_lower, of_upper, of_root, of_background}
 use Rattle.sparse_grid.specs.declared.Entry.{Entry}
 use Rattle.sparse_grid.specs.declared.Entry.TheVariants.{Child, Tile}
 use Rattle.sparse_grid.specs.declared.Root.{Root}
@@ -97,7 +97,7 @@ abbrev pub from_root : Grid → Coord → ℕ → Found
 from_root g c i =
     cond (nat_lt i (length g.root_links))
     (root_entry g c (entry_at g.root_links g.root_values i))
-    (value g.background ofBackground)
+    (value g.background of_background)
 
 -- the coordinate that a biased place stands for
 abbrev pub placed : Place → Coord
@@ -105,11 +105,11 @@ placed p = place p.x p.y p.z
 
 -- a level by its number, as the code stores it
 abbrev pub level_at : ℕ → Level
-level_at zero = ofBackground
-level_at (suc zero) = ofRoot
-level_at (suc (suc zero)) = ofUpper
-level_at (suc (suc (suc zero))) = ofLower
-level_at (suc (suc (suc (suc n)))) = ofLeaf
+level_at zero = of_background
+level_at (suc zero) = of_root
+level_at (suc (suc zero)) = of_upper
+level_at (suc (suc (suc zero))) = of_lower
+level_at (suc (suc (suc (suc n)))) = of_leaf
 
 -- the number that a function answers, and what it stored where that is 0
 abbrev pub told : ℕ → Float → ℕ → Found

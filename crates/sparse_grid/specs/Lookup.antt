@@ -2,7 +2,7 @@
 use Rattle.std.specs.Prelude.{ℕ, zero, suc, ◌+◌, ◌*◌, cond, length, ◌==◌, nat_le, slice_index_or, Float}
 use Rattle.float.specs.Zero.{+0}
 use Rattle.layout.specs.Coordinates.{Coord, slot, block_of, same_block}
-use Rattle.layout.specs.Walk.{Level, ofLeaf, ofLower, ofUpper, ofRoot, ofBackground}
+use Rattle.layout.specs.Walk.{Level, of_leaf, of_lower, of_upper, of_root, of_background}
 use Rattle.sparse_grid.specs.declared.Entry.{Entry}
 use Rattle.sparse_grid.specs.declared.Entry.TheVariants.{Child, Tile}
 use Rattle.sparse_grid.specs.Tables.{Grid, entry_at, block_at}
@@ -17,12 +17,12 @@ pub data Found : Type 0 where
 abbrev pub leaf_at : Grid → ℕ → Coord → Found
 leaf_at g k c =
     cond (nat_le (512 * (k + 1)) (length g.leaf_values))
-    (value (slice_index_or g.leaf_values (512 * k + slot 8 1 c) +0) ofLeaf)
+    (value (slice_index_or g.leaf_values (512 * k + slot 8 1 c) +0) of_leaf)
     (refused 11)
 
 abbrev pub lower_entry : Grid → Coord → Entry → Found
 lower_entry g c (Child k) = leaf_at g k c
-lower_entry g c (Tile v) = value v ofLower
+lower_entry g c (Tile v) = value v of_lower
 
 abbrev pub lower_at : Grid → ℕ → Coord → Found
 lower_at g k c =
@@ -32,7 +32,7 @@ lower_at g k c =
 
 abbrev pub upper_entry : Grid → Coord → Entry → Found
 upper_entry g c (Child k) = lower_at g k c
-upper_entry g c (Tile v) = value v ofUpper
+upper_entry g c (Tile v) = value v of_upper
 
 abbrev pub upper_at : Grid → ℕ → Coord → Found
 upper_at g k c =
@@ -42,11 +42,11 @@ upper_at g k c =
 
 abbrev pub root_entry : Grid → Coord → Entry → Found
 root_entry g c (Child k) = upper_at g k c
-root_entry g c (Tile v) = value v ofRoot
+root_entry g c (Tile v) = value v of_root
 
 -- the first root of n from i on whose block is b
 unfoldable pub roots_from : Grid → ℕ → ℕ → Coord → Found
-roots_from g zero i c = value g.background ofBackground
+roots_from g zero i c = value g.background of_background
 roots_from g (suc n) i c =
     let rest = roots_from g n (i + 1) c in
     cond (same_block (block_at g i) (block_of c)) (root_entry g c (entry_at g.root_links g.root_values i)) rest

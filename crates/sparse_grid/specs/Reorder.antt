@@ -7,7 +7,7 @@ use Rattle.refusals.specs.Faults.{◌then◌, unless, first_fault}
 use Rattle.refusals.specs.FaultLaws.{then_zero, first_fault_zero}
 use Rattle.float.specs.Zero.{+0}
 use Rattle.layout.specs.Coordinates.{Coord, eq_z, slot, block_of, same_block}
-use Rattle.layout.specs.Walk.{ofBackground}
+use Rattle.layout.specs.Walk.{of_background}
 use Rattle.sparse_grid.specs.declared.Entry.{Entry}
 use Rattle.sparse_grid.specs.declared.Entry.TheVariants.{Child, Tile}
 use Rattle.sparse_grid.specs.Tables.{Grid, entry_of, entry_at, block_at}
@@ -88,7 +88,7 @@ none_earlier g (suc i) b h = rw (none_earlier g i b (λ j l. h j (omega arith)))
 
 -- no root of n from i on has the block
 roots_none : (g : Grid) (c : Coord) (n i : ℕ) → ((j : ℕ) → i ≤ j → j < i + n → same_block (block_at g j) (block_of c) ≡ false)
-    → roots_from g n i c ≡ value g.background ofBackground
+    → roots_from g n i c ≡ value g.background of_background
 unfolding roots_from
 roots_none g c zero i h = refl
 roots_none g c (suc n) i h = rw (h i (omega arith) (omega arith)) (roots_none g c n (i + 1) (λ j l k. h j (omega arith) (omega arith)))

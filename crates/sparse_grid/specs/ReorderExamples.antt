@@ -5,7 +5,7 @@ use Rattle.std.specs.Float.{binary32}
 use Rattle.std.specs.Float.Ieee.{of_bits}
 use Rattle.refusals.specs.Faults.{first_fault}
 use Rattle.layout.specs.Coordinates.{Coord}
-use Rattle.layout.specs.Walk.{ofRoot}
+use Rattle.layout.specs.Walk.{of_root}
 use Rattle.sparse_grid.specs.Tables.{Grid, grid_of}
 use Rattle.sparse_grid.specs.Validate.{pair_fault, shape_fault, earlier, root_fault, validate}
 use Rattle.sparse_grid.specs.Lookup.{value, roots_from, lookup}
@@ -50,12 +50,12 @@ swapped_lookup = reordered_lookup two_roots roots_swapped swapped two_valid
 abbrev corner : Coord
 corner = at (negsuc 0) (pos 0) (pos 0)
 
-before : lookup two_roots corner ≡ value half ofRoot
+before : lookup two_roots corner ≡ value half of_root
 unfolding two_roots lookup pair_fault roots_from
 before = refl
 
 -- blocks alone in another order: 2 is read where 0.5 was
-blocks_alone : lookup (tiles (pos 0 ∷ pos 0 ∷ pos 0 ∷ negsuc 0 ∷ pos 0 ∷ pos 0 ∷ []) half two) corner ≡ value two ofRoot
+blocks_alone : lookup (tiles (pos 0 ∷ pos 0 ∷ pos 0 ∷ negsuc 0 ∷ pos 0 ∷ pos 0 ∷ []) half two) corner ≡ value two of_root
 unfolding lookup pair_fault roots_from
 blocks_alone = refl
 
@@ -67,6 +67,6 @@ repeated_refused : validate (repeated half two) ≡ 11
 unfolding half two validate pair_fault shape_fault first_fault root_fault earlier of_bits
 repeated_refused = refl
 
-first_found : (lookup (repeated half two) corner ≡ value half ofRoot) × (lookup (repeated two half) corner ≡ value two ofRoot)
+first_found : (lookup (repeated half two) corner ≡ value half of_root) × (lookup (repeated two half) corner ≡ value two of_root)
 unfolding lookup pair_fault roots_from
 first_found = (refl, refl)

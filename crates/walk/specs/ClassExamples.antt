@@ -5,7 +5,7 @@ use Rattle.std.specs.Float.{binary32}
 use Rattle.std.specs.Float.Ieee.{of_bits, lt}
 use Rattle.float.specs.Zero.{+0}
 use Rattle.layout.specs.Coordinates.{Signed32, block_of, same_block}
-use Rattle.layout.specs.Walk.{ofRoot, ofBackground}
+use Rattle.layout.specs.Walk.{of_root, of_background}
 use Rattle.sparse_grid.specs.Tables.{Grid, grid_of, block_at}
 use Rattle.sparse_grid.specs.Validate.{pair_fault}
 use Rattle.sparse_grid.specs.Lookup.{read_in, lookup, roots_from, value, value_in}
@@ -45,7 +45,7 @@ in_tile_lem x y z s =
 
 reads : (x y z : ℕ) → At (zone_of tile_box) x y z → read_at tile_grid x y z ≡ half
 unfolding read_at lookup roots_from pair_fault tile_grid
-reads x y z s = ap (λ (b : Bool). value_in (cond b (value half ofRoot) (value +0 ofBackground))) (in_tile_lem x y z s)
+reads x y z s = ap (λ (b : Bool). value_in (cond b (value half of_root) (value +0 of_background))) (in_tile_lem x y z s)
 
 low_ends : Signed32 tile_box.lo
 low_ends = record { x = omega arith; y = omega arith; z = omega arith }

@@ -1,7 +1,7 @@
 -- `claim::cell_at` meets its contract: the search on each axis, and the cell of the three. Assumes nothing.
 use mathlib.Core.Path.{◌≡◌, ◌∙◌}
 use Prim.Native.Nat.{ℕ}
-use Rattle.medium.specs.Medium.{Point, Medium, Axis, xAxis, yAxis, zAxis}
+use Rattle.medium.specs.Medium.{Point, Medium, Axis, x_axis, y_axis, z_axis}
 use Rattle.medium.specs.Record.{as_medium, point_of}
 use Rattle.index.specs.Axes.{line_of}
 use Rattle.index.specs.Found.{axis_cell, cell_on, cell_at}
@@ -12,7 +12,7 @@ use Rattle.claim.proofs.cell_at.Tie as tie
 
 -- the search on the three axes gives the cell
 found : (m : Medium) (p : Point) {r x y z : ℕ} → r ≡ cell_in m.cells x y z
-    → x ≡ cell_on m m.cells p xAxis → y ≡ cell_on m m.cells p yAxis → z ≡ cell_on m m.cells p zAxis → r ≡ cell_at m m.cells p
+    → x ≡ cell_on m m.cells p x_axis → y ≡ cell_on m m.cells p y_axis → z ≡ cell_on m m.cells p z_axis → r ≡ cell_at m m.cells p
 unfolding cell_at cell_in
 found m p e x y z = e ∙ (λ i. cell_in m.cells (x i) (y i) (z i))
 
@@ -33,19 +33,19 @@ abbrev point : tie.After-axis-cell3 → Point
 point c = point_of (at-start c).args.t2
 
 -- ---- what each search answers, by the corners of the medium
-x-is : (c : tie.After-axis-cell3) → (at_x c).axis-cell.result ≡ cell_on (medium c) (medium c).cells (point c) xAxis
+x-is : (c : tie.After-axis-cell3) → (at_x c).axis-cell.result ≡ cell_on (medium c) (medium c).cells (point c) x_axis
 x-is c =
     let s = at_x c in
     let line = s.before.x-line.ensures in
     s.axis-cell.ensures ∙ (λ i. axis_cell (line i).low (line i).high (medium c).cells.x (point c).x)
 
-y_is : (c : tie.After-axis-cell3) → (at_y c).axis-cell2.result ≡ cell_on (medium c) (medium c).cells (point c) yAxis
+y_is : (c : tie.After-axis-cell3) → (at_y c).axis-cell2.result ≡ cell_on (medium c) (medium c).cells (point c) y_axis
 y_is c =
     let s = at_y c in
     let line = s.before.y-line.ensures in
     s.axis-cell2.ensures ∙ (λ i. axis_cell (line i).low (line i).high (medium c).cells.y (point c).y)
 
-z-is : (c : tie.After-axis-cell3) → c.axis-cell3.result ≡ cell_on (medium c) (medium c).cells (point c) zAxis
+z-is : (c : tie.After-axis-cell3) → c.axis-cell3.result ≡ cell_on (medium c) (medium c).cells (point c) z_axis
 z-is c =
     let line = c.before.z-line.ensures in
     c.axis-cell3.ensures ∙ (λ i. axis_cell (line i).low (line i).high (medium c).cells.z (point c).z)

@@ -82,10 +82,10 @@ loop-again c =
     ∙ ap (λ (e : ℕ). answer_from (file h) e c.past-search.result) (sym (ended c.before))
 
 returns-3 : tie.Need-returns-in-Found invariant-loop decreases-loop
-returns-3 c = ap (answer_of (λ (n : ℕ). refused 21)) (sym c.before.search-1.given.1) ∙ left c.before.before.before
+returns-3 c = ap (answer_of (λ (n : ℕ). refused 21)) (sym c.in-Found.is) ∙ left c.before
 
 returns-4 : tie.Need-returns-in-Left invariant-loop decreases-loop
-returns-4 c = ap (answer_of (λ (n : ℕ). refused 21)) (sym c.before.search-in-Left-1.given.1) ∙ left c.before.before.before
+returns-4 c = ap (answer_of (λ (n : ℕ). refused 21)) (sym c.in-Left.is) ∙ left c.before
 
 pub locate_spec : {M : Type 1} → statement M
 locate_spec =

@@ -11,19 +11,19 @@ at-start c = c.before.before
 
 -- what was located, from the arm of a refusal
 abbrev at-locate : tie.After-no_part → tie.After-locate
-at-locate c = c.before.before.before.before
+at-locate c = c.before.before
 
 returns : tie.Need-returns-in-Refused
 returns c =
     let l = at-locate c in
     let a = (at-start l).args in
-    c.no_part.ensures ∙ sym (ap picked (name_refused a.file.now a.n l.locate.ensures _ c.before.before.number-1.given.1))
+    c.no_part.ensures ∙ sym (ap picked (name_refused a.file.now a.n l.locate.ensures _ c.in-Refused.is))
 
 returns-2 : tie.Need-returns-in-At
 returns-2 c =
-    let l = c.before.before.before in
+    let l = c.before in
     let a = (at-start l).args in
-    sym (ap picked (name_found a.file.now a.n l.locate.ensures _ c.before.g-1.given.1))
+    sym (ap picked (name_found a.file.now a.n l.locate.ensures _ c.in-At.is))
 
 pub name_part_spec : {M : Type 1} → statement M
 name_part_spec = tie.close (tie.spec (λ c κs. search rules) (λ c. search rules) (λ c κs. search rules) (λ c. search rules) returns returns-2)

@@ -9,13 +9,13 @@ use Rattle.contents.proofs.past.Statement.{statement}
 use Rattle.contents.proofs.past.Tie as tie
 
 -- the start, from the arm of a grid that is found
-abbrev at-start-found : tie.In-Found-2 → tie.Start
-at-start-found c = c.before.before.before
+abbrev at-start-found : tie.In-Found → tie.Start
+at-start-found c = c.before
 
 -- ---- the file and the segment, in the arm of a grid that is still to be found
 
 abbrev at-start : tie.In-Left → tie.Start
-at-start c = c.before.before.before.before
+at-start c = c.before
 
 abbrev file : tie.In-Left → List ℕ
 file c = (at-start c).args.file.now
@@ -31,15 +31,15 @@ grid-count-requires c κs = header_inside (file c) (segment c) (sound (file c) (
 returns : tie.Need-returns-then-k-grids
 returns c =
     let a = c.before.before.before in
-    finds (file a) (segment a) _ _ a.before.search-in-Left-1.given.1 (omega arith) c.grid_in.ensures
+    finds (file a) (segment a) _ _ a.in-Left.is (omega arith) c.grid_in.ensures
 
 returns-2 : tie.Need-returns-in-Found
-returns-2 c = let a = (at-start-found c.before).args in stays a.file.now a.segment _ c.before.search-1.given.1
+returns-2 c = let a = (at-start-found c).args in stays a.file.now a.segment _ c.in-Found.is
 
 returns-3 : tie.Need-returns-else-k-grids
 returns-3 c =
     let a = c.before.before in
-    passes_by (file a) (segment a) _ _ a.before.search-in-Left-1.given.1 c.before.grid_count-grids.ensures c.if-k-grids.false
+    passes_by (file a) (segment a) _ _ a.in-Left.is c.before.grid_count-grids.ensures c.if-k-grids.false
 
 pub past_spec : {M : Type 1} → statement M
 past_spec =

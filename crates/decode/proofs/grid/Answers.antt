@@ -79,8 +79,8 @@ short b e =
     ltb-true (length b) (2 ^ 32) (is_true small (unless_zero small 0 (then_zero (unless small 1) _ e).0))
 
 -- ---- the answer of a tree that was read
-abbrev pub answerWith : Tree.Tree → Float → Medium → Answer
-answerWith x background medium = record {
+abbrev pub answer_with : Tree.Tree → Float → Medium → Answer
+answer_with x background medium = record {
   number = 0;
   roots = x.roots;
   upper = x.nodes.uppers;
@@ -91,8 +91,8 @@ answerWith x background medium = record {
 }
 
 pub read_answer : (b : List ℕ) {read : Code.TreeRead} {x : Tree.Tree} {background : Float} {medium : Medium} → read ≡ Read x
-    → background ≡ f32_at b (x.root + 28) → medium ≡ medium_at b x.root → answerWith x background medium ≡ answer_in b read
-read_answer b {x = x} is p q = (λ i. answerWith x (p i) (q i)) ∙ ap (answer_in b) (sym is)
+    → background ≡ f32_at b (x.root + 28) → medium ≡ medium_at b x.root → answer_with x background medium ≡ answer_in b read
+read_answer b {x = x} is p q = (λ i. answer_with x (p i) (q i)) ∙ ap (answer_in b) (sym is)
 
 -- ---- a refusal leaves what the definition leaves, whatever the tables hold, as long as their lengths stay
 refuses : (density : Bool) (b : List ℕ) (t u : Tables) (n : ℕ) → lengths u ≡ lengths t

@@ -46,7 +46,7 @@ root_span root end = record { start = root; end = end; level = 3; number = 0 }
 
 -- what the words hold: the spans of the header, the root and the nodes
 unfoldable pub spans : List ℕ → ℕ → ℕ → ℕ → List Span
-spans w count root rootEnd = header_span ∷ (root_span root rootEnd ∷ nodes w count)
+spans w count root root_end = header_span ∷ (root_span root root_end ∷ nodes w count)
 
 -- the chain of a stretch of a level, of n
 unfoldable pub chain_in : ℕ → ℕ → ℕ → ℕ

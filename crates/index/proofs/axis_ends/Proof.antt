@@ -11,41 +11,41 @@ use borrow.Author.Rules.{rules}
 use Rattle.index.proofs.axis_ends.Statement.{statement}
 use Rattle.index.proofs.axis_ends.Tie as tie
 
-abbrev start : tie.After-first-fault → tie.Start
+abbrev start : tie.After-first_fault-fault → tie.Start
 start c = c.before.before.before.before.before
 
 -- the first box and the second
-abbrev first : tie.After-first-fault → Range
-first c = c.before.before.first_range.result
+abbrev first : tie.After-first_fault-fault → Range
+first c = c.before.before.first_range-first.result
 
-abbrev second : tie.After-first-fault → Range
-second c = c.before.second_range.result
+abbrev second : tie.After-first_fault-fault → Range
+second c = c.before.second_range-second.result
 
 -- what both boxes say
-says : (c : tie.After-first-fault)
-    → passing c.first-fault.result (ok (pair (first c) (second c)))
+says : (c : tie.After-first_fault-fault)
+    → passing c.first_fault-fault.result (ok (pair (first c) (second c)))
     ≡ axis_ends (as_line (start c).args.l) (start c).args.n (start c).args.k
 unfolding axis_ends
 says c =
     let corners = c.before.before.before in
     let l = as_line (start c).args.l in
-    both_ends l corners.before.corner.result corners.corner2.result (first c) (second c)
-    c.first-fault.ensures c.before.before.first_range.ensures c.before.second_range.ensures
-    ∙ (λ i. ends_on l (corners.before.corner.ensures i) (corners.corner2.ensures i))
+    both_ends l corners.before.corner-p.result corners.corner-q.result (first c) (second c)
+    c.first_fault-fault.ensures c.before.before.first_range-first.ensures c.before.second_range-second.ensures
+    ∙ (λ i. ends_on l (corners.before.corner-p.ensures i) (corners.corner-q.ensures i))
 
-returns : tie.Need-returns
+returns : tie.Need-returns-then-fault-eq0
 returns c =
     let d = c.before.before.before in
-    let a = c.before.struct_told.given.1 in
-    let b = c.struct-told2.given.1 in
-    ends_taken d.first-fault.result (first d) (second d) (says d) c.before.before.if1.true
+    let a = c.before.struct_told-1.given.1 in
+    let b = c.struct_told-then-fault-eq0-1.given.1 in
+    ends_taken d.first_fault-fault.result (first d) (second d) (says d) c.before.before.if-fault-eq0.true
     (record { lo = a.0.1; hi = a.1.0.1 }) (record { lo = b.0.1; hi = b.1.0.1 })
 
-returns-2 : tie.Need-returns-2
-returns-2 c = let d = c.before in ends_refused d.first-fault.result (first d) (second d) (says d) c.if1.false
+returns-2 : tie.Need-returns
+returns-2 c = let d = c.before in ends_refused d.first_fault-fault.result (first d) (second d) (says d) c.if-fault-eq0.false
 
-pub axis-ends-spec : {M : Type 1} → statement M
-axis-ends-spec =
+pub axis_ends_spec : {M : Type 1} → statement M
+axis_ends_spec =
     tie.close
     (tie.spec
     (λ c κs. search rules)

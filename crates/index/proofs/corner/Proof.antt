@@ -9,9 +9,9 @@ use Rattle.index.proofs.corner.Tie as tie
 returns : tie.Need-returns
 unfolding corner_on
 returns c = λ i.
-    let t = div binary32 (c.before.rounded.ensures i) (c.rounded2.ensures i) in
+    let t = div binary32 (c.before.rounded.ensures i) (c.rounded-2.ensures i) in
     let a = c.before.before.args in
     add binary32 (mul binary32 (sub binary32 (one_literal i) t) a.low) (mul binary32 t a.high)
 
-pub corner-spec : {M : Type 1} → statement M
-corner-spec = tie.close (tie.spec (λ c κs. search rules) (λ c κs. search rules) returns)
+pub corner_spec : {M : Type 1} → statement M
+corner_spec = tie.close (tie.spec (λ c κs. search rules) (λ c κs. search rules) returns)

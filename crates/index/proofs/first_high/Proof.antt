@@ -12,9 +12,9 @@ use Rattle.index.proofs.first_high.Tie as tie
 returns : tie.Need-returns
 unfolding first_high
 returns c =
-    outcome c.checked-coordinate.result c.checked-coordinate.ensures
+    outcome c.checked_coordinate.result c.checked_coordinate.ensures
     (c.before.trunc.ensures ∙ (λ i. trunc binary64 (add binary64 (c.before.before.widen.ensures i) (one_literal_64 i))))
 
-pub first-high-spec : {M : Type 1} → statement M
-first-high-spec =
+pub first_high_spec : {M : Type 1} → statement M
+first_high_spec =
     tie.close (tie.spec (λ c κs. search rules) (λ c κs. search rules) (λ c κs. search rules) returns)

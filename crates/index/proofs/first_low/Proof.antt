@@ -12,9 +12,9 @@ use Rattle.index.proofs.first_low.Tie as tie
 returns : tie.Need-returns
 unfolding first_low
 returns c =
-    outcome c.checked-coordinate.result c.checked-coordinate.ensures
+    outcome c.checked_coordinate.result c.checked_coordinate.ensures
     (c.before.trunc.ensures ∙ (λ i. trunc binary64 (sub binary64 (c.before.before.widen.ensures i) (one_literal_64 i))))
 
-pub first-low-spec : {M : Type 1} → statement M
-first-low-spec =
+pub first_low_spec : {M : Type 1} → statement M
+first_low_spec =
     tie.close (tie.spec (λ c κs. search rules) (λ c κs. search rules) (λ c κs. search rules) returns)

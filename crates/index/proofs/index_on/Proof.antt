@@ -8,5 +8,5 @@ returns : tie.Need-returns
 unfolding index_on
 returns c = refl
 
-pub index-on-spec : {M : Type 1} → statement M
-index-on-spec = tie.close (tie.spec returns)
+pub index_on_spec : {M : Type 1} → statement M
+index_on_spec = tie.close (tie.spec returns)

@@ -10,9 +10,9 @@ use Rattle.index.proofs.majorant_on.Statement.{statement}
 use Rattle.index.proofs.majorant_on.Tie as tie
 
 -- the difference, by two f64
-difference : (c : tie.After-widen2)
-    → sub binary64 c.before.widen.result c.widen2.result ≡ sub binary64 c.before.before.args.p c.before.before.args.l.translation
-difference c = λ i. sub binary64 (c.before.widen.ensures i) (c.widen2.ensures i)
+difference : (c : tie.After-widen-2)
+    → sub binary64 c.before.widen.result c.widen-2.result ≡ sub binary64 c.before.before.args.p c.before.before.args.l.translation
+difference c = λ i. sub binary64 (c.before.widen.ensures i) (c.widen-2.ensures i)
 
 -- the axis's test decides which of the two products
 abbrev product : Line → Float → Bool → Float
@@ -25,23 +25,23 @@ decided : (l : Line) (p : Float) (t : Bool) → l.last ≡ t → product l p t �
 unfolding majorant_on
 decided l p t e = ap (product l p) (sym e)
 
-returns : tie.Need-returns
+returns : tie.Need-returns-then-l
 returns c =
     let d = c.before.before.before in
     let a = d.before.before.args in
     c.narrow.ensures
-    ∙ (λ i. narrow (mul binary64 (difference d i) (c.before.widen3.ensures i)))
-    ∙ decided (as_line a.l) a.p true c.before.before.if1.true
+    ∙ (λ i. narrow (mul binary64 (difference d i) (c.before.widen-then-l.ensures i)))
+    ∙ decided (as_line a.l) a.p true c.before.before.if-l.true
 
-returns-2 : tie.Need-returns-2
+returns-2 : tie.Need-returns-else-l
 returns-2 c =
     let d = c.before.before.before in
     let a = d.before.before.args in
-    ap (λ (x : Float). mul binary32 x a.l.factor) (c.before.narrow2.ensures ∙ ap narrow (difference d))
-    ∙ decided (as_line a.l) a.p false c.before.before.if1.false
+    ap (λ (x : Float). mul binary32 x a.l.factor) (c.before.narrow-else-l.ensures ∙ ap narrow (difference d))
+    ∙ decided (as_line a.l) a.p false c.before.before.if-l.false
 
-pub majorant-on-spec : {M : Type 1} → statement M
-majorant-on-spec =
+pub majorant_on_spec : {M : Type 1} → statement M
+majorant_on_spec =
     tie.close
     (tie.spec
     (λ c κs. search rules)

@@ -10,7 +10,7 @@ use Rattle.index.proofs.row_bits.Tie as tie
 returns : tie.Need-returns
 returns c =
     let a = c.before.before.before.args in
-    c.bits_of.ensures ∙ ap (to_bits binary32) (c.before.mul-add2.ensures ∙ ap (fma binary32 a.x a.a) c.before.before.mul_add_lem.ensures)
+    c.bits_of.ensures ∙ ap (to_bits binary32) (c.before.mul_add-2.ensures ∙ ap (fma binary32 a.x a.a) c.before.before.mul_add.ensures)
 
-pub row-bits-spec : {M : Type 1} → statement M
-row-bits-spec = tie.close (tie.spec (λ c κs. omega arith) (λ c κs. omega arith) (λ c κs. search rules) returns)
+pub row_bits_spec : {M : Type 1} → statement M
+row_bits_spec = tie.close (tie.spec (λ c κs. omega arith) (λ c κs. omega arith) (λ c κs. search rules) returns)

@@ -12,9 +12,9 @@ use Rattle.index.proofs.second_high.Tie as tie
 returns : tie.Need-returns
 unfolding second_high
 returns c =
-    outcome c.checked-coordinate.result c.checked-coordinate.ensures
+    outcome c.checked_coordinate.result c.checked_coordinate.ensures
     (λ i. add binary64 ((c.before.floor.ensures ∙ ap (floor binary64) c.before.before.widen.ensures) i) (one_literal_64 i))
 
-pub second-high-spec : {M : Type 1} → statement M
-second-high-spec =
+pub second_high_spec : {M : Type 1} → statement M
+second_high_spec =
     tie.close (tie.spec (λ c κs. search rules) (λ c κs. search rules) (λ c κs. search rules) returns)

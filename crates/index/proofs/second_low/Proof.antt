@@ -11,9 +11,9 @@ use Rattle.index.proofs.second_low.Tie as tie
 returns : tie.Need-returns
 unfolding second_low
 returns c =
-    outcome c.checked-coordinate.result c.checked-coordinate.ensures
+    outcome c.checked_coordinate.result c.checked_coordinate.ensures
     (c.before.floor.ensures ∙ ap (floor binary64) c.before.before.widen.ensures)
 
-pub second-low-spec : {M : Type 1} → statement M
-second-low-spec =
+pub second_low_spec : {M : Type 1} → statement M
+second_low_spec =
     tie.close (tie.spec (λ c κs. search rules) (λ c κs. search rules) (λ c κs. search rules) returns)

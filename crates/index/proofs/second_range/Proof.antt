@@ -11,46 +11,46 @@ use Rattle.index.proofs.second_range.Statement.{statement}
 use Rattle.index.proofs.second_range.Tie as tie
 
 -- places
-abbrev start : tie.After-second-low → tie.Start
+abbrev start : tie.After-second_low → tie.Start
 start c = c.before.before
 
-abbrev at_low : tie.After-second-high → tie.After-second-low
+abbrev at_low : tie.After-second_high → tie.After-second_low
 at_low c = c.before.before.before.before.before
 
-abbrev line : tie.After-second-low → Axes.Line
+abbrev line : tie.After-second_low → Axes.Line
 line c = as_line (start c).args.l
 
 -- the two ends
-low : (c : tie.After-second-low) → coordinate_of c.second-low.result ≡ second_low (index_on (line c) (start c).args.p)
-low c = c.second-low.ensures ∙ ap second_low c.before.index_on.ensures
+low : (c : tie.After-second_low) → coordinate_of c.second_low.result ≡ second_low (index_on (line c) (start c).args.p)
+low c = c.second_low.ensures ∙ ap second_low c.before.index_on.ensures
 
-high : (c : tie.After-second-high) → coordinate_of c.second-high.result ≡ second_high (index_on (line (at_low c)) (start (at_low c)).args.q)
-high c = c.second-high.ensures ∙ ap second_high c.before.index-on2.ensures
+high : (c : tie.After-second_high) → coordinate_of c.second_high.result ≡ second_high (index_on (line (at_low c)) (start (at_low c)).args.q)
+high c = c.second_high.ensures ∙ ap second_high c.before.index_on-in-At.ensures
 
-returns : tie.Need-returns
+returns : tie.Need-returns-in-Refused
 returns c =
     let d = c.before.before.before in
-    second_low_stopped (line d) (start d).args.p (start d).args.q (case (low d) c.before.n.given.1)
+    second_low_stopped (line d) (start d).args.p (start d).args.q (case (low d) c.before.n-1.given.1)
 
-returns-2 : tie.Need-returns-2
+returns-2 : tie.Need-returns-in-Refused-second_high
 returns-2 c =
     let h = c.before.before.before in
     let d = at_low h in
     second_high_stopped (line d) (start d).args.p (start d).args.q
-    (case (low d) h.before.before.before.a.given.1) (case (high h) c.before.n2.given.1)
+    (case (low d) h.before.before.before.a-1.given.1) (case (high h) c.before.n-in-Refused-second_high-1.given.1)
 
-returns-3 : tie.Need-returns-3
+returns-3 : tie.Need-returns-in-At-second_high
 returns-3 c =
     let h = c.before.before.before in
     let d = at_low h in
-    let a = h.before.before.before.a.given in
-    let b = c.before.b.given in
+    let a = h.before.before.before.a-1.given in
+    let b = c.before.b-1.given in
     second_taken (line d) (start d).args.p (start d).args.q
-    (ap ok (seen a.0.0 h.before.before.known-told2.given.0.1) ∙ case (low d) a.1)
-    (ap ok (seen b.0.0 c.known-told4.given.0.1) ∙ case (high h) b.1)
+    (ap ok (seen a.0.0 h.before.before.known_told-in-At-1.given.0.1) ∙ case (low d) a.1)
+    (ap ok (seen b.0.0 c.known_told-in-At-second_high-1.given.0.1) ∙ case (high h) b.1)
 
-pub second-range-spec : {M : Type 1} → statement M
-second-range-spec =
+pub second_range_spec : {M : Type 1} → statement M
+second_range_spec =
     tie.close
     (tie.spec
     (λ c κs. search rules)

@@ -1,7 +1,7 @@
 -- `medium::index_fault` meets its contract: the first fault of the three axes. Assumes nothing.
 use mathlib.Core.Path.{◌≡◌}
 use borrow.Author.Rules.{rules}
-use Rattle.medium.specs.Medium.{Medium, xAxis, yAxis, zAxis, index_fault}
+use Rattle.medium.specs.Medium.{Medium, x_axis, y_axis, z_axis, index_fault}
 use Rattle.medium.specs.Record.{as_medium}
 use Rattle.medium.proofs.Laws.{each_is, index_seen}
 use Rattle.medium.proofs.index_fault.Statement.{statement}
@@ -18,19 +18,19 @@ abbrev medium : tie.After-index_on-x → Medium
 medium c = as_medium c.before.before.before.args.m
 
 -- ---- the answer for each axis
-x-is : (c : tie.After-index_on-x) → c.index_on-x.result ≡ index_fault (medium c) xAxis
+x-is : (c : tie.After-index_on-x) → c.index_on-x.result ≡ index_fault (medium c) x_axis
 unfolding index_fault
 x-is c =
     let m = medium c in
     index_seen m.index_low.x m.index_high.x c.before.before.index_on-arg-1.given c.before.index_on-arg-2-1.given c.index_on-x.ensures
 
-y_is : (c : tie.After-index_on-y) → c.index_on-y.result ≡ index_fault (medium (at_x c)) yAxis
+y_is : (c : tie.After-index_on-y) → c.index_on-y.result ≡ index_fault (medium (at_x c)) y_axis
 unfolding index_fault
 y_is c =
     let m = medium (at_x c) in
     index_seen m.index_low.y m.index_high.y c.before.before.index_on-arg-3-1.given c.before.index_on-arg-4-1.given c.index_on-y.ensures
 
-z-is : (c : tie.After-index_on-z) → c.index_on-z.result ≡ index_fault (medium (at_x (at_y c))) zAxis
+z-is : (c : tie.After-index_on-z) → c.index_on-z.result ≡ index_fault (medium (at_x (at_y c))) z_axis
 unfolding index_fault
 z-is c =
     let m = medium (at_x (at_y c)) in

@@ -34,31 +34,31 @@ medium c = as_medium (at-start c).args.m
 abbrev place : tie.After-both-x → ℕ → Float
 place c i = get_or (medium c).map i +0
 
-abbrev rowX : (ℕ → Float) → Bool
-rowX at = diagonal (at 0) && zeroes (at 1) && zeroes (at 2)
+abbrev row_x : (ℕ → Float) → Bool
+row_x at = diagonal (at 0) && zeroes (at 1) && zeroes (at 2)
 
-abbrev rowY : (ℕ → Float) → Bool
-rowY at = rowX at && zeroes (at 3) && diagonal (at 4) && zeroes (at 5)
+abbrev row_y : (ℕ → Float) → Bool
+row_y at = row_x at && zeroes (at 3) && diagonal (at 4) && zeroes (at 5)
 
-abbrev rowZ : (ℕ → Float) → Bool
-rowZ at = rowY at && zeroes (at 6) && zeroes (at 7) && diagonal (at 8)
+abbrev row_z : (ℕ → Float) → Bool
+row_z at = row_y at && zeroes (at 6) && zeroes (at 7) && diagonal (at 8)
 
 -- ---- what the code has after each row, and in the end
-x-is : (c : tie.After-both-x) → c.both-x.result ≡ rowX (place c)
+x-is : (c : tie.After-both-x) → c.both-x.result ≡ row_x (place c)
 x-is c =
     let p = c.before.before.before in
     c.both-x.ensures
     ∙ and_same (p.both.ensures ∙ and_same p.before.before.before.on_diagonal.ensures p.before.off_diagonal.ensures)
     c.before.off_diagonal-2.ensures
 
-y_is : (c : tie.After-both-y) → c.both-y.result ≡ rowY (place (at_x c))
+y_is : (c : tie.After-both-y) → c.both-y.result ≡ row_y (place (at_x c))
 y_is c =
     let q = c.before.before.before in
     let p = q.before.before.before in
     and_three (x-is (at_x c)) p.both-2.ensures p.before.off_diagonal-3.ensures q.both-3.ensures q.before.on_diagonal-2.ensures
     c.both-y.ensures c.before.off_diagonal-4.ensures
 
-z-is : (c : tie.After-both-z) → c.both-z.result ≡ rowZ (place (at_x (at_y c)))
+z-is : (c : tie.After-both-z) → c.both-z.result ≡ row_z (place (at_x (at_y c)))
 z-is c =
     let q = c.before.before.before in
     let p = q.before.before.before in
@@ -68,7 +68,7 @@ z-is c =
 all-is : (c : tie.After-both-6)
     → let p = at_x (at_y (at-z c)) in
     let t = (medium p).translation in
-    c.both-6.result ≡ (rowZ (place p) && finite t.x && finite t.y && finite t.z)
+    c.both-6.result ≡ (row_z (place p) && finite t.x && finite t.y && finite t.z)
 all-is c =
     let q = c.before.before.before in
     let p = q.before.before.before in

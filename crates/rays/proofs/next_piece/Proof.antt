@@ -4,7 +4,7 @@ use lib.Ieee.{Float, nan, le}
 use Rattle.refusals.specs.TestLaws.{and_same}
 use Rattle.refusals.specs.ListLaws.{get_d_any}
 use Rattle.float.specs.Zero.{+0}
-use Rattle.medium.specs.Medium.{Axis, xAxis, yAxis, zAxis}
+use Rattle.medium.specs.Medium.{Axis, x_axis, y_axis, z_axis}
 use Rattle.cells.specs.Cells.{table_fault}
 use Rattle.cells.specs.Counted.{Tabled, tabled, count_small}
 use Rattle.rays.specs.Ray.{Track, State, on_state, cells_in, sound_state, axis_in, place_of, next}
@@ -78,9 +78,9 @@ whole : (c : tie.Then3) → Tabled (cells_in (S (tested c.before))) (length (tab
 whole c = tabled (cells_in (S (tested c.before))) (length (table (tested c.before))) (fitting (past c.before))
 
 held : (c : tie.Then3) (a : Axis) → Held (on_state (S (tested c.before)) a)
-held c xAxis = record { fine = (sounds (S (tested c.before)) (sound c)).0; few = (whole c).count.x.most }
-held c yAxis = record { fine = (sounds (S (tested c.before)) (sound c)).1.0; few = (whole c).count.y.most }
-held c zAxis = record { fine = (sounds (S (tested c.before)) (sound c)).1.1; few = (whole c).count.z.most }
+held c x_axis = record { fine = (sounds (S (tested c.before)) (sound c)).0; few = (whole c).count.x.most }
+held c y_axis = record { fine = (sounds (S (tested c.before)) (sound c)).1.0; few = (whole c).count.y.most }
+held c z_axis = record { fine = (sounds (S (tested c.before)) (sound c)).1.1; few = (whole c).count.z.most }
 
 place_in : (c : tie.After-place-of) → c.place_of.result < length (table (tested c.before.before))
 place_in c =
@@ -148,7 +148,7 @@ returns-2 c =
     c.over.ensures ∙ ap over_answer (sym (same t)) ∙ sym (ap (answer_of (S t)) (next_over (table t) (S t) (fitting e) c.before.if2.true)) ∙ back t
 
 place-of-requires : tie.Need-place-of-requires
-place-of-requires c κs = (held c xAxis, (held c yAxis, held c zAxis))
+place-of-requires c κs = (held c x_axis, (held c y_axis, held c z_axis))
 
 mul-figure : tie.Need-overflow-mul-figure
 mul-figure c = omega (arith, place-small c)
@@ -157,41 +157,41 @@ shared-slice-read-figure : tie.Need-shared-slice-read-figure
 shared-slice-read-figure c = place_in c.before
 
 advanced-requires : tie.Need-advanced-requires
-advanced-requires c κs = held (read c.before) xAxis
+advanced-requires c κs = held (read c.before) x_axis
 
 stepped-requires : tie.Need-stepped-requires
-stepped-requires c κs = held (read c.before.before) xAxis
+stepped-requires c κs = held (read c.before.before) x_axis
 
 returns-3 : tie.Need-returns-3
 returns-3 c =
     let a = c.before.before.before in
     let e = axis_x (axis_in (state a)) (sym a.axis-of.ensures ∙ c.before.before.if4.true) in
-    c.stepped.ensures ∙ ap (along_x_lem (state a) (got a)) c.before.advanced.ensures ∙ finish a xAxis e
+    c.stepped.ensures ∙ ap (along_x_lem (state a) (got a)) c.before.advanced.ensures ∙ finish a x_axis e
 
 advanced-requires-2 : tie.Need-advanced-requires-2
-advanced-requires-2 c κs = held (read c.before.before) yAxis
+advanced-requires-2 c κs = held (read c.before.before) y_axis
 
 stepped-requires-2 : tie.Need-stepped-requires-2
-stepped-requires-2 c κs = held (read c.before.before.before) yAxis
+stepped-requires-2 c κs = held (read c.before.before.before) y_axis
 
 returns-4 : tie.Need-returns-4
 returns-4 c =
     let a = at_y c in
     let e = axis_y (axis_in (state a)) (sym a.axis-of.ensures ∙ c.before.before.if5.true) in
-    c.stepped2.ensures ∙ ap (along_y_lem (state a) (got a)) c.before.advanced2.ensures ∙ finish a yAxis e
+    c.stepped2.ensures ∙ ap (along_y_lem (state a) (got a)) c.before.advanced2.ensures ∙ finish a y_axis e
 
 advanced-requires-3 : tie.Need-advanced-requires-3
-advanced-requires-3 c κs = held (read c.before.before) zAxis
+advanced-requires-3 c κs = held (read c.before.before) z_axis
 
 stepped-requires-3 : tie.Need-stepped-requires-3
-stepped-requires-3 c κs = held (read c.before.before.before) zAxis
+stepped-requires-3 c κs = held (read c.before.before.before) z_axis
 
 returns-5 : tie.Need-returns-5
 returns-5 c =
     let a = at-z c in
     let other = c.before.before in
     let e = axis_z (axis_in (state a)) (λ q. other.before.if4.false (a.axis-of.ensures ∙ q)) (λ q. other.if5.false (a.axis-of.ensures ∙ q)) in
-    c.stepped3.ensures ∙ ap (along_z_lem (state a) (got a)) c.before.advanced3.ensures ∙ finish a zAxis e
+    c.stepped3.ensures ∙ ap (along_z_lem (state a) (got a)) c.before.advanced3.ensures ∙ finish a z_axis e
 
 returns-6 : tie.Need-returns-6
 returns-6 c =

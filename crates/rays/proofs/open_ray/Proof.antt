@@ -2,7 +2,7 @@
 use Rattle.std.proofs.Common.{◌≡◌, ℕ, ◌≤◌, length, sym, ◌∙◌, rules}
 use Rattle.refusals.specs.Faults.{◌then◌}
 use Rattle.refusals.specs.FaultLaws.{then_zero}
-use Rattle.medium.specs.Medium.{Medium, Axis, xAxis, yAxis, zAxis, each, bounds_fault}
+use Rattle.medium.specs.Medium.{Medium, Axis, x_axis, y_axis, z_axis, each, bounds_fault}
 use Rattle.medium.specs.Record.{as_medium}
 use Rattle.cells.specs.Cells.{table_fault}
 use Rattle.cells.specs.Counted.{tabled}
@@ -60,13 +60,13 @@ returns c =
     opened_refused (start_of (medium f) (beam f)) (faults f) c.before.if1.true c.zero-ray.ensures
 
 track-on-requires : tie.Need-track-on-requires
-track-on-requires c κs = held (x-else c) xAxis
+track-on-requires c κs = held (x-else c) x_axis
 
 track-on-requires-2 : tie.Need-track-on-requires-2
-track-on-requires-2 c κs = held (y-else c) yAxis
+track-on-requires-2 c κs = held (y-else c) y_axis
 
 track-on-requires-3 : tie.Need-track-on-requires-3
-track-on-requires-3 c κs = held (z-else c) zAxis
+track-on-requires-3 c κs = held (z-else c) z_axis
 
 returns-2 : tie.Need-returns-2
 unfolding open_ray

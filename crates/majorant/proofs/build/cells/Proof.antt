@@ -2,7 +2,7 @@
 use Rattle.std.proofs.Common.{◌≡◌, ℕ, ◌<◌, ap, ◌∙◌, rules}
 use Rattle.sparse_grid.specs.Tables.{Grid, grid_of}
 use Rattle.sparse_grid.specs.Lookup.{read_in}
-use Rattle.medium.specs.Medium.{xAxis, yAxis, zAxis}
+use Rattle.medium.specs.Medium.{x_axis, y_axis, z_axis}
 use Rattle.medium.specs.Record.{as_medium}
 use Rattle.index.specs.Axes.{Line, axis_ends, line_of}
 use Rattle.boxes.specs.Boxes.{box_maximum}
@@ -35,15 +35,15 @@ grid c =
 
 -- the table of each axis holds the ends of its cells
 x-ends : (c : tie.After-axis-table3) (i : ℕ) → i < (start c).args.nx
-    → ends_in (at_x c).axis-table.result i ≡ axis_ends (line_of (as_medium (start c).args.m) xAxis) (start c).args.nx i
+    → ends_in (at_x c).axis-table.result i ≡ axis_ends (line_of (as_medium (start c).args.m) x_axis) (start c).args.nx i
 x-ends c i h = (at_x c).axis-table.ensures i h ∙ ap (λ (l : Line). axis_ends l (start c).args.nx i) (at_x c).before.x-line.ensures
 
 y-ends : (c : tie.After-axis-table3) (i : ℕ) → i < (start c).args.ny
-    → ends_in (at_y c).axis-table2.result i ≡ axis_ends (line_of (as_medium (start c).args.m) yAxis) (start c).args.ny i
+    → ends_in (at_y c).axis-table2.result i ≡ axis_ends (line_of (as_medium (start c).args.m) y_axis) (start c).args.ny i
 y-ends c i h = (at_y c).axis-table2.ensures i h ∙ ap (λ (l : Line). axis_ends l (start c).args.ny i) (at_y c).before.y-line.ensures
 
 z-ends : (c : tie.After-axis-table3) (i : ℕ) → i < (start c).args.nz
-    → ends_in c.axis-table3.result i ≡ axis_ends (line_of (as_medium (start c).args.m) zAxis) (start c).args.nz i
+    → ends_in c.axis-table3.result i ≡ axis_ends (line_of (as_medium (start c).args.m) z_axis) (start c).args.nz i
 z-ends c i h = c.axis-table3.ensures i h ∙ ap (λ (l : Line). axis_ends l (start c).args.nz i) c.before.z-line.ensures
 
 volume-requires : tie.Need-volume-requires

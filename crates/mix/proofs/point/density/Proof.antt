@@ -9,7 +9,7 @@ use Rattle.refusals.specs.Results.{ok}
 use Rattle.refusals.specs.Faults.{◌then◌, passing}
 use Rattle.sparse_grid.specs.Tables.{Grid, grid_of}
 use Rattle.sparse_grid.specs.Lookup.{read_in}
-use Rattle.medium.specs.Medium.{Point, Medium, xAxis, yAxis, zAxis}
+use Rattle.medium.specs.Medium.{Point, Medium, x_axis, y_axis, z_axis}
 use Rattle.medium.specs.Record.{as_medium}
 use Rattle.index.specs.Index.{world_to_index}
 use Rattle.mix.specs.declared.point.Side.{Side}
@@ -63,14 +63,14 @@ bits : (c : tie.After-world-to-index-f) (i : ℕ)
     → get_or c.world-to-index-f.result.bits i 0 ≡ get_or (three_bits (medium (start c)) (point (start c))) i 0
 bits c i = ap (λ (l : List ℕ). get_or l i 0) (bits_are (medium (start c)) (point (start c)) (start c).requires c.world-to-index-f.ensures)
 
-x-stands : (c : tie.After-first-fault2) → Stands (medium (start (position c))) (point (start (position c))) xAxis (x_side c)
-x-stands c = let s = start (position c) in stands (medium s) (point s) xAxis (x_side c) (bits (position c) 0) (at-sides c).before.before.side-of.ensures
+x-stands : (c : tie.After-first-fault2) → Stands (medium (start (position c))) (point (start (position c))) x_axis (x_side c)
+x-stands c = let s = start (position c) in stands (medium s) (point s) x_axis (x_side c) (bits (position c) 0) (at-sides c).before.before.side-of.ensures
 
-y-stands : (c : tie.After-first-fault2) → Stands (medium (start (position c))) (point (start (position c))) yAxis (y_side c)
-y-stands c = let s = start (position c) in stands (medium s) (point s) yAxis (y_side c) (bits (position c) 1) (at-sides c).before.side-of2.ensures
+y-stands : (c : tie.After-first-fault2) → Stands (medium (start (position c))) (point (start (position c))) y_axis (y_side c)
+y-stands c = let s = start (position c) in stands (medium s) (point s) y_axis (y_side c) (bits (position c) 1) (at-sides c).before.side-of2.ensures
 
-z-stands : (c : tie.After-first-fault2) → Stands (medium (start (position c))) (point (start (position c))) zAxis (z_side c)
-z-stands c = let s = start (position c) in stands (medium s) (point s) zAxis (z_side c) (bits (position c) 2) (at-sides c).side-of3.ensures
+z-stands : (c : tie.After-first-fault2) → Stands (medium (start (position c))) (point (start (position c))) z_axis (z_side c)
+z-stands c = let s = start (position c) in stands (medium s) (point s) z_axis (z_side c) (bits (position c) 2) (at-sides c).side-of3.ensures
 
 faults : (c : tie.After-first-fault2) → c.first-fault2.result ≡ ((x_side c).fault then ((y_side c).fault then (z_side c).fault))
 faults c = c.first-fault2.ensures ∙ ap (λ (k : ℕ). (x_side c).fault then k) c.before.first-fault.ensures

@@ -1,6 +1,6 @@
 -- `sparse_grid::lookup::below` meets its contract: no root, or the root's entry decides. Assumes nothing.
 use Rattle.std.proofs.Common.{◌≡◌, Bool, cond, length, sym, ap, ◌∙◌, arith, rules, le-ltb, lt-ltb}
-use Rattle.layout.specs.Walk.{ofBackground}
+use Rattle.layout.specs.Walk.{of_background}
 use Rattle.sparse_grid.specs.declared.Entry.{Entry}
 use Rattle.sparse_grid.specs.Tables.{Grid, entry_at}
 use Rattle.sparse_grid.specs.TableLaws.{entry_read_lem}
@@ -40,7 +40,7 @@ gives c e = root_entry (grid c) (placed c.args.place) e
 abbrev decides : tie.Start → Bool → Found
 decides c t =
     let a = c.args in
-    cond t (gives c (entry_at a.root_links.now a.root_values.now a.i)) (value a.background ofBackground)
+    cond t (gives c (entry_at a.root_links.now a.root_values.now a.i)) (value a.background of_background)
 
 -- what the entry of the root gives is the answer
 read : (c : tie.After-entry_of) → gives (start c) c.entry_of.result ≡ from_root (grid (start c)) (placed (start c).args.place) (start c).args.i

@@ -3,7 +3,7 @@ use Rattle.std.proofs.Common.{ℕ, ◌+◌, ◌*◌, ◌%◌, length, get_or, ap
 use lib.Ieee.{Float, nan}
 use Rattle.float.specs.Zero.{+0}
 use Rattle.refusals.specs.ListLaws.{get_d_any}
-use Rattle.layout.specs.Walk.{ofLeaf}
+use Rattle.layout.specs.Walk.{of_leaf}
 use Rattle.sparse_grid.specs.Lookup.{value}
 use Rattle.sparse_grid.proofs.Nodes.{missing, present, leaf_slot}
 use Rattle.sparse_grid.proofs.lookup.leaf_at.Statement.{statement}
@@ -22,7 +22,7 @@ returns-2 c =
     let p = a.place in
     let leaf = a.leaf_values.now in
     let i = 512 * a.k + (p.x % 8 * 64 + p.y % 8 * 8 + p.z % 8) in
-    ap (λ (v : Float). value v ofLeaf) (get_d_any leaf i nan +0 (omega arith) ∙ ap (λ (n : ℕ). get_or leaf n +0) (leaf_slot a.k p.x p.y p.z))
+    ap (λ (v : Float). value v of_leaf) (get_d_any leaf i nan +0 (omega arith) ∙ ap (λ (n : ℕ). get_or leaf n +0) (leaf_slot a.k p.x p.y p.z))
     ∙ present (512 * (a.k + 1)) (length leaf) _ (omega arith)
 
 pub leaf_at_spec : {M : Type 1} → statement M

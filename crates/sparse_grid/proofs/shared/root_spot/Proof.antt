@@ -2,7 +2,7 @@
 use Rattle.std.proofs.Common.{◌≡◌, Bool, cond, List, length, sym, ap, ◌∙◌, arith, rules, le-ltb, lt-ltb}
 use lib.Ieee.{Float}
 use Rattle.layout.specs.Coordinates.{Coord}
-use Rattle.layout.specs.Walk.{ofBackground}
+use Rattle.layout.specs.Walk.{of_background}
 use Rattle.sparse_grid.specs.Tables.{Grid, entry_at}
 use Rattle.sparse_grid.specs.TableLaws.{entry_read_lem}
 use Rattle.sparse_grid.specs.Lookup.{Found, value, root_entry}
@@ -36,7 +36,7 @@ grid c leaves =
 abbrev decides : tie.Start → List Float → Coord → Bool → Found
 decides c leaves d t =
     let a = c.args in
-    cond t (root_entry (grid c leaves) d (entry_at a.root_links.now a.root_values.now a.i)) (value a.background ofBackground)
+    cond t (root_entry (grid c leaves) d (entry_at a.root_links.now a.root_values.now a.i)) (value a.background of_background)
 
 -- what the entry of the root gives is the answer
 read : (c : tie.After-entry_of) (leaves : List Float) (d : Coord)
