@@ -51,7 +51,7 @@ boxed f s e a =
     let (x, p, q) = bind_ok (f x_axis) (λ (x : Ends). bind (f y_axis) (λ (y : Ends). bind (f z_axis) (λ (z : Ends). ok (made x y z)))) e in
     let (y, r, t) = bind_ok (f y_axis) (λ (y : Ends). bind (f z_axis) (λ (z : Ends). ok (made x y z))) q in
     let (z, u, v) = bind_ok (f z_axis) (λ (z : Ends). ok (made x y z)) t in
-    elim a [ x_axis ↦ (x, p) | y_axis ↦ (y, r) | z_axis ↦ (z, u) ]
+    elim a as (λ b. (r : Ends) × (f b ≡ ok r)) [ x_axis ↦ (x, p) | y_axis ↦ (y, r) | z_axis ↦ (z, u) ]
   where
     made : Ends → Ends → Ends → Box
     made x y z = record { lo = record { x = x.lo; y = y.lo; z = z.lo }; hi = record { x = x.hi; y = y.hi; z = z.hi } }
@@ -101,7 +101,8 @@ eight_at m p x y z = corner_of (floors_on m p x_axis) (floors_on m p y_axis) (fl
 
 eight_around : (m : Medium) (p : Point) (x y z : Bool) → AroundIn m p (eight_at m p x y z)
 unfolding floors_on eight_at
-eight_around m p x y z = λ a. elim a [ x_axis ↦ either x_axis x | y_axis ↦ either y_axis y | z_axis ↦ either z_axis z ]
+eight_around m p x y z = λ a. elim a as (λ b. (on_coord b (eight_at m p x y z) ≡ floor_z (world_to_index m p b))
+    ⊎ (on_coord b (eight_at m p x y z) ≡ suc_ℤ (floor_z (world_to_index m p b)))) [ x_axis ↦ either x_axis x | y_axis ↦ either y_axis y | z_axis ↦ either z_axis z ]
   where
     either : (a : Axis) (o : Bool)
         → (cond o (suc_ℤ (floor_z (world_to_index m p a))) (floor_z (world_to_index m p a)) ≡ floor_z (world_to_index m p a))

@@ -59,12 +59,12 @@ around_alike m n A p c = λ i. (a : Axis)
 pub fitting : (b : List ℕ) → Fitting (medium_of b)
 unfolding medium_of medium_at
 fitting b = record {
-  low = λ a. elim a [
+  low = λ a. elim a as (λ c. T (fits binary32 (on_point c (medium_of b).low))) [
     | x_axis ↦ narrow_fits (of_bits binary64 (u64_at b 560))
     | y_axis ↦ narrow_fits (of_bits binary64 (u64_at b 568))
     | z_axis ↦ narrow_fits (of_bits binary64 (u64_at b 576))
   ];
-  high = λ a. elim a [
+  high = λ a. elim a as (λ c. T (fits binary32 (on_point c (medium_of b).high))) [
     | x_axis ↦ narrow_fits (of_bits binary64 (u64_at b 584))
     | y_axis ↦ narrow_fits (of_bits binary64 (u64_at b 592))
     | z_axis ↦ narrow_fits (of_bits binary64 (u64_at b 600))

@@ -10,7 +10,7 @@ use Rattle.std.specs.Float.Ieee.Scale.{finite}
 use Rattle.medium.specs.Medium.{x_axis, y_axis, z_axis}
 use Rattle.medium.specs.Medium.{Point, Medium, Axis, on_point, bounds_fault}
 use Rattle.cells.specs.Counted.{Counted}
-use Rattle.index.specs.Cells.{corner, Cells, cell_axis, cell_of, cells_on, Between, EnclosesIn}
+use Rattle.index.specs.Cells.{corner, Cells, cell_corner, cell_axis, cell_of, cells_on, Between, EnclosesIn}
 use Rattle.index.specs.Axes.{corner_on}
 use Rattle.index.specs.Found.{holds_on, cell_on, cell_at}
 use Rattle.index.specs.FoundLaws.{found_holds, found_some}
@@ -31,9 +31,9 @@ pub record Numbered (n : Cells) : Type 0 where
 
 -- so are numbers of cells that pass
 pub numbered : {n : Cells} → Counted n → Numbered n
-numbered N = record {
-  some = λ a. elim a [ x_axis ↦ N.x.some | y_axis ↦ N.y.some | z_axis ↦ N.z.some ];
-  few = λ a. elim a [ x_axis ↦ le_trans N.x.most (lit≤ tt) | y_axis ↦ le_trans N.y.most (lit≤ tt) | z_axis ↦ le_trans N.z.most (lit≤ tt) ];
+numbered {n = n} N = record {
+  some = λ a. elim a as (λ b. 0 < cells_on n b) [ x_axis ↦ N.x.some | y_axis ↦ N.y.some | z_axis ↦ N.z.some ];
+  few = λ a. elim a as (λ b. cells_on n b ≤ 2 ^ 24) [ x_axis ↦ le_trans N.x.most (lit≤ tt) | y_axis ↦ le_trans N.y.most (lit≤ tt) | z_axis ↦ le_trans N.z.most (lit≤ tt) ];
 }
 
 bounds_finite : (m : Medium) (a : Axis) → bounds_fault m a ≡ 0 → T (finite (on_point a m.low)) × T (finite (on_point a m.high))
@@ -76,7 +76,7 @@ cell_met m n p f = rw (lt-ltb (cell_on m n p x_axis) n.x (f x_axis), lt-ltb (cel
 -- an axis that has found none
 pub cell_none : (m : Medium) (n : Cells) (p : Point) (a : Axis) → cells_on n a ≤ cell_on m n p a → cell_at m n p ≡ n.x * n.y * n.z
 unfolding cell_at
-cell_none m n p = λ a. elim a [
+cell_none m n p = λ a. elim a as (λ b. cells_on n b ≤ cell_on m n p b → cell_at m n p ≡ n.x * n.y * n.z) [
   | x_axis ↦ λ l. let e = le-ltb x n.x l in (λ i. pick (e i && ltb y n.y && ltb z n.z))
   | y_axis ↦ λ l. let e = le-ltb y n.y l in (λ i. pick (ltb x n.x && e i && ltb z n.z)) ∙ (λ i. pick (none (ltb x n.x) i && ltb z n.z))
   | z_axis ↦ λ l. let e = le-ltb z n.z l in (λ i. pick (ltb x n.x && ltb y n.y && e i)) ∙ (λ i. pick (none (ltb x n.x && ltb y n.y) i))
@@ -116,7 +116,7 @@ cell_below m n p l = go (ltb x n.x) refl (ltb y n.y) refl (ltb z n.z) refl
     all t = cond t (cell_of n x y z) (n.x * n.y * n.z)
 
     go : (a : Bool) → ltb x n.x ≡ a → (b : Bool) → ltb y n.y ≡ b → (c : Bool) → ltb z n.z ≡ c → Met m n p
-    go true i true j true k = λ a. elim a [ x_axis ↦ ltb-true x n.x i | y_axis ↦ ltb-true y n.y j | z_axis ↦ ltb-true z n.z k ]
+    go true i true j true k = λ a. elim a as (λ b. cell_on m n p b < cells_on n b) [ x_axis ↦ ltb-true x n.x i | y_axis ↦ ltb-true y n.y j | z_axis ↦ ltb-true z n.z k ]
     go false i b j c k = absurd (lt_irrefl _ (subst (λ (t : Bool). all (t && ltb y n.y && ltb z n.z) < n.x * n.y * n.z) i l))
     go true i false j c k = absurd (lt_irrefl _ (subst (λ (t : Bool). all (t && ltb z n.z) < n.x * n.y * n.z) (and_same i j) l))
     go true i true j false k = absurd (lt_irrefl _ (subst (λ (t : Bool). all t < n.x * n.y * n.z) (and_same (and_same i j) k) l))
@@ -138,7 +138,8 @@ met_ends m n p a i e l =
 
 -- a number that is a cell's is that of one which encloses the point
 pub cell_encloses : (m : Medium) (n : Cells) (p : Point) → cell_at m n p < n.x * n.y * n.z → EnclosesIn m n (cell_at m n p) p
-cell_encloses m n p l = subst (λ (k : ℕ). EnclosesIn m n k p) (sym (cell_met m n p f)) (λ a. elim a [
+cell_encloses m n p l = subst (λ (k : ℕ). EnclosesIn m n k p) (sym (cell_met m n p f)) (λ a. elim a as (λ b. (le (on_point b (cell_corner m n k 0)) (on_point b p) ≡ true)
+    × (le (on_point b p) (on_point b (cell_corner m n k 1)) ≡ true)) [
   | x_axis ↦ met_ends m n p x_axis (cell_axis n k x_axis) (cell_x n x y z (f x_axis) (f y_axis) (f z_axis)) (f x_axis)
   | y_axis ↦ met_ends m n p y_axis (cell_axis n k y_axis) (cell_y n x y z (f x_axis) (f y_axis) (f z_axis)) (f y_axis)
   | z_axis ↦ met_ends m n p z_axis (cell_axis n k z_axis) (cell_z n x y z (f x_axis) (f y_axis) (f z_axis)) (f z_axis)

@@ -70,12 +70,12 @@ scaled m e =
     let t : (i : ℕ) → T (get_or (rest m) i true) = passed m e in
     record {
       factor =
-          λ a. elim a [
+          λ a. elim a as (λ b. Factor (map_at m b 0) × Factor (map_at m b 1) × Factor (map_at m b 2)) [
             | x_axis ↦ (d 0 (first_passed m e), z 1 (t 0), z 2 (t 1))
             | y_axis ↦ (z 3 (t 2), d 4 (t 3), z 5 (t 4))
             | z_axis ↦ (z 6 (t 5), z 7 (t 6), d 8 (t 7))
           ];
-      moved = λ a. elim a [ x_axis ↦ t 8 | y_axis ↦ t 9 | z_axis ↦ t 10 ];
+      moved = λ a. elim a as (λ b. T (finite (on_point b m.translation))) [ x_axis ↦ t 8 | y_axis ↦ t 9 | z_axis ↦ t 10 ];
     }
 
 -- the map is diagonal: finite there, and zeros of either sign elsewhere

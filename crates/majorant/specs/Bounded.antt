@@ -88,7 +88,7 @@ ends_of_lem f s e =
     made x y z = record { lo = record { x = x.lo; y = y.lo; z = z.lo }; hi = record { x = x.hi; y = y.hi; z = z.hi } }
 
     all : (x y z : Ends) → f x_axis ≡ ok x → f y_axis ≡ ok y → f z_axis ≡ ok z → made x y z ≡ s → (a : Axis) → EndsOf f s a
-    all x y z p r u e = subst (λ (s : Box). (a : Axis) → EndsOf f s a) e (λ a. elim a [ x_axis ↦ p | y_axis ↦ r | z_axis ↦ u ])
+    all x y z p r u e = subst (λ (s : Box). (a : Axis) → EndsOf f s a) e (λ a. elim a as (EndsOf f (made x y z)) [ x_axis ↦ p | y_axis ↦ r | z_axis ↦ u ])
 
 record Floored (m : Medium) (n : Cells) (k : ℕ) (s : Box) (a : Axis) : Type 0 where
   low : End (world_to_index m (cell_corner m n k 0) a) (on_coord a s.lo) (floor_z (world_to_index m (cell_corner m n k 0) a))
@@ -175,7 +175,7 @@ each_none : (f : Axis → ℕ) → each f ≡ 0 → (a : Axis) → f a ≡ 0
 each_none f e =
     let p = then_zero (f x_axis) (f y_axis then f z_axis) e in
     let q = then_zero (f y_axis) (f z_axis) p.1 in
-    λ a. elim a [ x_axis ↦ p.0 | y_axis ↦ q.0 | z_axis ↦ q.1 ]
+    λ a. elim a as (λ b. f b ≡ 0) [ x_axis ↦ p.0 | y_axis ↦ q.0 | z_axis ↦ q.1 ]
 
 pub built : (g : Grid) (m : Medium) (l : List Float) → build g m ≡ ok l → Built g m l
 unfolding build

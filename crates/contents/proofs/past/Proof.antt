@@ -10,12 +10,12 @@ use Rattle.contents.proofs.past.Tie as tie
 
 -- the start, from the arm of a grid that is found
 abbrev at-start-found : tie.In-Found → tie.Start
-at-start-found c = c.before
+at-start-found c = c.before.before
 
 -- ---- the file and the segment, in the arm of a grid that is still to be found
 
 abbrev at-start : tie.In-Left → tie.Start
-at-start c = c.before
+at-start c = c.before.before
 
 abbrev file : tie.In-Left → List ℕ
 file c = (at-start c).args.file.now

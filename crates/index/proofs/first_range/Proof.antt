@@ -19,13 +19,13 @@ abbrev start : tie.After-first_low → tie.Start
 start c = c.before.before
 
 abbrev at_low : tie.After-first_high → tie.After-first_low
-at_low c = c.before.before.before.before.before
+at_low c = c.before.before.before
 
-abbrev at_b : tie.After-lesser-hi → tie.In-At-first_high-2
-at_b c = c.before.before.before.before.before
+abbrev at_b : tie.After-lesser-hi → tie.In-At-first_high
+at_b c = c.before.before.before.before
 
-abbrev at_high : tie.In-At-first_high-2 → tie.After-first_high
-at_high c = c.before.before
+abbrev at_high : tie.In-At-first_high → tie.After-first_high
+at_high c = c.before
 
 abbrev line : tie.After-first_low → Axes.Line
 line c = as_line (start c).args.l
@@ -39,47 +39,23 @@ high c = c.first_high.ensures ∙ ap first_high c.before.majorant_on-in-At.ensur
 
 returns : tie.Need-returns-in-Refused
 returns c =
-    let d = c.before.before.before in
-    first_low_stopped (line d) (start d).args.p (start d).args.q (case (low d) c.before.n-1.given.1)
+    let d = c.before in
+    first_low_stopped (line d) (start d).args.p (start d).args.q (case (low d) c.in-Refused.is)
 
 returns-2 : tie.Need-returns-in-Refused-first_high
 returns-2 c =
-    let h = c.before.before.before in
+    let h = c.before in
     let d = at_low h in
     first_high_stopped (line d) (start d).args.p (start d).args.q
-    (case (low d) h.before.before.before.a-1.given.1) (case (high h) c.before.n-in-Refused-first_high-1.given.1)
+    (case (low d) h.in-At.is) (case (high h) c.in-Refused-first_high.is)
 
--- the ends that the code has at hand, low and high, and how it clips them
-abbrev low_end : tie.After-lesser-hi → ℤ
-low_end c = (at_high (at_b c)).before.before.before.a-1.given.0.0
-
-abbrev high_end : tie.After-lesser-hi → ℤ
-high_end c = (at_b c).b-1.given.0.0
-
-lo : (c : tie.After-lesser-hi) → to_z w32 (of_z w32 c.before.before.greater-lo.result) ≡ max_z (low_end c) (line (at_low (at_high (at_b c)))).index_low
-lo c =
-    let g = c.before.before in
-    let h = at_high (at_b c) in
-    seen g.greater-lo.result g.greater-lo.type_inv
-    ∙ g.greater-lo.ensures
-    ∙ (λ i. max_z (seen (low_end c) h.before.before.known_told-in-At-1.given.0.1 i)
-    (seen (line (at_low h)).index_low g.before.struct_told-1.given.1.1.1.1.1.0.1 i))
-
-hi : (c : tie.After-lesser-hi) → to_z w32 (of_z w32 c.lesser-hi.result) ≡ min_z (high_end c) (line (at_low (at_high (at_b c)))).index_high
-hi c =
-    let t = c.before.before.before in
-    seen c.lesser-hi.result c.lesser-hi.type_inv
-    ∙ c.lesser-hi.ensures
-    ∙ (λ i. min_z (seen (high_end c) t.before.known_told-in-At-first_high-1.given.0.1 i)
-    (seen (line (at_low (at_high (at_b c)))).index_high t.struct_told-1.given.1.1.1.1.1.1.0.1 i))
-
+-- the ends are clipped at the box
 returns-3 : tie.Need-returns-in-At-first_high
 returns-3 c =
     let h = at_high (at_b c) in
     let d = at_low h in
-    (λ i. ok (record { lo = lo c i; hi = hi c i }))
-    ∙ first_taken (line d) (start d).args.p (start d).args.q
-    (case (low d) h.before.before.before.a-1.given.1) (case (high h) (at_b c).b-1.given.1)
+    (λ i. ok (record { lo = c.greater-lo.ensures i; hi = c.lesser-hi.ensures i }))
+    ∙ first_taken (line d) (start d).args.p (start d).args.q (case (low d) h.in-At.is) (case (high h) c.in-At-first_high.is)
 
 pub first_range_spec : {M : Type 1} → statement M
 first_range_spec =

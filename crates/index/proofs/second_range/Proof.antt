@@ -15,7 +15,7 @@ abbrev start : tie.After-second_low → tie.Start
 start c = c.before.before
 
 abbrev at_low : tie.After-second_high → tie.After-second_low
-at_low c = c.before.before.before.before.before
+at_low c = c.before.before.before
 
 abbrev line : tie.After-second_low → Axes.Line
 line c = as_line (start c).args.l
@@ -29,25 +29,21 @@ high c = c.second_high.ensures ∙ ap second_high c.before.index_on-in-At.ensure
 
 returns : tie.Need-returns-in-Refused
 returns c =
-    let d = c.before.before.before in
-    second_low_stopped (line d) (start d).args.p (start d).args.q (case (low d) c.before.n-1.given.1)
+    let d = c.before in
+    second_low_stopped (line d) (start d).args.p (start d).args.q (case (low d) c.in-Refused.is)
 
 returns-2 : tie.Need-returns-in-Refused-second_high
 returns-2 c =
-    let h = c.before.before.before in
+    let h = c.before in
     let d = at_low h in
     second_high_stopped (line d) (start d).args.p (start d).args.q
-    (case (low d) h.before.before.before.a-1.given.1) (case (high h) c.before.n-in-Refused-second_high-1.given.1)
+    (case (low d) h.in-At.is) (case (high h) c.in-Refused-second_high.is)
 
 returns-3 : tie.Need-returns-in-At-second_high
 returns-3 c =
-    let h = c.before.before.before in
+    let h = c.before in
     let d = at_low h in
-    let a = h.before.before.before.a-1.given in
-    let b = c.before.b-1.given in
-    second_taken (line d) (start d).args.p (start d).args.q
-    (ap ok (seen a.0.0 h.before.before.known_told-in-At-1.given.0.1) ∙ case (low d) a.1)
-    (ap ok (seen b.0.0 c.known_told-in-At-second_high-1.given.0.1) ∙ case (high h) b.1)
+    second_taken (line d) (start d).args.p (start d).args.q (case (low d) h.in-At.is) (case (high h) c.in-At-second_high.is)
 
 pub second_range_spec : {M : Type 1} → statement M
 second_range_spec =

@@ -8,29 +8,25 @@ use Rattle.index.proofs.sides.Tie as tie
 
 -- places
 abbrev at_low : tie.After-second_high → tie.After-second_low
-at_low c = c.before.before.before.before
+at_low c = c.before.before
 
 returns : tie.Need-returns-in-Refused
 returns c =
-    let d = c.before.before.before in
-    sides_low_stopped d.before.args.v (case d.second_low.ensures c.before.n-1.given.1)
+    let d = c.before in
+    sides_low_stopped d.before.args.v (case d.second_low.ensures c.in-Refused.is)
 
 returns-2 : tie.Need-returns-in-Refused-second_high
 returns-2 c =
-    let h = c.before.before.before in
+    let h = c.before in
     let d = at_low h in
-    sides_high_stopped d.before.args.v (case d.second_low.ensures h.before.before.a-1.given.1)
-    (case h.second_high.ensures c.before.n-in-Refused-second_high-1.given.1)
+    sides_high_stopped d.before.args.v (case d.second_low.ensures h.in-At.is)
+    (case h.second_high.ensures c.in-Refused-second_high.is)
 
 returns-3 : tie.Need-returns-in-At-second_high
 returns-3 c =
-    let h = c.before.before.before in
+    let h = c.before in
     let d = at_low h in
-    let a = h.before.before.a-1.given in
-    let b = c.before.b-1.given in
-    sides_taken d.before.args.v
-    (ap ok (seen a.0.0 h.before.known_told-in-At-1.given.0.1) ∙ case d.second_low.ensures a.1)
-    (ap ok (seen b.0.0 c.known_told-in-At-second_high-1.given.0.1) ∙ case h.second_high.ensures b.1)
+    sides_taken d.before.args.v (case d.second_low.ensures h.in-At.is) (case h.second_high.ensures c.in-At-second_high.is)
 
 pub sides_spec : {M : Type 1} → statement M
 sides_spec =
