@@ -1,5 +1,6 @@
 // From the bytes to the tables (nanovdb.rs, Decoder).
 #![tactic(auto)]
+
 ghost use Rattle.std.specs.Prelude.{◌≡◌, []};
 ghost use Rattle.refusals.specs.Results.{refused as refused_s};
 ghost use Rattle.nanovdb.specs.Decode.{decode_scalar, decode_density};

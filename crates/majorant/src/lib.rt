@@ -1,5 +1,6 @@
 // The box maximum and the table of majorants (nanovdb.rs).
 #![tactic(auto)]
+
 ghost use Rattle.std.specs.Prelude.{◌≡◌, length, replicate};
 ghost use Rattle.sparse_grid.specs.Tables.{grid_of};
 ghost use Rattle.sparse_grid.specs.Answers.{answer};

@@ -1,5 +1,6 @@
 // The density between voxels: the eight voxels around a point, mixed along z, then y, then x. Nothing of it stands in the Rust source.
 #![tactic(auto)]
+
 ghost use Rattle.std.specs.Prelude.{◌≡◌, length, replicate};
 ghost use Rattle.refusals.specs.Results.{number_of, value_or, said};
 ghost use Rattle.float.specs.Zero.{+0};

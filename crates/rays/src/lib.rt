@@ -1,6 +1,7 @@
 // Rays through the table of cells: a ray's pieces, one at a call, each with the figure of its cell (majorant_iterator.rs,
 // DDAMajorantIterator).
 #![tactic(auto)]
+
 ghost use Rattle.std.specs.Prelude.{◌≡◌, length};
 ghost use Rattle.medium.specs.Record.{as_medium};
 ghost use Rattle.rays.specs.Ray.{next};

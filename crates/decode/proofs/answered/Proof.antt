@@ -8,34 +8,34 @@ use Rattle.decode.proofs.answered.Statement.{statement}
 use Rattle.decode.proofs.answered.Tie as tie
 
 -- ---- places on the way to a place: the two arms, and the start
-abbrev at_read : tie.After-struct-known → tie.After-read2
+abbrev at_read : tie.After-struct_known-1 → tie.In-Read-2
 at_read c = c.before.before.before
 
-abbrev at-refusal : tie.After-refused → tie.After-read
+abbrev at-refusal : tie.After-refused → tie.In-Refused-2
 at-refusal c = c.before.before
 
-abbrev read-start : tie.After-read2 → tie.Start
+abbrev read-start : tie.In-Read-2 → tie.Start
 read-start c = c.before.before.before
 
-abbrev refusal-start : tie.After-read → tie.Start
+abbrev refusal-start : tie.In-Refused-2 → tie.Start
 refusal-start c = c.before.before.before
 
-add-f32-at : tie.Need-overflow-add-f32-at
-add-f32-at c = let r = at_read c in omega (arith, subst RootIn r.read2.given.1 (read-start r).requires)
+add-f32-at : tie.Need-overflow_add-x
+add-f32-at c = let r = at_read c in omega (arith, subst RootIn r.read-in-Read-1.given.1 (read-start r).requires)
 
-medium-at-requires : tie.Need-medium-at-requires
-medium-at-requires c κs = let r = at_read c.before in subst RootIn r.read2.given.1 (read-start r).requires
+medium-at-requires : tie.Need-medium_at-requires
+medium-at-requires c κs = let r = at_read c.before in subst RootIn r.read-in-Read-1.given.1 (read-start r).requires
 
-returns : tie.Need-returns
+returns : tie.Need-returns-in-Refused
 returns c =
     let r = at-refusal c in
-    c.refused.ensures ∙ ap (answer_in (refusal-start r).args.bytes.now) (sym r.read.given.1)
+    c.refused.ensures ∙ ap (answer_in (refusal-start r).args.bytes.now) (sym r.read-1.given.1)
 
-returns-2 : tie.Need-returns-2
-returns-2 c = let f = c.before in read_answer _ (at_read f.before).read2.given.1 f.f32-at.ensures c.medium-at.ensures
+returns-2 : tie.Need-returns-in-Read
+returns-2 c = let f = c.before in read_answer _ (at_read f.before).read-in-Read-1.given.1 f.f32_at.ensures c.medium_at.ensures
 
-pub answered-spec : {M : Type 1} → statement M
-answered-spec =
+pub answered_spec : {M : Type 1} → statement M
+answered_spec =
     tie.close
     (tie.spec
     (λ c. search rules)

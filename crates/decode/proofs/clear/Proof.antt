@@ -8,26 +8,26 @@ use Rattle.decode.proofs.clear.Statement.{statement}
 use Rattle.decode.proofs.clear.Tie as tie
 
 -- ---- places on the way to a place: the two calls, and the start
-abbrev at-nodes : tie.After-zero-f32 → tie.After-clear-nodes
+abbrev at-nodes : tie.After-zero_f32 → tie.After-clear_nodes
 at-nodes c = c.before.before.before.before.before.before.before.before.before.before.before.before.before.before.before.before.before
 
-abbrev at-start : tie.After-clear-nodes → tie.Start
+abbrev at-start : tie.After-clear_nodes → tie.Start
 at-start c = c.before.before.before.before.before.before.before.before.before.before.before.before.before.before.before.before.before
 
 -- ---- the tables as they are lent, and as the first call leaves them
 abbrev lent : tie.Start → Tables
 lent c =
     let a = c.args in
-    tables a.blocks.now a.root-links.now a.root-values.now a.upper-links.now a.upper-values.now a.lower-links.now
-    a.lower-values.now a.leaf-values.now a.work.now
+    tables a.blocks.now a.root_links-1.now a.root_values-1.now a.upper_links-1.now a.upper_values-1.now a.lower_links-1.now
+    a.lower_values-1.now a.leaf_values-1.now a.work.now
 
-abbrev cleared : tie.After-clear-nodes → Tables
+abbrev cleared : tie.After-clear_nodes → Tables
 cleared c =
-    let (blocks, (rl, (rv, (ul, (uv, (ll, (lv, (work, _)))))))) = c.clear-nodes.new in
+    let (blocks, (rl, (rv, (ul, (uv, (ll, (lv, (work, _)))))))) = c.clear_nodes.new in
     tables blocks rl rv ul uv ll lv [] work
 
-zeros-are : (c : tie.After-clear-nodes) → cleared c ≡ zeros (lengths (leafless (lent (at-start c))))
-zeros-are c = c.clear-nodes.ensures
+zeros-are : (c : tie.After-clear_nodes) → cleared c ≡ zeros (lengths (leafless (lent (at-start c))))
+zeros-are c = c.clear_nodes.ensures
 
 returns : tie.Need-returns
 returns c =
@@ -41,7 +41,7 @@ returns c =
       upper_values = (e i).upper_values;
       lower_links = (e i).lower_links;
       lower_values = (e i).lower_values;
-      leaf_values = z.zero-f32.ensures i;
+      leaf_values = z.zero_f32.ensures i;
       work = (e i).work;
     }
 

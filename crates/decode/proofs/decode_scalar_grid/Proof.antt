@@ -3,11 +3,11 @@ use borrow.Author.Rules.{rules}
 use Rattle.decode.proofs.decode_scalar_grid.Statement.{statement}
 use Rattle.decode.proofs.decode_scalar_grid.Tie as tie
 
-abbrev at-decode : tie.After-slice-known16 → tie.After-decode
+abbrev at-decode : tie.After-slice_known-16-1 → tie.After-decode
 at-decode c = c.before.before.before.before.before.before.before.before.before.before.before.before.before.before.before.before.before
 
-pub decode-scalar-grid-spec : {M : Type 1} → statement M
-decode-scalar-grid-spec =
+pub decode_scalar_grid_spec : {M : Type 1} → statement M
+decode_scalar_grid_spec =
     tie.close
     (tie.spec
     (λ c κs. search rules)

@@ -30,8 +30,8 @@ returns c = λ i. record {
   lower = 0;
   leaf = 0;
   background = zero_literal binary32 i;
-  medium = (c.make-medium.ensures ∙ no-medium) i;
+  medium = (c.make_medium-none.ensures ∙ no-medium) i;
 }
 
-pub refused-spec : {M : Type 1} → statement M
-refused-spec = tie.close (tie.spec (λ c κs. search rules) returns)
+pub refused_spec : {M : Type 1} → statement M
+refused_spec = tie.close (tie.spec (λ c κs. search rules) returns)

@@ -43,7 +43,9 @@ returns-3 : tie.Need-returns-in-At-second_high
 returns-3 c =
     let h = c.before in
     let d = at_low h in
-    second_taken (line d) (start d).args.p (start d).args.q (case (low d) h.in-At.is) (case (high h) c.in-At-second_high.is)
+    second_taken (line d) (start d).args.p (start d).args.q
+    (ap ok (seen c.in-At.a (search rules)) ∙ case (low d) h.in-At.is)
+    (ap ok (seen c.in-At-second_high.b (search rules)) ∙ case (high h) c.in-At-second_high.is)
 
 pub second_range_spec : {M : Type 1} → statement M
 second_range_spec =

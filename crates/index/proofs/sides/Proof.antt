@@ -26,7 +26,9 @@ returns-3 : tie.Need-returns-in-At-second_high
 returns-3 c =
     let h = c.before in
     let d = at_low h in
-    sides_taken d.before.args.v (case d.second_low.ensures h.in-At.is) (case h.second_high.ensures c.in-At-second_high.is)
+    sides_taken d.before.args.v
+    (ap ok (seen c.in-At.a (search rules)) ∙ case d.second_low.ensures h.in-At.is)
+    (ap ok (seen c.in-At-second_high.b (search rules)) ∙ case h.second_high.ensures c.in-At-second_high.is)
 
 pub sides_spec : {M : Type 1} → statement M
 sides_spec =

@@ -13,17 +13,17 @@ use Rattle.majorant.proofs.count_classes.Statement.{statement}
 use Rattle.majorant.proofs.count_classes.Tie as tie
 
 -- places
-abbrev start : tie.After-classes-fault → tie.Start
+abbrev start : tie.After-classes_fault-number → tie.Start
 start c = c.before.before.before.before.before.before.before.before.before
 
-abbrev at-fault : tie.After-counts → tie.After-classes-fault
+abbrev at-fault : tie.After-counts-1 → tie.After-classes_fault-number
 at-fault c = c.before.before
 
 abbrev grid : tie.Start → Grid
 grid c =
     let a = c.args in
-    grid_of a.background a.blocks.now a.root-links.now a.root-values.now a.upper-links.now a.upper-values.now
-    a.lower-links.now a.lower-values.now a.leaf-values.now
+    grid_of a.background a.blocks.now a.root_links.now a.root_values.now a.upper_links.now a.upper_values.now
+    a.lower_links.now a.lower_values.now a.leaf_values.now
 
 -- the box, and as a callee is handed it
 abbrev box : tie.Start → Box
@@ -35,43 +35,43 @@ fit c =
     record { lx_fits = f.lx; ly_fits = f.ly; lz_fits = f.lz; hx_fits = f.hx; hy_fits = f.hy; hz_fits = f.hz }
 
 -- the fault of the box itself
-fault : (c : tie.After-classes-fault) →
+fault : (c : tie.After-classes_fault-number) →
     let s = start c in
-    c.classes-fault.result ≡ (validate (grid s) then limits_fault s.args.limits.now then sides_fault (box s))
+    c.classes_fault-number.result ≡ (validate (grid s) then limits_fault s.args.limits.now then sides_fault (box s))
 fault c =
     let s = start c in
-    c.classes-fault.ensures
+    c.classes_fault-number.ensures
     ∙ ap (λ (b : Box). validate (grid s) then limits_fault s.args.limits.now then sides_fault b) (box_handed (box s) (box_fit (fit s)))
 
 -- the counts as they are left
-abbrev left : tie.After-box-classes → List ℕ
-left c = c.box-classes.new.1.1.1.1.1.1.1.1.1.1.1.1.1.1.1.1.0
+abbrev left : tie.After-box_classes → List ℕ
+left c = c.box_classes.new.1.1.1.1.1.1.1.1.1.1.1.1.1.1.1.1.0
 
-kept : (c : tie.After-box-classes) → length (left c) ≡ 17
-kept c = c.box-classes.auto.1.1.1.1.1.1.1.1.1.1.1.1.1.1.1.1.0
+kept : (c : tie.After-box_classes) → length (left c) ≡ 17
+kept c = c.box_classes.auto.1.1.1.1.1.1.1.1.1.1.1.1.1.1.1.1.0
 
-returns : tie.Need-returns
+returns : tie.Need-returns-then-number-eq0
 returns c =
     let d = c.before in
     let v = at-fault d.before in
     let s = start v in
-    counts_given (grid s) s.args.limits.now (box s) (fault v) (left d) d.before.before.if1.true (kept d) (λ k l.
-    d.box-classes.ensures k l ∙ ap (λ (b : Box). class_count (read_in (grid s)) s.args.limits.now b k) (box_handed (box s) (box_fit (fit s))))
+    counts_given (grid s) s.args.limits.now (box s) (fault v) (left d) d.before.before.if-number-eq0.true (kept d) (λ k l.
+    d.box_classes.ensures k l ∙ ap (λ (b : Box). class_count (read_in (grid s)) s.args.limits.now b k) (box_handed (box s) (box_fit (fit s))))
 
-returns-2 : tie.Need-returns-2
+returns-2 : tie.Need-returns-else-number-eq0
 returns-2 c =
     let v = c.before in
     let s = start v in
-    counts_refused (grid s) s.args.limits.now (box s) (fault v) c.if1.false
+    counts_refused (grid s) s.args.limits.now (box s) (fault v) c.if-number-eq0.false
 
-box-classes-requires : tie.Need-box-classes-requires
+box-classes-requires : tie.Need-box_classes-requires
 box-classes-requires c κs =
     let v = at-fault c in
     let s = start v in
     let l = s.args.limits.now in
     let b = box s in
     let e = fault v in
-    let o = c.before.if1.true in (
+    let o = c.before.if-number-eq0.true in (
       grid_valid (grid s) l b e o,
       ap sides_fault (box_handed b (box_fit (fit s))) ∙ sides_valid (grid s) l b e o,
       limits_valid (grid s) l b e o,
@@ -79,8 +79,8 @@ box-classes-requires c κs =
       λ k h. get_or-replicate 17 k 0 0 h,
     )
 
-pub count-classes-spec : {M : Type 1} → statement M
-count-classes-spec =
+pub count_classes_spec : {M : Type 1} → statement M
+count_classes_spec =
     tie.close
     (tie.spec
     (λ c κs. search rules)

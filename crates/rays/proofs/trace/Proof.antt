@@ -18,135 +18,135 @@ use Rattle.rays.proofs.trace.Tie as tie
 
 -- ---- the tables as they are cleared, and what is asked for
 
-abbrev second : tie.After-open-ray → tie.After-zero-f322
+abbrev second : tie.After-open_ray-o → tie.After-zero_f32-2
 second o = o.before.before.before
 
-abbrev first : tie.After-open-ray → tie.After-zero-f32
+abbrev first : tie.After-open_ray-o → tie.After-zero_f32
 first o = (second o).before.before.before.before
 
-abbrev start : tie.After-open-ray → tie.Start
+abbrev start : tie.After-open_ray-o → tie.Start
 start o = (first o).before.before.before.before.before
 
-abbrev E : tie.After-open-ray → ℕ
+abbrev E : tie.After-open_ray-o → ℕ
 E o = length (start o).args.ends.now
 
-abbrev F : tie.After-open-ray → ℕ
+abbrev F : tie.After-open_ray-o → ℕ
 F o = length (start o).args.figures.now
 
-cleared-ends : (o : tie.After-open-ray) → (first o).zero-f32.new.0 ≡ replicate (E o) +0
-cleared-ends o = (first o).zero-f32.ensures
+cleared-ends : (o : tie.After-open_ray-o) → (first o).zero_f32.new.0 ≡ replicate (E o) +0
+cleared-ends o = (first o).zero_f32.ensures
 
-cleared-figures : (o : tie.After-open-ray) → (second o).zero-f322.new.0 ≡ replicate (F o) +0
-cleared-figures o = (second o).zero-f322.ensures
+cleared-figures : (o : tie.After-open_ray-o) → (second o).zero_f32-2.new.0 ≡ replicate (F o) +0
+cleared-figures o = (second o).zero_f32-2.ensures
 
-abbrev table : tie.After-open-ray → List Float
+abbrev table : tie.After-open_ray-o → List Float
 table o = (start o).args.majorants.now
 
-abbrev M : tie.After-open-ray → Medium
+abbrev M : tie.After-open_ray-o → Medium
 M o = as_medium (start o).args.m
 
-abbrev B : tie.After-open-ray → Beam
-B o = beam_of (start o).args.origin (start o).args.direction (start o).args.t-min (start o).args.t-max
+abbrev B : tie.After-open_ray-o → Beam
+B o = beam_of (start o).args.origin (start o).args.direction (start o).args.t_min (start o).args.t_max
 
-abbrev R : tie.After-open-ray → Result State
+abbrev R : tie.After-open_ray-o → Result State
 R o = open_ray (M o) (B o) (length (table o))
 
 -- ---- past the opening
 
-abbrev opened : tie.Else1 → tie.After-open-ray
+abbrev opened : tie.Else-o-ne0 → tie.After-open_ray-o
 opened e = e.before.before
 
-abbrev passed : tie.After-pieces-into → tie.Else1
+abbrev passed : tie.After-pieces_into-t → tie.Else-o-ne0
 passed w = w.before.before.before.before.before.before
 
-abbrev at : tie.After-pieces-into → tie.After-open-ray
+abbrev at : tie.After-pieces_into-t → tie.After-open_ray-o
 at w = opened (passed w)
 
-abbrev begun : tie.After-pieces-into → State
+abbrev begun : tie.After-pieces_into-t → State
 begun w = value_or zero_state (R (at w))
 
-abbrev before-loop : tie.After-pieces-into-arg2 → tie.Else1
+abbrev before-loop : tie.After-pieces_into-arg-2-1 → tie.Else-o-ne0
 before-loop c = c.before.before.before.before.before
 
 -- the definition's pieces
-whole : (w : tie.After-pieces-into) → traced (M (at w)) (B (at w)) (table (at w)) (E (at w)) (F (at w))
+whole : (w : tie.After-pieces_into-t) → traced (M (at w)) (B (at w)) (table (at w)) (E (at w)) (F (at w))
     ≡ fitted (pieces (most (M (at w)).cells) (begun w) (table (at w))) (E (at w)) (F (at w))
 whole w =
     let o = at w in
-    let none : number_of (R o) ≡ 0 = sym (ap (λ (x : Opened). x.number) o.open-ray.ensures) ∙ (passed w).if1.false in
+    let none : number_of (R o) ≡ 0 = sym (ap (λ (x : Opened). x.number) o.open_ray-o.ensures) ∙ (passed w).if-o-ne0.false in
     traced_opened (M o) (B o) (table o) (E o) (F o) (begun w) (opened_state (M o) (B o) (length (table o)) none)
 
 -- and what the loop left of them
-followed : (w : tie.After-pieces-into) → Followed (pieces (most (M (at w)).cells) (begun w) (table (at w))) (E (at w)) (F (at w))
-    w.pieces-into.result.number w.pieces-into.result.count w.pieces-into.new.1.1.1.0 w.pieces-into.new.1.1.1.1.0
+followed : (w : tie.After-pieces_into-t) → Followed (pieces (most (M (at w)).cells) (begun w) (table (at w))) (E (at w)) (F (at w))
+    w.pieces_into-t.result.number w.pieces_into-t.result.count w.pieces_into-t.new.1.1.1.0 w.pieces_into-t.new.1.1.1.1.0
 followed w =
     let o = at w in
-    let state = ap (λ (x : Opened). x.state) o.open-ray.ensures in
-    followed_same (λ i. pieces (w.before.before.before.most-pieces.ensures i) (state i) (table o))
-    (zeros_length _ (E o) (cleared-ends o)) (zeros_length _ (F o) (cleared-figures o)) w.pieces-into.ensures
+    let state = ap (λ (x : Opened). x.state) o.open_ray-o.ensures in
+    followed_same (λ i. pieces (w.before.before.before.most_pieces-most.ensures i) (state i) (table o))
+    (zeros_length _ (E o) (cleared-ends o)) (zeros_length _ (F o) (cleared-figures o)) w.pieces_into-t.ensures
 
 -- ---- a table that was full is cleared at its length
 
-abbrev filled : tie.Then2 → tie.After-pieces-into
+abbrev filled : tie.Then-t-ne0 → tie.After-pieces_into-t
 filled t = t.before.before.before.before.before.before
 
-abbrev kept : tie.Else2 → tie.After-pieces-into
+abbrev kept : tie.Else-t-ne0 → tie.After-pieces_into-t
 kept c = c.before.before.before.before.before.before
 
-abbrev at-ends : tie.Then2 → tie.After-ends2
+abbrev at-ends : tie.Then-t-ne0 → tie.After-ends-2-1
 at-ends t = t.before.before.before.before.before
 
-ends-len : (t : tie.Then2) → length (filled t).pieces-into.new.1.1.1.0 ≡ E (at (filled t))
-ends-len t = (at-ends t).ends2.given ∙ zeros_length _ (E (at (filled t))) (cleared-ends (at (filled t)))
+ends-len : (t : tie.Then-t-ne0) → length (filled t).pieces_into-t.new.1.1.1.0 ≡ E (at (filled t))
+ends-len t = (at-ends t).ends-2-1.given ∙ zeros_length _ (E (at (filled t))) (cleared-ends (at (filled t)))
 
-figures-len : (t : tie.Then2) → length (filled t).pieces-into.new.1.1.1.1.0 ≡ F (at (filled t))
-figures-len t = t.before.before.before.figures2.given ∙ zeros_length _ (F (at (filled t))) (cleared-figures (at (filled t)))
+figures-len : (t : tie.Then-t-ne0) → length (filled t).pieces_into-t.new.1.1.1.1.0 ≡ F (at (filled t))
+figures-len t = t.before.before.before.figures-2-1.given ∙ zeros_length _ (F (at (filled t))) (cleared-figures (at (filled t)))
 
 -- and cleared again
-abbrev cleared : tie.After-zero-f324 → tie.After-zero-f323
+abbrev cleared : tie.After-zero_f32-then-t-ne0-2 → tie.After-zero_f32-then-t-ne0
 cleared z = z.before.before.before.before
 
-abbrev was-full : tie.After-zero-f323 → tie.Then2
+abbrev was-full : tie.After-zero_f32-then-t-ne0 → tie.Then-t-ne0
 was-full z = z.before.before
 
-ends-again : (z : tie.After-zero-f323) → z.zero-f323.new.0 ≡ replicate (E (at (filled (was-full z)))) +0
-ends-again z = z.zero-f323.ensures ∙ ap (λ (n : ℕ). replicate n +0) (ends-len (was-full z))
+ends-again : (z : tie.After-zero_f32-then-t-ne0) → z.zero_f32-then-t-ne0.new.0 ≡ replicate (E (at (filled (was-full z)))) +0
+ends-again z = z.zero_f32-then-t-ne0.ensures ∙ ap (λ (n : ℕ). replicate n +0) (ends-len (was-full z))
 
-figures-again : (z : tie.After-zero-f324) → z.zero-f324.new.0 ≡ replicate (F (at (filled (was-full (cleared z))))) +0
-figures-again z = z.zero-f324.ensures ∙ ap (λ (n : ℕ). replicate n +0) (figures-len (was-full (cleared z)))
+figures-again : (z : tie.After-zero_f32-then-t-ne0-2) → z.zero_f32-then-t-ne0-2.new.0 ≡ replicate (F (at (filled (was-full (cleared z))))) +0
+figures-again z = z.zero_f32-then-t-ne0-2.ensures ∙ ap (λ (n : ℕ). replicate n +0) (figures-len (was-full (cleared z)))
 
-returns : tie.Need-returns
+returns : tie.Need-returns-then-o-ne0
 unfolding traced
 returns c =
     let o = c.before.before in
-    refused_written (E o) (F o) (cleared-ends o) (cleared-figures o) (R o) _ (ap (λ (x : Opened). x.number) o.open-ray.ensures) c.if1.true
+    refused_written (E o) (F o) (cleared-ends o) (cleared-figures o) (R o) _ (ap (λ (x : Opened). x.number) o.open_ray-o.ensures) c.if-o-ne0.true
 
-pieces-into-requires : tie.Need-pieces-into-requires
+pieces-into-requires : tie.Need-pieces_into-t-requires
 pieces-into-requires c κs =
     let o = opened (before-loop c) in
     (zeros _ (E o) (cleared-ends o), zeros _ (F o) (cleared-figures o))
 
-same-length-3 : tie.Need-same-length-3
+same-length-3 : tie.Need-shape_of-ends-then-t-ne0
 same-length-3 c = zeros_length _ _ (ends-again (cleared c.before.before))
 
-same-length-4 : tie.Need-same-length-4
+same-length-4 : tie.Need-shape_of-figures-then-t-ne0
 same-length-4 c = zeros_length _ _ (figures-again c.before.before)
 
-returns-2 : tie.Need-returns-2
+returns-2 : tie.Need-returns-then-t-ne0
 returns-2 c =
     let z = c.before.before in
     let t = was-full (cleared z) in
     let w = filled t in
-    written_same (whole w) (full_written (E (at w)) (F (at w)) (ends-again (cleared z)) (figures-again z) _ (followed w) t.if2.true)
+    written_same (whole w) (full_written (E (at w)) (F (at w)) (ends-again (cleared z)) (figures-again z) _ (followed w) t.if-t-ne0.true)
 
-returns-3 : tie.Need-returns-3
+returns-3 : tie.Need-returns
 returns-3 c =
     let w = kept c in
     let o = at w in
-    written_same (whole w) (all_written _ (E o) (F o) (followed w) c.if2.false)
+    written_same (whole w) (all_written _ (E o) (F o) (followed w) c.if-t-ne0.false)
 
-pub trace-spec : {M : Type 1} → statement M
-trace-spec =
+pub trace_spec : {M : Type 1} → statement M
+trace_spec =
     tie.close
     (tie.spec
     (λ c κs. search rules)

@@ -10,19 +10,19 @@ use Rattle.decode.proofs.grid.grid_fault.Statement.{statement}
 use Rattle.decode.proofs.grid.grid_fault.Tie as tie
 
 -- ---- the start, from the lengths of the used parts, the medium, and the arguments of `validate` and `density_fault`
-abbrev from-upper : tie.After-struct-known → tie.Start
+abbrev from-upper : tie.After-struct_known-1 → tie.Start
 from-upper c = c.before.before.before.before.before.before.before.before.before.before
 
-abbrev from-lower : tie.After-struct-known2 → tie.Start
+abbrev from-lower : tie.After-struct_known-2-1 → tie.Start
 from-lower c = from-upper c.before
 
-abbrev from-leaf : tie.After-struct-known3 → tie.Start
+abbrev from-leaf : tie.After-struct_known-3-1 → tie.Start
 from-leaf c = from-lower c.before
 
-abbrev from_place : tie.After-struct-known4 → tie.Start
+abbrev from_place : tie.After-struct_known-4-1 → tie.Start
 from_place c = from-leaf c.before
 
-abbrev start : tie.After-frame-at → tie.Start
+abbrev start : tie.After-frame_at-m → tie.Start
 start c = from_place c.before.before
 
 abbrev from-arg : tie.After-validate-arg → tie.Start
@@ -49,13 +49,13 @@ from-arg7 c = from-arg6 c.before
 abbrev from-arg8 : tie.After-validate-arg8 → tie.Start
 from-arg8 c = from-arg7 c.before
 
-abbrev at-validate : tie.After-first-fault2 → tie.After-validate
+abbrev at-validate : tie.After-first_fault-fault → tie.After-validate-valid
 at-validate c = c.before.before.before.before
 
-abbrev at-medium : tie.After-validate → tie.After-frame-at
+abbrev at-medium : tie.After-validate-valid → tie.After-frame_at-m
 at-medium c = c.before.before.before.before.before.before.before.before.before
 
-abbrev from-fault : tie.After-first-fault2 → tie.Start
+abbrev from-fault : tie.After-first_fault-fault → tie.Start
 from-fault c = start (at-medium (at-validate c))
 
 abbrev from-density : tie.After-density-fault-arg → tie.Start
@@ -70,7 +70,7 @@ from-density3 c = from-density2 c.before
 abbrev from-density4 : tie.After-density-fault-arg4 → tie.Start
 from-density4 c = from-density3 c.before
 
-abbrev at-scalar : tie.After-density-fault → tie.Else1
+abbrev at-scalar : tie.After-density_fault → tie.Else-not-density
 at-scalar c = c.before.before.before.before.before
 
 -- ---- the used parts, and what the first tests said of them
@@ -78,37 +78,37 @@ abbrev used : tie.Start → Accepted
 used c = let a = c.args in
     used_in a.bytes.now a.x a.blocks.now a.rl.now a.rv.now a.ul.now a.uv.now a.ll.now a.lv.now a.leaves.now
 
-tree-fault : (c : tie.After-first-fault2) → c.first-fault2.result ≡ tree_fault (used (from-fault c))
+tree-fault : (c : tie.After-first_fault-fault) → c.first_fault-fault.result ≡ tree_fault (used (from-fault c))
 tree-fault c =
     let i = c.before.before in let v = at-validate c in let m = at-medium v in
-    tested (used (start m)) m.before.f32-at.ensures m.frame_at.ensures v.validate.ensures i.before.map-fault.ensures
-    i.index-fault.ensures c.before.first-fault.ensures c.first-fault2.ensures
+    tested (used (start m)) m.before.f32_at-background.ensures m.frame_at-m.ensures v.validate-valid.ensures i.before.map_fault.ensures
+    i.index_fault.ensures c.before.first_fault.ensures c.first_fault-fault.ensures
 
 -- ---- the lengths of the used parts fit a usize
-mul-upper : tie.Need-overflow-mul-upper
+mul-upper : tie.Need-overflow_mul-upper
 mul-upper c = let s = from-upper c in omega (arith, s.requires.1.upper_links_in, s.good.1.1.1.1.1.1)
 
-mul-lower : tie.Need-overflow-mul-lower
+mul-lower : tie.Need-overflow_mul-lower
 mul-lower c = let s = from-lower c in omega (arith, s.requires.1.lower_links_in, s.good.1.1.1.1.1.1.1.1)
 
-mul-leaf : tie.Need-overflow-mul-leaf
+mul-leaf : tie.Need-overflow_mul-leaf
 mul-leaf c = let s = from-leaf c in omega (arith, s.requires.1.leaf_values_in, s.good.1.1.1.1.1.1.1.1.1.1)
 
-mul-validate : tie.Need-overflow-mul-validate
+mul-validate : tie.Need-overflow_mul-roots
 mul-validate c = let s = start c in omega (arith, s.requires.1.blocks_in_lem, s.good.1.1.1)
 
 -- ---- the ways out: a scalar grid, and a density grid
-returns : tie.Need-returns
-returns c = let s = from-fault c.before in scalar s.args.density (used s) (tree-fault c.before) c.if1.true
+returns : tie.Need-returns-then-not-density
+returns c = let s = from-fault c.before in scalar s.args.density (used s) (tree-fault c.before) c.if-not-density.true
 
-returns-2 : tie.Need-returns-2
+returns-2 : tie.Need-returns
 returns-2 c =
     let d = c.before in let e = at-scalar d in let s = from-fault e.before in
-    dense s.args.density (used s) (tree-fault e.before) e.if1.false (at-medium (at-validate e.before)).before.f32-at.ensures
-    d.density-fault.ensures c.first-fault3.ensures
+    dense s.args.density (used s) (tree-fault e.before) e.if-not-density.false (at-medium (at-validate e.before)).before.f32_at-background.ensures
+    d.density_fault.ensures c.first_fault-2.ensures
 
-pub grid-fault-spec : {M : Type 1} → statement M
-grid-fault-spec =
+pub grid_fault_spec : {M : Type 1} → statement M
+grid_fault_spec =
     tie.close
     (tie.spec
     mul-upper

@@ -10,28 +10,28 @@ use Rattle.decode.proofs.grid.read_grid.Statement.{statement}
 use Rattle.decode.proofs.grid.read_grid.Tie as tie
 
 -- ---- places on the way to a place: the start, the two tests passed, the tree reader's answer, and the tree in it
-abbrev at-start : tie.Else1 → tie.Start
+abbrev at-start : tie.Else-lent-ne0 → tie.Start
 at-start c = c.before.before.before.before.before.before.before.before.before.before.before
 
-abbrev at-lengths : tie.After-bytes-fault → tie.Else1
+abbrev at-lengths : tie.After-bytes_fault-header → tie.Else-lent-ne0
 at-lengths c = c.before
 
-abbrev at-header : tie.After-read-tree-arg9 → tie.Else2
+abbrev at-header : tie.After-read_tree-arg-9-1 → tie.Else-header-ne0
 at-header c = c.before.before.before.before.before.before.before.before.before
 
-abbrev at-match : tie.After-slice-known16 → tie.After-read-tree
+abbrev at-match : tie.After-slice_known-16-1 → tie.After-read_tree
 at-match c = c.before.before.before.before.before.before.before.before.before.before.before.before.before.before.before.before.before
 
-abbrev at-refusal : tie.After-known-told → tie.After-read-tree
+abbrev at-refusal : tie.In-Refused → tie.After-read_tree
 at-refusal c = at-match c.before.before.before
 
-abbrev at-tree : tie.After-grid-fault-arg8 → tie.After-x
+abbrev at-tree : tie.After-grid-fault-arg8 → tie.In-Read-2
 at-tree c = c.before.before.before.before.before.before.before.before.before
 
-abbrev at-answer : tie.After-grid-fault-arg8 → tie.After-read-tree
+abbrev at-answer : tie.After-grid-fault-arg8 → tie.After-read_tree
 at-answer c = at-match (at-tree c).before.before
 
-abbrev start : tie.After-read-tree → tie.Start
+abbrev start : tie.After-read_tree → tie.Start
 start c = at-start (at-lengths (at-header c.before).before)
 
 -- ---- the tables as they are lent, and as the tree reader leaves them
@@ -43,25 +43,25 @@ lent c =
     let a = c.args in
     tables a.blocks.now a.rl.now a.rv.now a.ul.now a.uv.now a.ll.now a.lv.now a.leaves.now a.work.now
 
-abbrev filled : tie.After-read-tree → Tables
+abbrev filled : tie.After-read_tree → Tables
 filled c =
-    let (_, (work, (blocks, (rl, (rv, (ul, (uv, (ll, (lv, (leaves, _)))))))))) = c.read-tree.new in
+    let (_, (work, (blocks, (rl, (rv, (ul, (uv, (ll, (lv, (leaves, _)))))))))) = c.read_tree.new in
     tables blocks rl rv ul uv ll lv leaves work
 
 -- ---- what is known there
-lengths-pass : (c : tie.Else1) → lent_fault (lengths (lent (at-start c))) ≡ 0
-lengths-pass c = paired (lent (at-start c)) c.before.lent-fault.ensures c.if1.false
+lengths-pass : (c : tie.Else-lent-ne0) → lent_fault (lengths (lent (at-start c))) ≡ 0
+lengths-pass c = paired (lent (at-start c)) c.before.lent_fault-lent.ensures c.if-lent-ne0.false
 
-begun : (c : tie.Else2) → Begun (bytes (at-start (at-lengths c.before))) (lent (at-start (at-lengths c.before)))
+begun : (c : tie.Else-header-ne0) → Begun (bytes (at-start (at-lengths c.before))) (lent (at-start (at-lengths c.before)))
 begun c = record {
   paired = lengths-pass (at-lengths c.before);
-  passed = sym c.before.bytes-fault.ensures ∙ c.if2.false;
+  passed = sym c.before.bytes_fault-header.ensures ∙ c.if-header-ne0.false;
   zeroed = (at-start (at-lengths c.before)).requires;
 }
 
-keeps : (c : tie.After-read-tree) → Kept (lent (start c)) (filled c)
+keeps : (c : tie.After-read_tree) → Kept (lent (start c)) (filled c)
 keeps c =
-    let (_, (work, (blocks, (rl, (rv, (ul, (uv, (ll, (lv, (leaves, _)))))))))) = c.read-tree.auto in
+    let (_, (work, (blocks, (rl, (rv, (ul, (uv, (ll, (lv, (leaves, _)))))))))) = c.read_tree.auto in
     record {
       blocks = blocks;
       root_links = rl;
@@ -74,38 +74,38 @@ keeps c =
       work = work;
     }
 
-got : (c : tie.After-read-tree) → Got (bytes (start c)) (lent (start c)) (filled c) c.read-tree.result
-got c = record { begun = begun (at-header c.before); kept = keeps c; says = c.read-tree.ensures }
+got : (c : tie.After-read_tree) → Got (bytes (start c)) (lent (start c)) (filled c) c.read_tree.result
+got c = record { begun = begun (at-header c.before); kept = keeps c; says = c.read_tree.ensures }
 
 -- ---- the calls
-read-tree-requires : tie.Need-read-tree-requires
+read-tree-requires : tie.Need-read_tree-requires
 read-tree-requires c κs = tree-asks (begun (at-header c))
 
-grid-fault-requires : tie.Need-grid-fault-requires
-grid-fault-requires c κs = tree-used (got (at-answer c)) (at-tree c).x.given.1
+grid-fault-requires : tie.Need-grid_fault-fault-requires
+grid-fault-requires c κs = tree-used (got (at-answer c)) (at-tree c).x-1.given.1
 
 -- ---- the ways out: by the lengths, by the header, by a test, by the tree reader, and with the tree
-returns : tie.Need-returns
-returns c = out-lent c.before.lent-fault.ensures c.if1.true
+returns : tie.Need-returns-then-lent-ne0
+returns c = out-lent c.before.lent_fault-lent.ensures c.if-lent-ne0.true
 
-returns-2 : tie.Need-returns-2
-returns-2 c = out-bytes (lengths-pass (at-lengths c.before)) c.before.bytes-fault.ensures c.if2.true
+returns-2 : tie.Need-returns-then-header-ne0
+returns-2 c = out-bytes (lengths-pass (at-lengths c.before)) c.before.bytes_fault-header.ensures c.if-header-ne0.true
 
-returns-3 : tie.Need-returns-3
+returns-3 : tie.Need-returns-then-fault-ne0
 returns-3 c =
     let p = c.before.before in
-    out_fault (got (at-answer p)) (at-tree p).x.given.1 c.before.grid-fault.ensures c.if3.true
+    out_fault (got (at-answer p)) (at-tree p).x-1.given.1 c.before.grid_fault-fault.ensures c.if-fault-ne0.true
 
-returns-4 : tie.Need-returns-4
-returns-4 c = out-tree (got (at-refusal c)) c.before.e.given.1
+returns-4 : tie.Need-returns-in-Refused
+returns-4 c = out-tree (got (at-refusal c)) c.before.e-1.given.1
 
-returns-5 : tie.Need-returns-5
+returns-5 : tie.Need-returns-else-fault-ne0
 returns-5 c =
     let p = c.before.before in
-    out-accepted (got (at-answer p)) (at-tree p).x.given.1 c.before.grid-fault.ensures c.if3.false
+    out-accepted (got (at-answer p)) (at-tree p).x-1.given.1 c.before.grid_fault-fault.ensures c.if-fault-ne0.false
 
-pub read-grid-spec : {M : Type 1} → statement M
-read-grid-spec =
+pub read_grid_spec : {M : Type 1} → statement M
+read_grid_spec =
     tie.close
     (tie.spec
     (λ c κs. search rules)

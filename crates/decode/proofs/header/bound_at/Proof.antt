@@ -6,10 +6,10 @@ use Rattle.decode.proofs.header.bound_at.Statement.{statement}
 use Rattle.decode.proofs.header.bound_at.Tie as tie
 
 returns : tie.Need-returns
-returns c = c.narrow.ensures ∙ ap narrow c.before.f64-at.ensures
+returns c = c.narrow.ensures ∙ ap narrow c.before.f64_at.ensures
 
-pub bound-at-spec : {M : Type 1} → statement M
-bound-at-spec =
+pub bound_at_spec : {M : Type 1} → statement M
+bound_at_spec =
     tie.close
     (tie.spec
     (λ c κs. search rules)

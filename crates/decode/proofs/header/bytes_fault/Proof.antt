@@ -4,25 +4,25 @@ use Rattle.decode.proofs.header.Faults.{fault_long, fault_short, fault_header, f
 use Rattle.decode.proofs.header.bytes_fault.Statement.{statement}
 use Rattle.decode.proofs.header.bytes_fault.Tie as tie
 
-returns : tie.Need-returns
-returns c = fault_long _ c.if1.true
+returns : tie.Need-returns-then-n-gt4294967295
+returns c = fault_long _ c.if-n-gt4294967295.true
 
-returns-2 : tie.Need-returns-2
-returns-2 c = fault_short _ c.before.if1.false c.if2.true
+returns-2 : tie.Need-returns-then-n-lt672
+returns-2 c = fault_short _ c.before.if-n-gt4294967295.false c.if-n-lt672.true
 
-returns-3 : tie.Need-returns-3
+returns-3 : tie.Need-returns-then-header_passes
 returns-3 c =
     let m = c.before in let h = m.before.before in let e = h.before in
-    fault_bounds _ e.before.if1.false e.if2.false h.header-passes.ensures m.before.if3.true (m.world-at.ensures 0)
-    c.bounds-fault.ensures
+    fault_bounds _ e.before.if-n-gt4294967295.false e.if-n-lt672.false h.header_passes.ensures m.before.if-header_passes.true (m.world_at.ensures 0)
+    c.bounds_fault.ensures
 
-returns-4 : tie.Need-returns-4
+returns-4 : tie.Need-returns
 returns-4 c =
     let h = c.before in let e = h.before in
-    fault_header _ e.before.if1.false e.if2.false h.header-passes.ensures c.if3.false
+    fault_header _ e.before.if-n-gt4294967295.false e.if-n-lt672.false h.header_passes.ensures c.if-header_passes.false
 
-pub bytes-fault-spec : {M : Type 1} → statement M
-bytes-fault-spec =
+pub bytes_fault_spec : {M : Type 1} → statement M
+bytes_fault_spec =
     tie.close
     (tie.spec
     returns

@@ -4,11 +4,11 @@ use borrow.Author.Tests.{eq-eqb, ne_eqb}
 use Rattle.decode.proofs.header.class_passes.Statement.{statement}
 use Rattle.decode.proofs.header.class_passes.Tie as tie
 
-returns : tie.Need-returns
-returns c = sym (rw (eq-eqb _ _ c.if1.true))
+returns : tie.Need-returns-then-class-eq0
+returns c = sym (rw (eq-eqb _ _ c.if-class-eq0.true))
 
-returns-2 : tie.Need-returns-2
-returns-2 c = sym (rw (ne_eqb _ _ c.if1.false))
+returns-2 : tie.Need-returns-else-class-eq0
+returns-2 c = sym (rw (ne_eqb _ _ c.if-class-eq0.false))
 
-pub class-passes-spec : {M : Type 1} → statement M
-class-passes-spec = tie.close (tie.spec returns returns-2)
+pub class_passes_spec : {M : Type 1} → statement M
+class_passes_spec = tie.close (tie.spec returns returns-2)

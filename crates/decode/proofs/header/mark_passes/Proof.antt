@@ -4,11 +4,11 @@ use borrow.Author.Tests.{eq-eqb, ne_eqb}
 use Rattle.decode.proofs.header.mark_passes.Statement.{statement}
 use Rattle.decode.proofs.header.mark_passes.Tie as tie
 
-returns : tie.Need-returns
-returns c = sym (rw (eq-eqb _ _ c.if1.true))
+returns : tie.Need-returns-then-mark-eq3477417000310825294
+returns c = sym (rw (eq-eqb _ _ c.if-mark-eq3477417000310825294.true))
 
-returns-2 : tie.Need-returns-2
-returns-2 c = sym (rw (ne_eqb _ _ c.if1.false))
+returns-2 : tie.Need-returns-else-mark-eq3477417000310825294
+returns-2 c = sym (rw (ne_eqb _ _ c.if-mark-eq3477417000310825294.false))
 
-pub mark-passes-spec : {M : Type 1} → statement M
-mark-passes-spec = tie.close (tie.spec returns returns-2)
+pub mark_passes_spec : {M : Type 1} → statement M
+mark_passes_spec = tie.close (tie.spec returns returns-2)

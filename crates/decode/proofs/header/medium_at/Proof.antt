@@ -5,16 +5,16 @@ use Rattle.decode.proofs.header.medium_at.Statement.{statement}
 use Rattle.decode.proofs.header.medium_at.Tie as tie
 
 -- past the six fields
-abbrev at-frame : tie.After-make-medium → tie.After-frame-at
+abbrev at-frame : tie.After-make_medium → tie.After-frame_at-frame
 at-frame c = c.before.before.before.before.before.before.before
 
 returns : tie.Need-returns
 returns c =
     let f = at-frame c in let w = f.before in let root = w.before.before.args.root in
-    halves _ root c.make-medium.ensures (w.world-at.ensures root) f.frame_at.ensures
+    halves _ root c.make_medium.ensures (w.world_at-world.ensures root) f.frame_at-frame.ensures
 
-pub medium-at-spec : {M : Type 1} → statement M
-medium-at-spec =
+pub medium_at_spec : {M : Type 1} → statement M
+medium_at_spec =
     tie.close
     (tie.spec
     (λ c κs. search rules)

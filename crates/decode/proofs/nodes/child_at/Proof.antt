@@ -9,7 +9,7 @@ use Rattle.decode.proofs.nodes.child_at.Tie as tie
 returns : tie.Need-returns
 returns c =
     let w = c.before in let s = w.before in let a = s.before.before.args in
-    c.slot-target.ensures ∙ ap (slot_target a.source) (w.u64-at.ensures ∙ ap (u64_at a.bytes.now) s.slot_at.ensures)
+    c.slot_target.ensures ∙ ap (slot_target a.source) (w.u64_at.ensures ∙ ap (u64_at a.bytes.now) s.slot_at.ensures)
 
-pub child-at-spec : {M : Type 1} → statement M
-child-at-spec = tie.close (tie.spec (λ c κs. search rules) (λ c κs. search rules) (λ c κs. search rules) returns)
+pub child_at_spec : {M : Type 1} → statement M
+child_at_spec = tie.close (tie.spec (λ c κs. search rules) (λ c κs. search rules) (λ c κs. search rules) returns)

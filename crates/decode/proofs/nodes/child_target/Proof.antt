@@ -4,23 +4,23 @@ use Rattle.decode.proofs.nodes.Targets.{up_off, up_on, down_below, down_off, dow
 use Rattle.decode.proofs.nodes.child_target.Statement.{statement}
 use Rattle.decode.proofs.nodes.child_target.Tie as tie
 
-returns : tie.Need-returns
-returns c = up_off _ _ c.before.if1.true c.if2.true
+returns : tie.Need-returns-then-up-ne0
+returns c = up_off _ _ c.before.if-bits-lt9223372036854775808.true c.if-up-ne0.true
 
-returns-2 : tie.Need-returns-2
-returns-2 c = up_on _ _ c.before.if1.true c.if2.false
+returns-2 : tie.Need-returns-then-bits-lt9223372036854775808
+returns-2 c = up_on _ _ c.before.if-bits-lt9223372036854775808.true c.if-up-ne0.false
 
-returns-3 : tie.Need-returns-3
-returns-3 c = down_below _ _ c.before.if1.false (omega arith) c.if3.true
+returns-3 : tie.Need-returns-then-base-back
+returns-3 c = down_below _ _ c.before.if-bits-lt9223372036854775808.false (omega arith) c.if-base-back.true
 
-returns-4 : tie.Need-returns-4
-returns-4 c = down_off _ _ c.before.before.if1.false (omega arith) c.before.if3.false c.if4.true
+returns-4 : tie.Need-returns-then-down-ne0
+returns-4 c = down_off _ _ c.before.before.if-bits-lt9223372036854775808.false (omega arith) c.before.if-base-back.false c.if-down-ne0.true
 
-returns-5 : tie.Need-returns-5
-returns-5 c = down_on _ _ c.before.before.if1.false (omega arith) c.before.if3.false c.if4.false
+returns-5 : tie.Need-returns
+returns-5 c = down_on _ _ c.before.before.if-bits-lt9223372036854775808.false (omega arith) c.before.if-base-back.false c.if-down-ne0.false
 
-pub child-target-spec : {M : Type 1} → statement M
-child-target-spec =
+pub child_target_spec : {M : Type 1} → statement M
+child_target_spec =
     tie.close
     (tie.spec
     (λ c. omega arith)

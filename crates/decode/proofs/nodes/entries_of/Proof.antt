@@ -3,14 +3,14 @@ use Rattle.decode.proofs.nodes.Levels.{at_leaf, at_lower_lem, at_upper_lem}
 use Rattle.decode.proofs.nodes.entries_of.Statement.{statement}
 use Rattle.decode.proofs.nodes.entries_of.Tie as tie
 
-returns : tie.Need-returns
-returns c = at_leaf _ _ c.if1.true
+returns : tie.Need-returns-then-level-eq0
+returns c = at_leaf _ _ c.if-level-eq0.true
 
-returns-2 : tie.Need-returns-2
-returns-2 c = at_lower_lem _ _ c.if2.true
+returns-2 : tie.Need-returns-then-level-eq1
+returns-2 c = at_lower_lem _ _ c.if-level-eq1.true
 
-returns-3 : tie.Need-returns-3
-returns-3 c = at_upper_lem _ _ c.before.if1.false c.if2.false
+returns-3 : tie.Need-returns-else-level-eq1
+returns-3 c = at_upper_lem _ _ c.before.if-level-eq0.false c.if-level-eq1.false
 
-pub entries-of-spec : {M : Type 1} → statement M
-entries-of-spec = tie.close (tie.spec returns returns-2 returns-3)
+pub entries_of_spec : {M : Type 1} → statement M
+entries_of_spec = tie.close (tie.spec returns returns-2 returns-3)

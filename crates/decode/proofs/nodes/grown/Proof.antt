@@ -4,17 +4,17 @@ use Rattle.decode.proofs.nodes.Levels.{at_leaf, at_lower_lem, at_upper_lem}
 use Rattle.decode.proofs.nodes.grown.Statement.{statement}
 use Rattle.decode.proofs.nodes.grown.Tie as tie
 
-returns : tie.Need-returns
-returns c = at_leaf _ _ c.before.if1.true
+returns : tie.Need-returns-then-level-eq0
+returns c = at_leaf _ _ c.before.if-level-eq0.true
 
-returns-2 : tie.Need-returns-2
-returns-2 c = at_lower_lem _ _ c.before.if2.true
+returns-2 : tie.Need-returns-then-level-eq1
+returns-2 c = at_lower_lem _ _ c.before.if-level-eq1.true
 
-returns-3 : tie.Need-returns-3
-returns-3 c = at_upper_lem _ _ c.before.before.if1.false c.before.if2.false
+returns-3 : tie.Need-returns
+returns-3 c = at_upper_lem _ _ c.before.before.if-level-eq0.false c.before.if-level-eq1.false
 
-pub grown-spec : {M : Type 1} → statement M
-grown-spec =
+pub grown_spec : {M : Type 1} → statement M
+grown_spec =
     tie.close
     (tie.spec
     (λ c. omega arith)

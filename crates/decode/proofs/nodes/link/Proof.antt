@@ -12,20 +12,20 @@ use Rattle.decode.proofs.nodes.link.Tie as tie
 no-leaf : (c : tie.Start) → c.args.level ≡ 0 → ⊥
 no-leaf c e = room_none _ _ c.requires.0 e
 
-lower-room : (c : tie.Then1) → let a = c.before.args in length a.ll.now ≡ room_in a.level (length a.ul.now) (length a.ll.now)
-lower-room c = at_lower_lem _ _ c.if1.true
+lower-room : (c : tie.Then-level-eq1) → let a = c.before.args in length a.ll.now ≡ room_in a.level (length a.ul.now) (length a.ll.now)
+lower-room c = at_lower_lem _ _ c.if-level-eq1.true
 
-upper-room : (c : tie.Else1) → let a = c.before.args in length a.ul.now ≡ room_in a.level (length a.ul.now) (length a.ll.now)
-upper-room c = at_upper_lem _ _ (no-leaf c.before) c.if1.false
+upper-room : (c : tie.Else-level-eq1) → let a = c.before.args in length a.ul.now ≡ room_in a.level (length a.ul.now) (length a.ll.now)
+upper-room c = at_upper_lem _ _ (no-leaf c.before) c.if-level-eq1.false
 
-returns : tie.Need-returns
-returns c = (at_lower_lem _ _ c.if1.true, at_lower_lem _ _ c.if1.true)
+returns : tie.Need-returns-then-level-eq1
+returns c = (at_lower_lem _ _ c.if-level-eq1.true, at_lower_lem _ _ c.if-level-eq1.true)
 
-returns-2 : tie.Need-returns-2
-returns-2 c = (at_upper_lem _ _ (no-leaf c.before) c.if1.false, at_upper_lem _ _ (no-leaf c.before) c.if1.false)
+returns-2 : tie.Need-returns-else-level-eq1
+returns-2 c = (at_upper_lem _ _ (no-leaf c.before) c.if-level-eq1.false, at_upper_lem _ _ (no-leaf c.before) c.if-level-eq1.false)
 
-pub link-spec : {M : Type 1} → statement M
-link-spec =
+pub link_spec : {M : Type 1} → statement M
+link_spec =
     tie.close
     (tie.spec
     (λ c. omega arith)

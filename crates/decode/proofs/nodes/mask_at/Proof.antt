@@ -6,17 +6,17 @@ use Prim.Native.Nat.{ℕ, ◌+◌}
 use Rattle.decode.proofs.nodes.mask_at.Statement.{statement}
 use Rattle.decode.proofs.nodes.mask_at.Tie as tie
 
-returns : tie.Need-returns
-returns c = omega (arith, at_leaf {A = ℕ} {a = 0} 544 4128 c.if1.true)
+returns : tie.Need-returns-then-level-eq0
+returns c = omega (arith, at_leaf {A = ℕ} {a = 0} 544 4128 c.if-level-eq0.true)
 
-returns-2 : tie.Need-returns-2
-returns-2 c = ap (λ (k : ℕ). c.before.before.args.source + k) (at_lower_lem 0 4128 c.if2.true)
+returns-2 : tie.Need-returns-then-level-eq1
+returns-2 c = ap (λ (k : ℕ). c.before.before.args.source + k) (at_lower_lem 0 4128 c.if-level-eq1.true)
 
-returns-3 : tie.Need-returns-3
-returns-3 c = ap (λ (k : ℕ). c.before.before.args.source + k) (at_upper_lem 0 544 c.before.if1.false c.if2.false)
+returns-3 : tie.Need-returns-else-level-eq1
+returns-3 c = ap (λ (k : ℕ). c.before.before.args.source + k) (at_upper_lem 0 544 c.before.if-level-eq0.false c.if-level-eq1.false)
 
-pub mask-at-spec : {M : Type 1} → statement M
-mask-at-spec =
+pub mask_at_spec : {M : Type 1} → statement M
+mask_at_spec =
     tie.close
     (tie.spec
     returns

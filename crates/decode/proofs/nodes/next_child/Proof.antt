@@ -9,43 +9,43 @@ use Rattle.decode.proofs.nodes.Children.{Passed, passed_none, passed_all, passed
 use Rattle.decode.proofs.nodes.next_child.Statement.{statement}
 use Rattle.decode.proofs.nodes.next_child.Tie as tie
 
-abbrev invariant-loop : tie.invariant-loop
+abbrev invariant-loop : tie.invariant-loop-at
 invariant-loop bytes mask i n at₀ at = Passed bytes mask i n at
 
-abbrev decreases-loop : tie.decreases-loop
+abbrev decreases-loop : tie.decreases-loop-at
 decreases-loop bytes mask i n at₀ at = n - at
 
 -- places on the way to a place: the loop's turn, and the start
-abbrev at_turn : tie.After-mask-word invariant-loop decreases-loop → tie.In-loop invariant-loop decreases-loop
+abbrev at_turn : tie.After-mask_word invariant-loop decreases-loop → tie.In-loop-at invariant-loop decreases-loop
 at_turn c = c.before
 
-abbrev at-start : tie.After-mask-word invariant-loop decreases-loop → tie.Start invariant-loop decreases-loop
+abbrev at-start : tie.After-mask_word invariant-loop decreases-loop → tie.Start invariant-loop decreases-loop
 at-start c = c.before.before.before.before
 
 -- what is known there: the bytes, and the word that was read
-bytes : (c : tie.After-mask-word invariant-loop decreases-loop) → Bytes (at-start c).args.bytes.now
-bytes c i = omega (arith, c.before.before.before.shared-slice-known.given i)
+bytes : (c : tie.After-mask_word invariant-loop decreases-loop) → Bytes (at-start c).args.bytes.now
+bytes c i = omega (arith, c.before.before.before.shared_slice_known-1.given i)
 
-word : (c : tie.After-mask-word invariant-loop decreases-loop) → let at = (at_turn c).before.loop.at in let a = (at-start c).args in
-    c.mask_word_lem.result / 2 ^ (at % 64) ≡ mask_word a.bytes.now a.mask (at / 64) / 2 ^ (at % 64)
-word c = ap (λ (w : ℕ). w / 2 ^ ((at_turn c).before.loop.at % 64)) c.mask_word_lem.ensures
+word : (c : tie.After-mask_word invariant-loop decreases-loop) → let at = (at_turn c).before.loop-at.at in let a = (at-start c).args in
+    c.mask_word.result / 2 ^ (at % 64) ≡ mask_word a.bytes.now a.mask (at / 64) / 2 ^ (at % 64)
+word c = ap (λ (w : ℕ). w / 2 ^ ((at_turn c).before.loop-at.at % 64)) c.mask_word.ensures
 
-few : (c : tie.Then1 invariant-loop decreases-loop)
-    → count_trailing_zeros 64 (c.before.mask_word_lem.result / 2 ^ ((at_turn c.before).before.loop.at % 64)) ≤ 64
-few c = trailing_le 64 (c.before.mask_word_lem.result / 2 ^ ((at_turn c.before).before.loop.at % 64))
+few : (c : tie.Then-left-ne0 invariant-loop decreases-loop)
+    → count_trailing_zeros 64 (c.before.mask_word.result / 2 ^ ((at_turn c.before).before.loop-at.at % 64)) ≤ 64
+few c = trailing_le 64 (c.before.mask_word.result / 2 ^ ((at_turn c.before).before.loop-at.at % 64))
 
-returns : tie.Need-returns invariant-loop decreases-loop
+returns : tie.Need-returns-then-left-ne0 invariant-loop decreases-loop
 returns c =
     let w = c.before in let l = at_turn w in
-    next_found (bytes w) l.before.loop.invariant l.loop-test.true (at-start w).requires.2 (word w) c.if1.true
+    next_found (bytes w) l.before.loop-at.invariant l.loop-at-test.true (at-start w).requires.2 (word w) c.if-left-ne0.true
 
-loop-again : tie.Need-loop-preserved invariant-loop decreases-loop
+loop-again : tie.Need-loop-at-preserved invariant-loop decreases-loop
 loop-again c =
     let w = c.before in let l = at_turn w in
-    passed_word (bytes w) l.before.loop.invariant l.loop-test.true (at-start w).requires.2 (word w) c.if1.false
+    passed_word (bytes w) l.before.loop-at.invariant l.loop-at-test.true (at-start w).requires.2 (word w) c.if-left-ne0.false
 
-pub next-child-spec : {M : Type 1} → statement M
-next-child-spec =
+pub next_child_spec : {M : Type 1} → statement M
+next_child_spec =
     tie.close
     (tie.spec
     invariant-loop
@@ -62,4 +62,4 @@ next-child-spec =
     (λ c. omega arith)
     (λ c. omega arith)
     loop-again
-    (λ c. passed_all c.before.loop.invariant c.loop-test.false))
+    (λ c. passed_all c.before.loop-at.invariant c.loop-at-test.false))

@@ -6,14 +6,14 @@ use Prim.Native.Nat.{ℕ, ◌+◌, ◌*◌}
 use Rattle.decode.proofs.nodes.slot_at.Statement.{statement}
 use Rattle.decode.proofs.nodes.slot_at.Tie as tie
 
-returns : tie.Need-returns
-returns c = ap (λ (k : ℕ). c.before.args.source + k + 8 * c.before.args.i) (at_lower_lem 96 8256 c.if1.true)
+returns : tie.Need-returns-then-level-eq1
+returns c = ap (λ (k : ℕ). c.before.args.source + k + 8 * c.before.args.i) (at_lower_lem 96 8256 c.if-level-eq1.true)
 
-returns-2 : tie.Need-returns-2
-returns-2 c = ap (λ (k : ℕ). c.before.args.source + k + 8 * c.before.args.i) (at_upper_lem 96 1088 (λ e. omega arith) c.if1.false)
+returns-2 : tie.Need-returns-else-level-eq1
+returns-2 c = ap (λ (k : ℕ). c.before.args.source + k + 8 * c.before.args.i) (at_upper_lem 96 1088 (λ e. omega arith) c.if-level-eq1.false)
 
-pub slot-at-spec : {M : Type 1} → statement M
-slot-at-spec =
+pub slot_at_spec : {M : Type 1} → statement M
+slot_at_spec =
     tie.close
     (tie.spec
     (λ c. omega arith)

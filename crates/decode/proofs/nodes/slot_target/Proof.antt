@@ -5,11 +5,11 @@ use borrow.Author.Tests.{eq-eqb, ne_eqb}
 use Rattle.decode.proofs.nodes.slot_target.Statement.{statement}
 use Rattle.decode.proofs.nodes.slot_target.Tie as tie
 
-returns : tie.Need-returns
-returns c = sym (rw (eq-eqb c.before.args.bits 0 c.if1.true))
+returns : tie.Need-returns-then-bits-eq0
+returns c = sym (rw (eq-eqb c.before.args.bits 0 c.if-bits-eq0.true))
 
-returns-2 : tie.Need-returns-2
-returns-2 c = c.child_target_lem.ensures ∙ sym (rw (ne_eqb c.before.before.args.bits 0 c.before.if1.false))
+returns-2 : tie.Need-returns
+returns-2 c = c.child_target.ensures ∙ sym (rw (ne_eqb c.before.before.args.bits 0 c.before.if-bits-eq0.false))
 
-pub slot-target-spec : {M : Type 1} → statement M
-slot-target-spec = tie.close (tie.spec returns (λ c κs. search rules) returns-2)
+pub slot_target_spec : {M : Type 1} → statement M
+slot_target_spec = tie.close (tie.spec returns (λ c κs. search rules) returns-2)

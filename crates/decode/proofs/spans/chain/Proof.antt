@@ -10,8 +10,8 @@ returns : tie.Need-returns
 unfolding chain_in
 returns c = (refl, mod-lt _ c.requires.0)
 
-pub chain-spec : {M : Type 1} → statement M
-chain-spec =
+pub chain_spec : {M : Type 1} → statement M
+chain_spec =
     tie.close
     (tie.spec
     (λ c. omega arith)

@@ -10,16 +10,16 @@ use Rattle.decode.proofs.spans.claim.Statement.{statement}
 use Rattle.decode.proofs.spans.claim.Tie as tie
 
 -- ---- places on the way to a place: the size, the two tests of the end, and `meets`
-abbrev at_size : tie.Else2 → tie.After-size-of
+abbrev at_size : tie.Else-len-start-2 → tie.After-size_of-size
 at_size c = c.before.before
 
-abbrev at-inside : tie.After-meets → tie.Else2
+abbrev at-inside : tie.After-meets → tie.Else-len-start-2
 at-inside c = c.before.before
 
-abbrev at-free : tie.After-push-arg → tie.Else3
+abbrev at-free : tie.After-push-arg-1 → tie.Else-meets
 at-free c = c.before.before.before
 
-abbrev start : tie.After-size-of → tie.Start
+abbrev start : tie.After-size_of-size → tie.Start
 start c = c.before.before
 
 -- ---- what is claimed, and what is known of it
@@ -28,49 +28,49 @@ node c =
     let a = c.args in
     record { len = a.len; words = a.work.now; spans = a.st; start = a.start; level = a.level; number = a.number }
 
-inside : (c : tie.Else2) → let n = node (start (at_size c)) in end n ≤ n.len
-inside c = omega (arith, (at_size c).size_of.ensures.0, c.before.if1.false, c.if2.false)
+inside : (c : tie.Else-len-start-2) → let n = node (start (at_size c)) in end n ≤ n.len
+inside c = omega (arith, (at_size c).size_of-size.ensures.0, c.before.if-len-start.false, c.if-len-start-2.false)
 
 met : (c : tie.After-meets) {r : Bool} → c.meets.result ≡ r → let n = node (start (at_size (at-inside c))) in overlaps (held n) n.start (end n) ≡ r
-met c is = rw (← (at_size (at-inside c)).size_of.ensures.0) (sym c.meets.ensures ∙ is)
+met c is = rw (← (at_size (at-inside c)).size_of-size.ensures.0) (sym c.meets.ensures ∙ is)
 
 -- ---- the calls
 meets-requires : tie.Need-meets-requires
-meets-requires c κs = let z = at_size c.before in ((start z).requires.0, omega (arith, z.size_of.ensures.1))
+meets-requires c κs = let z = at_size c.before in ((start z).requires.0, omega (arith, z.size_of-size.ensures.1))
 
-push-requires : tie.Need-push-requires
+push-requires : tie.Need-push-next-requires
 push-requires c κs =
     let e = at-free c in let (rep, three, small) = (start (at_size (at-inside e.before))).requires in
-    ((rep, omega arith), (three, small, met e.before e.if3.false))
+    ((rep, omega arith), (three, small, met e.before e.if-meets.false))
 
 -- ---- the ways out: past the end, past the end, an overlap, no room, and a span more
-returns : tie.Need-returns
+returns : tie.Need-returns-then-len-start
 returns c =
     let z = c.before in
-    (refl, says_5 (node (start z)) (omega (arith, z.size_of.ensures.0, z.size_of.ensures.1, c.if1.true)))
+    (refl, says_5 (node (start z)) (omega (arith, z.size_of-size.ensures.0, z.size_of-size.ensures.1, c.if-len-start.true)))
 
-returns-2 : tie.Need-returns-2
+returns-2 : tie.Need-returns-then-len-start-2
 returns-2 c =
     let e = c.before in let z = e.before in
-    (refl, says_5 (node (start z)) (omega (arith, z.size_of.ensures.0, e.if1.false, c.if2.true)))
+    (refl, says_5 (node (start z)) (omega (arith, z.size_of-size.ensures.0, e.if-len-start.false, c.if-len-start-2.true)))
 
-returns-3 : tie.Need-returns-3
+returns-3 : tie.Need-returns-then-meets
 returns-3 c =
     let m = c.before in let e = at-inside m in
-    (refl, says_6 (node (start (at_size e))) (inside e) (met m c.if3.true))
+    (refl, says_6 (node (start (at_size e))) (inside e) (met m c.if-meets.true))
 
-returns-4 : tie.Need-returns-4
+returns-4 : tie.Need-returns-then-work-st
 returns-4 c =
     let g = c.before.before in let m = g.before in let e = at-inside m in
-    (refl, says_9 (node (start (at_size e))) (inside e) (met m g.if3.false) (omega arith))
+    (refl, says_9 (node (start (at_size e))) (inside e) (met m g.if-meets.false) (omega arith))
 
-returns-5 : tie.Need-returns-5
+returns-5 : tie.Need-returns
 returns-5 c =
     let p = c.before.before in let g = at-free p.before in let m = g.before in let e = at-inside m in
-    (p.push.ensures, says_ok (node (start (at_size e))) (inside e) (met m g.if3.false) (omega arith))
+    (p.push-next.ensures, says_ok (node (start (at_size e))) (inside e) (met m g.if-meets.false) (omega arith))
 
-pub claim-spec : {M : Type 1} → statement M
-claim-spec =
+pub claim_spec : {M : Type 1} → statement M
+claim_spec =
     tie.close
     (tie.spec
     (λ c κs. search rules)

@@ -8,23 +8,23 @@ use mathlib.Core.Path.{◌≡◌, refl}
 use Rattle.decode.proofs.spans.clear.Statement.{statement}
 use Rattle.decode.proofs.spans.clear.Tie as tie
 
-abbrev invariant-loop : tie.invariant-loop
+abbrev invariant-loop : tie.invariant-loop-h
 invariant-loop work₀ n h₀ work h = (h ≤ n) × ((length work ≡ length work₀) × ((j : ℕ) → j < h → chain_head work j ≡ 0))
 
-abbrev decreases-loop : tie.decreases-loop
+abbrev decreases-loop : tie.decreases-loop-h
 decreases-loop work₀ n h₀ work h = n - h
 
-loop-holds : tie.Need-loop-init invariant-loop decreases-loop
+loop-holds : tie.Need-loop-h-init invariant-loop decreases-loop
 loop-holds c = (omega arith, (refl, λ j l. absurd (omega arith)))
 
-loop-again : tie.Need-loop-preserved invariant-loop decreases-loop
-loop-again c = (omega arith, (simp length-set c.before.loop.invariant.1.0, clear_next _ _ (omega arith) c.before.loop.invariant.1.1))
+loop-again : tie.Need-loop-h-preserved invariant-loop decreases-loop
+loop-again c = (omega arith, (simp length-set c.before.loop-h.invariant.1.0, clear_next _ _ (omega arith) c.before.loop-h.invariant.1.1))
 
-same_length : tie.Need-same-length invariant-loop decreases-loop
-same_length c = c.before.loop.invariant.1.0
+same_length : tie.Need-shape_of-work invariant-loop decreases-loop
+same_length c = c.before.loop-h.invariant.1.0
 
 returns : tie.Need-returns invariant-loop decreases-loop
-returns c = (clear_rep _ _ (omega arith) (omega arith) c.before.loop.invariant.1.1, c.before.loop.invariant.1.0)
+returns c = (clear_rep _ _ (omega arith) (omega arith) c.before.loop-h.invariant.1.1, c.before.loop-h.invariant.1.0)
 
 pub clear_spec : {M : Type 1} → statement M
 clear_spec =

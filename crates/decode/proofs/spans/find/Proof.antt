@@ -7,40 +7,40 @@ use Rattle.decode.proofs.spans.Laws.{seen_at, seen_no, quot_small, number_small}
 use Rattle.decode.proofs.spans.find.Statement.{statement}
 use Rattle.decode.proofs.spans.find.Tie as tie
 
-abbrev at-start : tie.After-find-in → tie.Start
+abbrev at-start : tie.After-find_in-r → tie.Start
 at-start c = c.before.before.before.before
 
-chain-requires : tie.Need-chain-requires
+chain-requires : tie.Need-chain-h-requires
 chain-requires c κs =
     let s = c.before.before in
-    (omega (arith, s.requires.0.room), (quot_small s.args.start c.size_of.result (omega arith) c.size_of.ensures.1.0, s.requires.1))
+    (omega (arith, s.requires.0.room), (quot_small s.args.start c.size_of-size.result (omega arith) c.size_of-size.ensures.1.0, s.requires.1))
 
-find-in-requires : tie.Need-find-in-requires
+find-in-requires : tie.Need-find_in-r-requires
 find-in-requires c κs =
-    let z = c.before in (z.before.before.requires.0, (c.chain.ensures.1, rw (← z.size_of.ensures.0) c.chain.ensures.0))
+    let z = c.before in (z.before.before.requires.0, (c.chain-h.ensures.1, rw (← z.size_of-size.ensures.0) c.chain-h.ensures.0))
 
-cast-t17 : tie.Need-overflow-cast-t17
+cast-t17 : tie.Need-overflow_cast-result
 unfolding node_number
 cast-t17 c =
     let f = c.before.before in
-    let s = number_small (at-start f).requires.0 (pos_of_ne-zero c.before.if1.false) f.find-in.ensures in
+    let s = number_small (at-start f).requires.0 (pos_of_ne-zero c.before.if-r-eq0.false) f.find_in-r.ensures in
     record { fits = omega arith }
 
-returns : tie.Need-returns
-returns c = (seen_no c.before.find-in.ensures _ _ (at-start c.before).requires.1 c.if1.true, tt)
+returns : tie.Need-returns-then-r-eq0
+returns c = (seen_no c.before.find_in-r.ensures _ _ (at-start c.before).requires.1 c.if-r-eq0.true, tt)
 
-returns-2 : tie.Need-returns-2
+returns-2 : tie.Need-returns
 unfolding node_number
 returns-2 c =
-    let f = c.before.before in let (rep, three) = (at-start f).requires in let found = pos_of_ne-zero c.before.if1.false in
-    (seen_at f.find-in.ensures _ _ rep three found, number_small rep found f.find-in.ensures)
+    let f = c.before.before in let (rep, three) = (at-start f).requires in let found = pos_of_ne-zero c.before.if-r-eq0.false in
+    (seen_at f.find_in-r.ensures _ _ rep three found, number_small rep found f.find_in-r.ensures)
 
 pub find_spec : {M : Type 1} → statement M
 find_spec =
     tie.close
     (tie.spec
     (λ c κs. search rules)
-    (λ c. omega (arith, c.size_of.ensures.1))
+    (λ c. omega (arith, c.size_of-size.ensures.1))
     chain-requires
     find-in-requires
     returns

@@ -8,51 +8,51 @@ use Rattle.decode.proofs.spans.Laws.{Walk, walk_start, walk_less, walk_next, fou
 use Rattle.decode.proofs.spans.find_in.Statement.{statement}
 use Rattle.decode.proofs.spans.find_in.Tie as tie
 
-abbrev invariant-loop : tie.invariant-loop
+abbrev invariant-loop : tie.invariant-loop-v
 invariant-loop work count h start level v₀ v = Walk work count h (λ (i : ℕ). hits work i start level) v
 
-abbrev decreases-loop : tie.decreases-loop
+abbrev decreases-loop : tie.decreases-loop-v
 decreases-loop work count h start level v₀ v = v
 
 -- ---- places on the way to a place: the turn of the loop, and the start
-abbrev at_turn : tie.After-hit invariant-loop decreases-loop → tie.In-loop invariant-loop decreases-loop
+abbrev at_turn : tie.After-hit invariant-loop decreases-loop → tie.In-loop-v invariant-loop decreases-loop
 at_turn c = c.before.before.before
 
-abbrev at-start : tie.At-loop invariant-loop decreases-loop → tie.Start invariant-loop decreases-loop
+abbrev at-start : tie.At-loop-v invariant-loop decreases-loop → tie.Start invariant-loop decreases-loop
 at-start c = c.before.before.before
 
 -- what `hit` answers of the node before v
 tested : (c : tie.After-hit invariant-loop decreases-loop) → let l = (at_turn c).before in let a = (at-start l).args in
-    c.hit.result ≡ hits a.work.now (l.loop.v - 1) a.start a.level
+    c.hit.result ≡ hits a.work.now (l.loop-v.v - 1) a.start a.level
 unfolding hits node_start node_level
 tested c = c.hit.ensures
 
-loop-holds : tie.Need-loop-init invariant-loop decreases-loop
+loop-holds : tie.Need-loop-v-init invariant-loop decreases-loop
 unfolding chain_head
 loop-holds c = let s = c.before.before in walk_start s.requires.0 s.requires.1.0
 
-loop-less : tie.Need-loop-smaller invariant-loop decreases-loop
+loop-less : tie.Need-loop-v-smaller invariant-loop decreases-loop
 unfolding chain_link
 loop-less c =
     let l = at_turn c.before.before in
-    walk_less (at-start l.before).requires.0 l.loop-test.true l.before.loop.invariant
+    walk_less (at-start l.before).requires.0 l.loop-v-test.true l.before.loop-v.invariant
 
-loop-again : tie.Need-loop-preserved invariant-loop decreases-loop
+loop-again : tie.Need-loop-v-preserved invariant-loop decreases-loop
 unfolding chain_link
 loop-again c =
     let l = at_turn c.before.before in
-    walk_next (at-start l.before).requires.0 l.loop-test.true l.before.loop.invariant (sym (tested c.before.before) ∙ c.before.if1.false)
+    walk_next (at-start l.before).requires.0 l.loop-v-test.true l.before.loop-v.invariant (sym (tested c.before.before) ∙ c.before.if-hit.false)
 
-returns : tie.Need-returns invariant-loop decreases-loop
+returns : tie.Need-returns-then-hit invariant-loop decreases-loop
 returns c =
     let l = at_turn c.before in
-    found_here l.before.loop.invariant l.loop-test.true (sym (tested c.before) ∙ c.if1.true)
+    found_here l.before.loop-v.invariant l.loop-v-test.true (sym (tested c.before) ∙ c.if-hit.true)
 
-returns-2 : tie.Need-returns-2 invariant-loop decreases-loop
-returns-2 c = found_none c.before.loop.invariant c.loop-test.false (at-start c.before).requires.1.1
+returns-2 : tie.Need-returns invariant-loop decreases-loop
+returns-2 c = found_none c.before.loop-v.invariant c.loop-v-test.false (at-start c.before).requires.1.1
 
-pub find-in-spec : {M : Type 1} → statement M
-find-in-spec =
+pub find_in_spec : {M : Type 1} → statement M
+find_in_spec =
     tie.close
     (tie.spec
     invariant-loop

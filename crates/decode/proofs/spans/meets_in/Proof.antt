@@ -8,51 +8,51 @@ use Rattle.decode.proofs.spans.Laws.{Walk, walk_start, walk_less, walk_next, met
 use Rattle.decode.proofs.spans.meets_in.Statement.{statement}
 use Rattle.decode.proofs.spans.meets_in.Tie as tie
 
-abbrev invariant-loop : tie.invariant-loop
+abbrev invariant-loop : tie.invariant-loop-v
 invariant-loop work count h start end v₀ v = Walk work count h (λ (i : ℕ). over work i start end) v
 
-abbrev decreases-loop : tie.decreases-loop
+abbrev decreases-loop : tie.decreases-loop-v
 decreases-loop work count h start end v₀ v = v
 
 -- ---- places on the way to a place: the turn of the loop, and the start
-abbrev at_turn : tie.After-over invariant-loop decreases-loop → tie.In-loop invariant-loop decreases-loop
+abbrev at_turn : tie.After-over invariant-loop decreases-loop → tie.In-loop-v invariant-loop decreases-loop
 at_turn c = c.before.before.before
 
-abbrev at-start : tie.At-loop invariant-loop decreases-loop → tie.Start invariant-loop decreases-loop
+abbrev at-start : tie.At-loop-v invariant-loop decreases-loop → tie.Start invariant-loop decreases-loop
 at-start c = c.before.before.before
 
 -- what `over` answers of the node before v
 tested : (c : tie.After-over invariant-loop decreases-loop) → let l = (at_turn c).before in let a = (at-start l).args in
-    c.over.result ≡ over a.work.now (l.loop.v - 1) a.start a.end
+    c.over.result ≡ over a.work.now (l.loop-v.v - 1) a.start a.end
 unfolding over node_start node_level
 tested c = c.over.ensures
 
-loop-holds : tie.Need-loop-init invariant-loop decreases-loop
+loop-holds : tie.Need-loop-v-init invariant-loop decreases-loop
 unfolding chain_head
 loop-holds c = let s = c.before.before in walk_start s.requires.0 s.requires.1
 
-loop-less : tie.Need-loop-smaller invariant-loop decreases-loop
+loop-less : tie.Need-loop-v-smaller invariant-loop decreases-loop
 unfolding chain_link
 loop-less c =
     let l = at_turn c.before.before in
-    walk_less (at-start l.before).requires.0 l.loop-test.true l.before.loop.invariant
+    walk_less (at-start l.before).requires.0 l.loop-v-test.true l.before.loop-v.invariant
 
-loop-again : tie.Need-loop-preserved invariant-loop decreases-loop
+loop-again : tie.Need-loop-v-preserved invariant-loop decreases-loop
 unfolding chain_link
 loop-again c =
     let l = at_turn c.before.before in
-    walk_next (at-start l.before).requires.0 l.loop-test.true l.before.loop.invariant (sym (tested c.before.before) ∙ c.before.if1.false)
+    walk_next (at-start l.before).requires.0 l.loop-v-test.true l.before.loop-v.invariant (sym (tested c.before.before) ∙ c.before.if-over.false)
 
-returns : tie.Need-returns invariant-loop decreases-loop
+returns : tie.Need-returns-then-over invariant-loop decreases-loop
 returns c =
     let l = at_turn c.before in
-    met_here l.before.loop.invariant l.loop-test.true (sym (tested c.before) ∙ c.if1.true)
+    met_here l.before.loop-v.invariant l.loop-v-test.true (sym (tested c.before) ∙ c.if-over.true)
 
-returns-2 : tie.Need-returns-2 invariant-loop decreases-loop
-returns-2 c = met_none c.before.loop.invariant c.loop-test.false
+returns-2 : tie.Need-returns invariant-loop decreases-loop
+returns-2 c = met_none c.before.loop-v.invariant c.loop-v-test.false
 
-pub meets-in-spec : {M : Type 1} → statement M
-meets-in-spec =
+pub meets_in_spec : {M : Type 1} → statement M
+meets_in_spec =
     tie.close
     (tie.spec
     invariant-loop

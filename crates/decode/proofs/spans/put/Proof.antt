@@ -7,13 +7,13 @@ use borrow.Author.Rules.{rules}
 use Rattle.decode.proofs.spans.put.Statement.{statement}
 use Rattle.decode.proofs.spans.put.Tie as tie
 
-slice-write-work-2 : tie.Need-slice-write-work-2
+slice-write-work-2 : tie.Need-bounds-work-count-2
 slice-write-work-2 c = simp length-set (omega arith)
 
-slice-write-work-3 : tie.Need-slice-write-work-3
+slice-write-work-3 : tie.Need-bounds-work-count-3
 slice-write-work-3 c = simp length-set (omega arith)
 
-slice-write-work-4 : tie.Need-slice-write-work-4
+slice-write-work-4 : tie.Need-bounds-work-h-2
 slice-write-work-4 c = simp length-set (omega arith)
 
 returns : tie.Need-returns

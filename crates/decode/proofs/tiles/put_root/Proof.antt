@@ -8,21 +8,21 @@ use borrow.Author.Rules.{rules}
 use Rattle.decode.proofs.tiles.put_root.Statement.{statement}
 use Rattle.decode.proofs.tiles.put_root.Tie as tie
 
-slice-set-from-blocks-2 : tie.Need-slice-set-from-blocks-2
+slice-set-from-blocks-2 : tie.Need-bounds-blocks-i-2
 slice-set-from-blocks-2 c = simp length-set (omega arith)
 
-slice-set-from-blocks-3 : tie.Need-slice-set-from-blocks-3
+slice-set-from-blocks-3 : tie.Need-bounds-blocks-i-3
 slice-set-from-blocks-3 c = simp length-set (omega arith)
 
 returns : tie.Need-returns
 returns c =
     let y = c.before in let x = y.before in let s = x.before.before.before in let a = s.args in let (room, links, values) = s.requires in
     root_put a.key a.link a.value (root_tabs a.blocks.now a.rl.now a.rv.now) room links values
-    (i32_seen _ _ x.key-field.type-inv x.key-field.ensures) (i32_seen _ _ y.key-field2.type-inv y.key-field2.ensures)
-    (i32_seen _ _ c.key-field3.type-inv c.key-field3.ensures)
+    (i32_seen _ _ x.key_field.type_inv x.key_field.ensures) (i32_seen _ _ y.key_field-2.type_inv y.key_field-2.ensures)
+    (i32_seen _ _ c.key_field-3.type_inv c.key_field-3.ensures)
 
-pub put-root-spec : {M : Type 1} → statement M
-put-root-spec =
+pub put_root_spec : {M : Type 1} → statement M
+put_root_spec =
     tie.close
     (tie.spec
     (λ c κs. search rules)

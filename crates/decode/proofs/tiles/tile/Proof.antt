@@ -15,43 +15,43 @@ use Rattle.decode.proofs.tiles.tile.Statement.{statement}
 use Rattle.decode.proofs.tiles.tile.Tie as tie
 
 -- ---- places on the way to a place: the start, the key, the word, the target, the node below
-abbrev at-start : tie.After-u64-at → tie.Start
+abbrev at-start : tie.After-u64_at-key → tie.Start
 at-start c = c.before.before.before.before.before.before.before.before.before.before
 
-abbrev at_key : tie.Else1 → tie.After-u64-at
+abbrev at_key : tie.Else-not-key_passes → tie.After-u64_at-key
 at_key c = c.before.before
 
-abbrev at_value : tie.After-put-root-arg3 → tie.Then2
+abbrev at_value : tie.After-put_root-arg-then-relative-eq0-2-1 → tie.Then-relative-eq0
 at_value c = c.before.before.before
 
-abbrev at-put : tie.After-slice-known10 → tie.After-put-root
+abbrev at-put : tie.After-slice_known-then-relative-eq0-2-1 → tie.After-put_root
 at-put c = c.before.before.before.before.before
 
-abbrev at-args : tie.After-node-arg6 → tie.After-to
+abbrev at-args : tie.After-node-arg-in-At-5-1 → tie.In-At-2
 at-args c = c.before.before.before.before.before.before.before
 
-abbrev at-refusal : tie.After-e2 → tie.After-node
+abbrev at-refusal : tie.In-Refused-node-2 → tie.After-node
 at-refusal c = c.before.before.before.before.before.before.before.before.before.before.before.before.before.before
 
-abbrev at-node : tie.After-k → tie.After-node
+abbrev at-node : tie.In-Node-2 → tie.After-node
 at-node c = c.before.before.before.before.before.before.before.before.before.before.before.before.before.before
 
-abbrev at-k : tie.After-put-root-arg6 → tie.After-k
+abbrev at-k : tie.After-put_root-arg-in-Node-3-1 → tie.In-Node-2
 at-k c = c.before.before.before.before
 
-abbrev at-put₂ : tie.After-slice-known18 → tie.After-put-root2
+abbrev at-put₂ : tie.After-slice_known-in-Node-2-1 → tie.After-put_root-in-Node
 at-put₂ c = c.before.before.before.before.before
 
-abbrev at_target : tie.After-to → tie.After-child-target
+abbrev at_target : tie.In-At-2 → tie.After-child_target
 at_target c = c.before.before
 
-abbrev at-word : tie.After-put-root → tie.Then2
+abbrev at-word : tie.After-put_root → tie.Then-relative-eq0
 at-word c = at_value c.before.before
 
-abbrev at-to : tie.After-node → tie.After-to
+abbrev at-to : tie.After-node → tie.In-At-2
 at-to c = at-args c.before
 
-abbrev start : tie.Else1 → tie.Start
+abbrev start : tie.Else-not-key_passes → tie.Start
 start c = at-start (at_key c)
 
 abbrev node-start : tie.After-node → tie.Start
@@ -67,24 +67,24 @@ read c = let (_, (_, (_, (_, (work, (ul, (uv, (ll, (lv, (leaves, _)))))))))) = c
 abbrev roots : tie.Start → RootTabs
 roots c = let a = c.args in root_tabs a.blocks.now a.rl.now a.rv.now
 
-abbrev roots-put : tie.After-put-root → RootTabs
-roots-put c = let (blocks, (rl, (rv, _))) = c.put-root.new in root_tabs blocks rl rv
+abbrev roots-put : tie.After-put_root → RootTabs
+roots-put c = let (blocks, (rl, (rv, _))) = c.put_root.new in root_tabs blocks rl rv
 
 -- ---- what is known there
-keyed : (c : tie.Else1) → let a = (start c).args in Keyed a.bytes.now a.root a.i (at_key c).u64-at.result
-keyed c = record { is = (at_key c).u64-at.ensures; passes = sym c.before.key-passes.ensures ∙ not-false _ c.if1.false }
+keyed : (c : tie.Else-not-key_passes) → let a = (start c).args in Keyed a.bytes.now a.root a.i (at_key c).u64_at-key.result
+keyed c = record { is = (at_key c).u64_at-key.ensures; passes = sym c.before.key_passes.ensures ∙ c.if-not-key_passes.false }
 
-aimed : (c : tie.After-child-target) → let e = c.before.before.before in let a = (start e).args in
-    Aimed a.bytes.now a.root a.i (at_key e).u64-at.result c.before.before.u64-at2.result c.child_target_lem.result
+aimed : (c : tie.After-child_target) → let e = c.before.before.before in let a = (start e).args in
+    Aimed a.bytes.now a.root a.i (at_key e).u64_at-key.result c.before.before.u64_at-relative.result c.child_target.result
 aimed c = record {
   keyed = keyed c.before.before.before;
-  word = c.before.before.u64-at2.ensures;
-  some = c.before.if2.false;
-  aims = c.child_target_lem.ensures;
+  word = c.before.before.u64_at-relative.ensures;
+  some = c.before.if-relative-eq0.false;
+  aims = c.child_target.ensures;
 }
 
 read_node : (c : tie.After-node) → let s = node-start c in
-    NodeOut 2 s.args.bytes.now (at-to c).to.given.0.0 (lent s) s.args.st (read c) c.node.result
+    NodeOut 2 s.args.bytes.now (at-to c).to-1.given.0.0 (lent s) s.args.st (read c) c.node.result
 read_node c = c.node.ensures
 
 keeps : (c : tie.After-node) → Kept (lent (node-start c)) (read c)
@@ -92,9 +92,9 @@ keeps c =
     let (_, (_, (_, (_, (work, (ul, (uv, (ll, (lv, (leaves, _)))))))))) = c.node.auto in
     record { work = work; upper_links = ul; upper_values = uv; lower_links = ll; lower_values = lv; leaf_values = leaves }
 
-put-value : (c : tie.After-put-root) → let e = (at-word c).before.before in
-    RootPut (start e).args.i (at_key e).u64-at.result 0 c.before.f32-at.result (roots (start e)) (roots-put c)
-put-value c = c.put-root.ensures
+put-value : (c : tie.After-put_root) → let e = (at-word c).before.before in
+    RootPut (start e).args.i (at_key e).u64_at-key.result 0 c.before.f32_at.result (roots (start e)) (roots-put c)
+put-value c = c.put_root.ensures
 
 -- the tile's place in the tables of the roots
 places : (c : tie.Start) → (3 * c.args.i + 3 ≤ length c.args.blocks.now) × (c.args.i < length c.args.rl.now)
@@ -102,28 +102,28 @@ places : (c : tie.Start) → (3 * c.args.i + 3 ≤ length c.args.blocks.now) × 
 places c = (c.requires.3, c.requires.4, omega (arith, c.requires.4, c.requires.5))
 
 -- ---- the calls
-abbrev first : tie.After-slice-known8 → tie.Start
+abbrev first : tie.After-slice_known-8-1 → tie.Start
 first c = c.before.before.before.before.before.before.before.before.before
 
-add_at : tie.Need-overflow-add-at
+add_at : tie.Need-overflow_add-at
 add_at c = omega (arith, (first c).requires.1, (first c).requires.2)
 
-mul_at : tie.Need-overflow-mul-at
+mul_at : tie.Need-overflow_mul-at
 mul_at c = omega (arith, (first c).requires.2)
 
-add-at-2 : tie.Need-overflow-add-at-2
+add-at-2 : tie.Need-overflow_add-at-2
 add-at-2 c = omega (arith, (first c).requires.1, (first c).requires.2)
 
-add-u64-at : tie.Need-overflow-add-u64-at
+add-u64-at : tie.Need-overflow_add-at-3
 add-u64-at c = omega (arith, (start c).requires.1, (start c).requires.2)
 
-add-f32-at : tie.Need-overflow-add-f32-at
+add-f32-at : tie.Need-overflow_add-at-then-relative-eq0
 add-f32-at c = let s = start (at_value c).before.before in omega (arith, s.requires.1, s.requires.2)
 
-put-root-requires : tie.Need-put-root-requires
+put-root-requires : tie.Need-put_root-requires
 put-root-requires c κs = places (start (at_value c.before).before.before)
 
-child-target-requires : tie.Need-child-target-requires
+child-target-requires : tie.Need-child_target-requires
 child-target-requires c κs = (start c.before.before).requires.1
 
 node-requires : tie.Need-node-requires
@@ -131,39 +131,39 @@ node-requires c κs =
     let s = start (at_target (at-args c)).before.before.before in
     (s.requires.0, omega arith, s.requires.6)
 
-add-put-root : tie.Need-overflow-add-put-root
+add-put-root : tie.Need-overflow_add-k
 add-put-root c =
     let k = at-k c in let n = at-node k in
-    omega (arith, node-number (read_node n) k.k.given.1)
+    omega (arith, node-number (read_node n) k.k-1.given.1)
 
-put-root-requires-2 : tie.Need-put-root-requires-2
+put-root-requires-2 : tie.Need-put_root-requires-in-Node
 put-root-requires-2 c κs = places (node-start (at-node (at-k c)))
 
 -- ---- the ways out: by the key, with a value, by the target, by the node's reader, and with a node
-returns : tie.Need-returns
-returns c = tile_out_key c.before.before.u64-at.ensures (sym c.before.key-passes.ensures ∙ not-true _ c.if1.true)
+returns : tie.Need-returns-then-not-key_passes
+returns c = tile_out_key c.before.before.u64_at-key.ensures (sym c.before.key_passes.ensures ∙ c.if-not-key_passes.true)
 
-returns-2 : tie.Need-returns-2
+returns-2 : tie.Need-returns-then-relative-eq0
 returns-2 c =
     let p = at-put c in let w = at-word p in let e = w.before.before in
-    tile_out_value (keyed e) (start e).requires.6 w.before.u64-at2.ensures w.if2.true p.before.f32-at.ensures (put-value p)
+    tile_out_value (keyed e) (start e).requires.6 w.before.u64_at-relative.ensures w.if-relative-eq0.true p.before.f32_at.ensures (put-value p)
 
-returns-3 : tie.Need-returns-3
-returns-3 c = tile_out_off (aimed c.before.before.before) c.before.e.given.1
+returns-3 : tie.Need-returns-in-Refused
+returns-3 c = tile_out_off (aimed c.before.before.before) c.before.e-1.given.1
 
-returns-4 : tie.Need-returns-4
+returns-4 : tie.Need-returns-in-Refused-node
 returns-4 c =
     let n = at-refusal c.before in let a = at-to n in
-    tile_out_refused (aimed (at_target a)) a.to.given.1 (read_node n) {v = roots (node-start n)} c.before.e2.given.1
+    tile_out_refused (aimed (at_target a)) a.to-1.given.1 (read_node n) {v = roots (node-start n)} c.before.e-in-Refused-node-1.given.1
 
-returns-5 : tie.Need-returns-5
+returns-5 : tie.Need-returns-in-Node
 returns-5 c =
     let p = at-put₂ c in let k = at-k p.before in let n = at-node k in let a = at-to n in
-    tile_out_child (aimed (at_target a)) a.to.given.1 (read_node n) k.k.given.1 refl (zero_literal binary32)
-    p.put-root2.ensures
+    tile_out_child (aimed (at_target a)) a.to-1.given.1 (read_node n) k.k-1.given.1 refl (zero_literal binary32)
+    p.put_root-in-Node.ensures
 
-pub tile-spec : {M : Type 1} → statement M
-tile-spec =
+pub tile_spec : {M : Type 1} → statement M
+tile_spec =
     tie.close
     (tie.spec
     add_at

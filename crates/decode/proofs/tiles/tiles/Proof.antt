@@ -12,31 +12,31 @@ use Rattle.decode.proofs.tiles.Turns.{Row, row_begins, row_more, tiles_stop, til
 use Rattle.decode.proofs.tiles.tiles.Statement.{statement}
 use Rattle.decode.proofs.tiles.tiles.Tie as tie
 
-abbrev invariant-loop : tie.invariant-loop
+abbrev invariant-loop : tie.invariant-loop-i
 invariant-loop bytes root count work₀ blocks₀ rl₀ rv₀ ul₀ uv₀ ll₀ lv₀ leaves₀ now₀ i₀ work blocks rl rv ul uv ll lv leaves now i =
     Row bytes root count (tabs work₀ ul₀ uv₀ ll₀ lv₀ leaves₀) (root_tabs blocks₀ rl₀ rv₀) now₀
     (tabs work ul uv ll lv leaves) (root_tabs blocks rl rv) now i
 
-abbrev decreases-loop : tie.decreases-loop
+abbrev decreases-loop : tie.decreases-loop-i
 decreases-loop bytes root count work₀ blocks₀ rl₀ rv₀ ul₀ uv₀ ll₀ lv₀ leaves₀ now₀ i₀ work blocks rl rv ul uv ll lv leaves now i = count - i
 
 -- ---- places on the way to a place: the start, the turn of the loop, the tile
-abbrev at-start : tie.After-slice-known8 invariant-loop decreases-loop → tie.Start invariant-loop decreases-loop
+abbrev at-start : tie.After-slice_known-8-1 invariant-loop decreases-loop → tie.Start invariant-loop decreases-loop
 at-start c = c.before.before.before.before.before.before.before.before.before
 
-abbrev at_turn : tie.After-tile-arg9 invariant-loop decreases-loop → tie.In-loop invariant-loop decreases-loop
+abbrev at_turn : tie.After-tile-arg-in-loop-i-8-1 invariant-loop decreases-loop → tie.In-loop-i invariant-loop decreases-loop
 at_turn c = c.before.before.before.before.before.before.before.before.before
 
-abbrev at-refusal : tie.After-e invariant-loop decreases-loop → tie.After-tile invariant-loop decreases-loop
+abbrev at-refusal : tie.In-Stop-2 invariant-loop decreases-loop → tie.After-tile invariant-loop decreases-loop
 at-refusal c = c.before.before.before.before.before.before.before.before.before.before.before.before.before.before.before.before.before.before.before
 
-abbrev at-tile : tie.After-s invariant-loop decreases-loop → tie.After-tile invariant-loop decreases-loop
+abbrev at-tile : tie.In-Next-2 invariant-loop decreases-loop → tie.After-tile invariant-loop decreases-loop
 at-tile c = c.before.before.before.before.before.before.before.before.before.before.before.before.before.before.before.before.before.before.before
 
-abbrev turn : tie.After-tile invariant-loop decreases-loop → tie.In-loop invariant-loop decreases-loop
+abbrev turn : tie.After-tile invariant-loop decreases-loop → tie.In-loop-i invariant-loop decreases-loop
 turn c = at_turn c.before
 
-abbrev start : tie.At-loop invariant-loop decreases-loop → tie.Start invariant-loop decreases-loop
+abbrev start : tie.At-loop-i invariant-loop decreases-loop → tie.Start invariant-loop decreases-loop
 start c = at-start c.before
 
 -- ---- the tables as they are lent, in the loop, and behind a tile
@@ -44,11 +44,11 @@ abbrev lent : tie.Start invariant-loop decreases-loop → Tables
 lent c = let a = c.args in
     all_tables (tabs a.work.now a.ul.now a.uv.now a.ll.now a.lv.now a.leaves.now) (root_tabs a.blocks.now a.rl.now a.rv.now)
 
-abbrev nodes : tie.At-loop invariant-loop decreases-loop → Tabs
-nodes c = let l = c.loop in tabs l.work l.ul l.uv l.ll l.lv l.leaves
+abbrev nodes : tie.At-loop-i invariant-loop decreases-loop → Tabs
+nodes c = let l = c.loop-i in tabs l.work l.ul l.uv l.ll l.lv l.leaves
 
-abbrev roots : tie.At-loop invariant-loop decreases-loop → RootTabs
-roots c = let l = c.loop in root_tabs l.blocks l.rl l.rv
+abbrev roots : tie.At-loop-i invariant-loop decreases-loop → RootTabs
+roots c = let l = c.loop-i in root_tabs l.blocks l.rl l.rv
 
 abbrev nodes-after : tie.After-tile invariant-loop decreases-loop → Tabs
 nodes-after c =
@@ -74,41 +74,41 @@ tile-keeps c =
       work = work;
     }
 
-keeps : (c : tie.After-e invariant-loop decreases-loop) → let p = at-refusal c in Kept (lent (start (turn p).before)) (all_tables (nodes-after p) (roots-after p))
-keeps c = let p = at-refusal c in kept_on (turn p).before.loop.invariant.kept (tile-keeps p)
+keeps : (c : tie.In-Stop-2 invariant-loop decreases-loop) → let p = at-refusal c in Kept (lent (start (turn p).before)) (all_tables (nodes-after p) (roots-after p))
+keeps c = let p = at-refusal c in kept_on (turn p).before.loop-i.invariant.kept (tile-keeps p)
 
 -- ---- the call and the loop
 tile-requires : tie.Need-tile-requires invariant-loop decreases-loop
 tile-requires c κs =
-    let l = at_turn c in let s = start l.before in let kept = l.before.loop.invariant.kept in (
+    let l = at_turn c in let s = start l.before in let kept = l.before.loop-i.invariant.kept in (
       s.requires.0,
       s.requires.1,
-      omega (arith, l.loop-test.true, s.requires.2),
-      omega (arith, l.loop-test.true, kept.blocks, s.requires.3, s.requires.4),
-      omega (arith, l.loop-test.true, kept.root_links, s.requires.4),
+      omega (arith, l.loop-i-test.true, s.requires.2),
+      omega (arith, l.loop-i-test.true, kept.blocks, s.requires.3, s.requires.4),
+      omega (arith, l.loop-i-test.true, kept.root_links, s.requires.4),
       kept.root_values ∙ s.requires.5 ∙ sym kept.root_links,
-      l.before.loop.invariant.fit,
+      l.before.loop-i.invariant.fit,
     )
 
-add-i : tie.Need-overflow-add-i invariant-loop decreases-loop
-add-i c = let l = turn (at-tile c.before) in omega (arith, l.loop-test.true, (start l.before).requires.2)
+add-i : tie.Need-overflow_add-i invariant-loop decreases-loop
+add-i c = let l = turn (at-tile c.before) in omega (arith, l.loop-i-test.true, (start l.before).requires.2)
 
-loop-again : tie.Need-loop-preserved invariant-loop decreases-loop
+loop-again : tie.Need-loop-i-preserved invariant-loop decreases-loop
 loop-again c =
     let p = at-tile c.before in let l = turn p in
-    row_more l.before.loop.invariant {u = nodes-after p} {v = roots-after p} p.tile.ensures l.loop-test.true c.before.s.given.1 (tile-keeps p)
+    row_more l.before.loop-i.invariant {u = nodes-after p} {v = roots-after p} p.tile.ensures l.loop-i-test.true c.before.s-1.given.1 (tile-keeps p)
 
 -- ---- the ways out: by a tile, and with all tiles read
-returns : tie.Need-returns invariant-loop decreases-loop
+returns : tie.Need-returns-in-Stop invariant-loop decreases-loop
 returns c =
     let p = at-refusal c.before in let l = turn p in
-    tiles_stop l.before.loop.invariant {u = nodes-after p} {v = roots-after p} p.tile.ensures l.loop-test.true c.before.e.given.1
+    tiles_stop l.before.loop-i.invariant {u = nodes-after p} {v = roots-after p} p.tile.ensures l.loop-i-test.true c.before.e-1.given.1
 
-returns-2 : tie.Need-returns-2 invariant-loop decreases-loop
-returns-2 c = tiles_end c.before.loop.invariant c.loop-test.false
+returns-2 : tie.Need-returns invariant-loop decreases-loop
+returns-2 c = tiles_end c.before.loop-i.invariant c.loop-i-test.false
 
-pub tiles-spec : {M : Type 1} → statement M
-tiles-spec =
+pub tiles_spec : {M : Type 1} → statement M
+tiles_spec =
     tie.close
     (tie.spec
     invariant-loop
@@ -130,13 +130,13 @@ tiles-spec =
     add-i
     (λ c. omega arith)
     loop-again
-    (λ c. c.before.loop.invariant.kept.work)
-    (λ c. c.before.loop.invariant.kept.blocks)
-    (λ c. c.before.loop.invariant.kept.root_links)
-    (λ c. c.before.loop.invariant.kept.root_values)
-    (λ c. c.before.loop.invariant.kept.upper_links)
-    (λ c. c.before.loop.invariant.kept.upper_values)
-    (λ c. c.before.loop.invariant.kept.lower_links)
-    (λ c. c.before.loop.invariant.kept.lower_values)
-    (λ c. c.before.loop.invariant.kept.leaf_values)
+    (λ c. c.before.loop-i.invariant.kept.work)
+    (λ c. c.before.loop-i.invariant.kept.blocks)
+    (λ c. c.before.loop-i.invariant.kept.root_links)
+    (λ c. c.before.loop-i.invariant.kept.root_values)
+    (λ c. c.before.loop-i.invariant.kept.upper_links)
+    (λ c. c.before.loop-i.invariant.kept.upper_values)
+    (λ c. c.before.loop-i.invariant.kept.lower_links)
+    (λ c. c.before.loop-i.invariant.kept.lower_values)
+    (λ c. c.before.loop-i.invariant.kept.leaf_values)
     returns-2)

@@ -13,40 +13,40 @@ use Rattle.decode.proofs.tree.read_tree.Statement.{statement}
 use Rattle.decode.proofs.tree.read_tree.Tie as tie
 
 -- ---- places on the way to a place: the start, the three tests, the root's claim and its two arms, the tiles and their two arms
-abbrev at-start : tie.Else1 → tie.Start
+abbrev at-start : tie.Else-n-lt736 → tie.Start
 at-start c = c.before.before.before.before.before.before.before.before.before.before
 
-abbrev at-root : tie.After-begin → tie.Else3
+abbrev at-root : tie.After-begin → tie.Else-n-offset
 at-root c = c.before.before.before
 
-abbrev at-refusal : tie.After-e → tie.After-begin
+abbrev at-refusal : tie.In-Refused-2 → tie.After-begin
 at-refusal c = c.before.before.before.before
 
-abbrev at-claim : tie.After-spans → tie.After-begin
+abbrev at-claim : tie.In-Done-2 → tie.After-begin
 at-claim c = c.before.before.before.before
 
-abbrev at-spans : tie.Else4 → tie.After-spans
+abbrev at-spans : tie.Else-rl-count → tie.In-Done-2
 at-spans c = c.before.before
 
-abbrev at_places : tie.After-tiles-arg9 → tie.Else4
+abbrev at_places : tie.After-tiles-arg-in-Done-8-1 → tie.Else-rl-count
 at_places c = c.before.before.before.before.before.before.before.before.before
 
-abbrev at-stop : tie.After-e2 → tie.After-tiles
+abbrev at-stop : tie.In-Stop-2 → tie.After-tiles
 at-stop c = c.before.before.before.before.before.before.before.before.before.before.before.before.before.before.before.before.before.before.before
 
-abbrev at-nodes : tie.After-nodes → tie.After-tiles
+abbrev at-nodes : tie.In-Next-2 → tie.After-tiles
 at-nodes c = c.before.before.before.before.before.before.before.before.before.before.before.before.before.before.before.before.before.before.before
 
-abbrev at-counts : tie.After-counts-pass → tie.After-nodes
+abbrev at-counts : tie.After-counts_pass → tie.In-Next-2
 at-counts c = c.before.before
 
-abbrev at_words : tie.After-u64-at → tie.Else2
+abbrev at_words : tie.After-u64_at-offset → tie.Else-work-lt4
 at_words c = c.before
 
-abbrev at_length : tie.Else2 → tie.Else1
+abbrev at_length : tie.Else-work-lt4 → tie.Else-n-lt736
 at_length c = c.before
 
-abbrev root-start : tie.Else3 → tie.Start
+abbrev root-start : tie.Else-n-offset → tie.Start
 root-start c = at-start (at_length (at_words c.before))
 
 abbrev start : tie.After-begin → tie.Start
@@ -78,22 +78,22 @@ roots-after c = let (_, (_, (_, (_, (_, (blocks, (rl, (rv, _)))))))) = c.tiles.n
 
 -- ---- what is known there
 asked : (c : tie.After-begin) → let s = start c in
-    Asked (bytes s) (nodes s) (at-root c).before.u64-at.result c.before.before.u32-at.result (words c) c.begin.result
+    Asked (bytes s) (nodes s) (at-root c).before.u64_at-offset.result c.before.before.u32_at-count.result (words c) c.begin.result
 asked c =
     let r = at-root c in
     record {
       root = record {
-        long = (at_length (at_words r.before)).if1.false;
-        words = (at_words r.before).if2.false;
-        offset-is = r.before.u64-at.ensures;
-        near = r.if3.false;
-        tiles-are = c.before.before.u32-at.ensures;
+        long = (at_length (at_words r.before)).if-n-lt736.false;
+        words = (at_words r.before).if-work-lt4.false;
+        offset-is = r.before.u64_at-offset.ensures;
+        near = r.if-n-offset.false;
+        tiles-are = c.before.before.u32_at-count.ensures;
       };
       says = c.begin.ensures;
     }
 
 tiled : (c : tie.After-tiles) → let p = begun c in let s = start p in
-    Tiled (bytes s) (nodes s) (roots s) (at-root p).before.u64-at.result p.before.before.u32-at.result (nodes-after c) (roots-after c)
+    Tiled (bytes s) (nodes s) (roots s) (at-root p).before.u64_at-offset.result p.before.before.u32_at-count.result (nodes-after c) (roots-after c)
     c.tiles.result
 tiled c =
     let e = at_places c.before in
@@ -102,8 +102,8 @@ tiled c =
       answer = _;
       spans = _;
       asked = asked (begun c);
-      done = (at-spans e).spans.given.1;
-      few = e.if4.false;
+      done = (at-spans e).spans-1.given.1;
+      few = e.if-rl-count.false;
       out = c.tiles.ensures;
     }
 
@@ -124,62 +124,62 @@ keeps c =
     })
 
 -- ---- the calls
-add-root : tie.Need-overflow-add-root
-add-root c = omega (arith, c.if3.false, (root-start c).requires.0)
+add-root : tie.Need-overflow_add-root
+add-root c = omega (arith, c.if-n-offset.false, (root-start c).requires.0)
 
-add-u32-at : tie.Need-overflow-add-u32-at
-add-u32-at c = omega (arith, c.if3.false, (root-start c).requires.0)
+add-u32-at : tie.Need-overflow_add-root-2
+add-u32-at c = omega (arith, c.if-n-offset.false, (root-start c).requires.0)
 
-add_begin : tie.Need-overflow-add-begin
-add_begin c = let r = c.before.before in omega (arith, r.if3.false, (root-start r).requires.0, c.before.u32-at.type-inv)
+add_begin : tie.Need-overflow_add-root-3
+add_begin c = let r = c.before.before in omega (arith, r.if-n-offset.false, (root-start r).requires.0, c.before.u32_at-count.type_inv)
 
-add-begin-2 : tie.Need-overflow-add-begin-2
-add-begin-2 c = let r = c.before.before in omega (arith, r.if3.false, (root-start r).requires.0, c.before.u32-at.type-inv)
+add-begin-2 : tie.Need-overflow_add-root-4
+add-begin-2 c = let r = c.before.before in omega (arith, r.if-n-offset.false, (root-start r).requires.0, c.before.u32_at-count.type_inv)
 
 tiles-requires : tie.Need-tiles-requires
 tiles-requires c κs =
     let e = at_places c in let p = at-claim (at-spans e) in
     let (short, blocks, links, upper, lower) = (start p).requires in (
       short,
-      omega (arith, (at-root p).if3.false, short),
-      omega (arith, p.before.before.u32-at.ok),
+      omega (arith, (at-root p).if-n-offset.false, short),
+      omega (arith, p.before.before.u32_at-count.ok),
       blocks,
-      e.if4.false,
+      e.if-rl-count.false,
       links,
-      tree-fit (asked p) (at-spans e).spans.given.1 upper lower,
+      tree-fit (asked p) (at-spans e).spans-1.given.1 upper lower,
     )
 
 -- ---- the ways out: by three tests, by the places of the tiles, with the tree, by `begin`, by the tiles, and by the counts
-returns : tie.Need-returns
-returns c = out-short _ c.if1.true
+returns : tie.Need-returns-then-n-lt736
+returns c = out-short _ c.if-n-lt736.true
 
-returns-2 : tie.Need-returns-2
-returns-2 c = out-spanless _ c.before.if1.false c.if2.true
+returns-2 : tie.Need-returns-then-work-lt4
+returns-2 c = out-spanless _ c.before.if-n-lt736.false c.if-work-lt4.true
 
-returns-3 : tie.Need-returns-3
-returns-3 c = let w = at_words c.before in out-past _ (at_length w).if1.false w.if2.false c.before.u64-at.ensures c.if3.true
+returns-3 : tie.Need-returns-then-n-offset
+returns-3 c = let w = at_words c.before in out-past _ (at_length w).if-n-lt736.false w.if-work-lt4.false c.before.u64_at-offset.ensures c.if-n-offset.true
 
-returns-4 : tie.Need-returns-4
-returns-4 c = let s = c.before.before in out-many (asked (at-claim s)) s.spans.given.1 c.if4.true
+returns-4 : tie.Need-returns-then-rl-count
+returns-4 c = let s = c.before.before in out-many (asked (at-claim s)) s.spans-1.given.1 c.if-rl-count.true
 
-returns-5 : tie.Need-returns-5
+returns-5 : tie.Need-returns-then-counts_pass
 returns-5 c =
     let n = at-counts c.before in
-    out-read (tiled (at-nodes n)) n.nodes.given.1 c.before.counts-pass.ensures c.if5.true
+    out-read (tiled (at-nodes n)) n.nodes-1.given.1 c.before.counts_pass.ensures c.if-counts_pass.true
 
-returns-6 : tie.Need-returns-6
-returns-6 c = out-root (asked (at-refusal c.before)) c.before.e.given.1
+returns-6 : tie.Need-returns-in-Refused
+returns-6 c = out-root (asked (at-refusal c.before)) c.before.e-1.given.1
 
-returns-7 : tie.Need-returns-7
-returns-7 c = out-tiles (tiled (at-stop c.before)) c.before.e2.given.1
+returns-7 : tie.Need-returns-in-Stop
+returns-7 c = out-tiles (tiled (at-stop c.before)) c.before.e-in-Stop-1.given.1
 
-returns-8 : tie.Need-returns-8
+returns-8 : tie.Need-returns-else-counts_pass
 returns-8 c =
     let n = at-counts c.before in
-    out-counts (tiled (at-nodes n)) n.nodes.given.1 c.before.counts-pass.ensures c.if5.false
+    out-counts (tiled (at-nodes n)) n.nodes-1.given.1 c.before.counts_pass.ensures c.if-counts_pass.false
 
-pub read-tree-spec : {M : Type 1} → statement M
-read-tree-spec =
+pub read_tree_spec : {M : Type 1} → statement M
+read_tree_spec =
     tie.close
     (tie.spec
     returns
@@ -192,7 +192,7 @@ read-tree-spec =
     (λ c κs. search rules)
     (λ c. omega arith)
     add_begin
-    (λ c. omega (arith, c.before.u32-at.type-inv))
+    (λ c. omega (arith, c.before.u32_at-count.type_inv))
     add-begin-2
     (λ c κs. omega arith)
     (λ c. search rules)

@@ -7,17 +7,17 @@ use Rattle.decode.proofs.nodes.Runs.{stored_kept, stored_next, stored_to}
 use Rattle.decode.proofs.values.leaf.Statement.{statement}
 use Rattle.decode.proofs.values.leaf.Tie as tie
 
-abbrev invariant-loop : tie.invariant-loop
+abbrev invariant-loop : tie.invariant-loop-i
 invariant-loop bytes source leaves₀ base i₀ leaves i = (i ≤ 512) × Stored (leaf_value bytes source) base 0 leaves₀ i leaves
 
-abbrev decreases-loop : tie.decreases-loop
+abbrev decreases-loop : tie.decreases-loop-i
 decreases-loop bytes source leaves₀ base i₀ leaves i = 512 - i
 
-loop-again : tie.Need-loop-preserved invariant-loop decreases-loop
-loop-again c = (omega arith, stored_next c.value_at.ensures c.before.before.loop.invariant.1)
+loop-again : tie.Need-loop-i-preserved invariant-loop decreases-loop
+loop-again c = (omega arith, stored_next c.value_at.ensures c.before.before.loop-i.invariant.1)
 
-pub leaf-spec : {M : Type 1} → statement M
-leaf-spec =
+pub leaf_spec : {M : Type 1} → statement M
+leaf_spec =
     tie.close
     (tie.spec
     invariant-loop
@@ -27,11 +27,11 @@ leaf-spec =
     (λ c. omega arith)
     (λ c. omega arith)
     (λ c κs. search rules)
-    (λ c. omega (arith, stored_kept c.before.before.loop.invariant.1))
-    (λ c. omega (arith, stored_kept c.before.before.loop.invariant.1))
-    (λ c. omega (arith, stored_kept c.before.before.loop.invariant.1))
+    (λ c. omega (arith, stored_kept c.before.before.loop-i.invariant.1))
+    (λ c. omega (arith, stored_kept c.before.before.loop-i.invariant.1))
+    (λ c. omega (arith, stored_kept c.before.before.loop-i.invariant.1))
     (λ c. omega arith)
     (λ c. omega arith)
     loop-again
-    (λ c. stored_kept c.before.loop.invariant.1)
-    (λ c. stored_to (omega arith) c.before.loop.invariant.1))
+    (λ c. stored_kept c.before.loop-i.invariant.1)
+    (λ c. stored_to (omega arith) c.before.loop-i.invariant.1))

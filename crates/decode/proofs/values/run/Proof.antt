@@ -8,14 +8,14 @@ use Rattle.decode.proofs.nodes.Runs.{stored_kept, stored_next, stored_to}
 use Rattle.decode.proofs.values.run.Statement.{statement}
 use Rattle.decode.proofs.values.run.Tie as tie
 
-abbrev invariant-loop : tie.invariant-loop
+abbrev invariant-loop : tie.invariant-loop-i
 invariant-loop bytes table values₀ base from to i₀ values i = (i ≤ to) × Stored (λ (j : ℕ). f32_at bytes (table + 8 * j)) base from values₀ i values
 
-abbrev decreases-loop : tie.decreases-loop
+abbrev decreases-loop : tie.decreases-loop-i
 decreases-loop bytes table values₀ base from to i₀ values i = to - i
 
-loop-again : tie.Need-loop-preserved invariant-loop decreases-loop
-loop-again c = (omega arith, stored_next c.value_at.ensures c.before.before.loop.invariant.1)
+loop-again : tie.Need-loop-i-preserved invariant-loop decreases-loop
+loop-again c = (omega arith, stored_next c.value_at.ensures c.before.before.loop-i.invariant.1)
 
 pub run_spec : {M : Type 1} → statement M
 run_spec =
@@ -27,11 +27,11 @@ run_spec =
     (λ c. omega arith)
     (λ c. omega arith)
     (λ c κs. search rules)
-    (λ c. omega (arith, stored_kept c.before.before.loop.invariant.1))
-    (λ c. omega (arith, stored_kept c.before.before.loop.invariant.1))
-    (λ c. omega (arith, stored_kept c.before.before.loop.invariant.1))
+    (λ c. omega (arith, stored_kept c.before.before.loop-i.invariant.1))
+    (λ c. omega (arith, stored_kept c.before.before.loop-i.invariant.1))
+    (λ c. omega (arith, stored_kept c.before.before.loop-i.invariant.1))
     (λ c. omega arith)
     (λ c. omega arith)
     loop-again
-    (λ c. stored_kept c.before.loop.invariant.1)
-    (λ c. stored_to (omega arith) c.before.loop.invariant.1))
+    (λ c. stored_kept c.before.loop-i.invariant.1)
+    (λ c. stored_to (omega arith) c.before.loop-i.invariant.1))

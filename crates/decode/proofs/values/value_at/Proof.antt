@@ -7,7 +7,7 @@ use Rattle.layout.specs.FieldLaws.{le_parts}
 use Rattle.decode.proofs.values.value_at.Statement.{statement}
 use Rattle.decode.proofs.values.value_at.Tie as tie
 
-abbrev at-start : tie.After-float-of → tie.Start
+abbrev at-start : tie.After-float_of → tie.Start
 at-start c = c.before.before.before.before
 
 returns : tie.Need-returns
@@ -15,8 +15,8 @@ returns c =
     let a = (at-start c).args in
     c.float_of.ensures ∙ ap (of_bits binary32) (omega (arith, le_parts 2 2 a.bytes.now a.at))
 
-pub value-at-spec : {M : Type 1} → statement M
-value-at-spec =
+pub value_at_spec : {M : Type 1} → statement M
+value_at_spec =
     tie.close
     (tie.spec
     (λ c κs. search rules)

@@ -25,19 +25,19 @@ none-zeroed {A} a l z h =
     let none : length l - a ≡ 0 = omega arith in
     sym (ap (λ (k : ℕ). take a l ++ replicate k z) none ∙ append-nil (take a l) ∙ take_all a l h)
 
-abbrev at-start : tie.After-zero-f32 → tie.Start
+abbrev at-start : tie.After-zero_f32 → tie.Start
 at-start c = c.before.before.before.before
 
-returns : tie.Need-returns
+returns : tie.Need-returns-then-leaves-values
 returns c =
     let z = c.before.before in let a = (at-start z).args in
-    part-zeroed (512 * a.leaves) a.values.now z.zero-f32.new.0 +0 (omega arith) z.zero-f32.ensures
+    part-zeroed (512 * a.leaves) a.values.now z.zero_f32.new.0 +0 (omega arith) z.zero_f32.ensures
 
-returns-2 : tie.Need-returns-2
+returns-2 : tie.Need-returns-else-leaves-values
 returns-2 c = let a = c.before.before.args in none-zeroed (512 * a.leaves) a.values.now +0 (omega arith)
 
-pub zero-behind-spec : {M : Type 1} → statement M
-zero-behind-spec =
+pub zero_behind_spec : {M : Type 1} → statement M
+zero_behind_spec =
     tie.close
     (tie.spec
     (λ c. search rules)

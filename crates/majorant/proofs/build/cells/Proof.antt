@@ -12,39 +12,39 @@ use Rattle.majorant.proofs.build.cells.Statement.{statement}
 use Rattle.majorant.proofs.build.cells.Tie as tie
 
 -- places
-abbrev begin : tie.After-slice-known → tie.Start
+abbrev begin : tie.After-slice_known-1 → tie.Start
 begin c = c.before.before.before.before.before.before.before.before
 
-abbrev at-slices : tie.After-z-line → tie.After-slice-known
+abbrev at-slices : tie.After-z_line → tie.After-slice_known-1
 at-slices c = c.before.before.before.before.before
 
-abbrev at_x : tie.After-axis-table3 → tie.After-axis-table
+abbrev at_x : tie.After-axis_table-zs → tie.After-axis_table-xs
 at_x c = c.before.before.before.before
 
-abbrev at_y : tie.After-axis-table3 → tie.After-axis-table2
+abbrev at_y : tie.After-axis_table-zs → tie.After-axis_table-ys
 at_y c = c.before.before
 
-abbrev start : tie.After-axis-table3 → tie.Start
+abbrev start : tie.After-axis_table-zs → tie.Start
 start c = begin (at_x c).before.before
 
 abbrev grid : tie.Start → Grid
 grid c =
     let a = c.args in
-    grid_of a.background a.blocks.now a.root-links.now a.root-values.now a.upper-links.now a.upper-values.now
-    a.lower-links.now a.lower-values.now a.leaf-values.now
+    grid_of a.background a.blocks.now a.root_links.now a.root_values.now a.upper_links.now a.upper_values.now
+    a.lower_links.now a.lower_values.now a.leaf_values.now
 
 -- the table of each axis holds the ends of its cells
-x-ends : (c : tie.After-axis-table3) (i : ℕ) → i < (start c).args.nx
-    → ends_in (at_x c).axis-table.result i ≡ axis_ends (line_of (as_medium (start c).args.m) x_axis) (start c).args.nx i
-x-ends c i h = (at_x c).axis-table.ensures i h ∙ ap (λ (l : Line). axis_ends l (start c).args.nx i) (at_x c).before.x-line.ensures
+x-ends : (c : tie.After-axis_table-zs) (i : ℕ) → i < (start c).args.nx
+    → ends_in (at_x c).axis_table-xs.result i ≡ axis_ends (line_of (as_medium (start c).args.m) x_axis) (start c).args.nx i
+x-ends c i h = (at_x c).axis_table-xs.ensures i h ∙ ap (λ (l : Line). axis_ends l (start c).args.nx i) (at_x c).before.x_line.ensures
 
-y-ends : (c : tie.After-axis-table3) (i : ℕ) → i < (start c).args.ny
-    → ends_in (at_y c).axis-table2.result i ≡ axis_ends (line_of (as_medium (start c).args.m) y_axis) (start c).args.ny i
-y-ends c i h = (at_y c).axis-table2.ensures i h ∙ ap (λ (l : Line). axis_ends l (start c).args.ny i) (at_y c).before.y-line.ensures
+y-ends : (c : tie.After-axis_table-zs) (i : ℕ) → i < (start c).args.ny
+    → ends_in (at_y c).axis_table-ys.result i ≡ axis_ends (line_of (as_medium (start c).args.m) y_axis) (start c).args.ny i
+y-ends c i h = (at_y c).axis_table-ys.ensures i h ∙ ap (λ (l : Line). axis_ends l (start c).args.ny i) (at_y c).before.y_line.ensures
 
-z-ends : (c : tie.After-axis-table3) (i : ℕ) → i < (start c).args.nz
-    → ends_in c.axis-table3.result i ≡ axis_ends (line_of (as_medium (start c).args.m) z_axis) (start c).args.nz i
-z-ends c i h = c.axis-table3.ensures i h ∙ ap (λ (l : Line). axis_ends l (start c).args.nz i) c.before.z-line.ensures
+z-ends : (c : tie.After-axis_table-zs) (i : ℕ) → i < (start c).args.nz
+    → ends_in c.axis_table-zs.result i ≡ axis_ends (line_of (as_medium (start c).args.m) z_axis) (start c).args.nz i
+z-ends c i h = c.axis_table-zs.ensures i h ∙ ap (λ (l : Line). axis_ends l (start c).args.nz i) c.before.z_line.ensures
 
 volume-requires : tie.Need-volume-requires
 volume-requires c κs = let p = (start c.before).requires in (p.0, p.2, p.3, p.4, p.5)
@@ -56,10 +56,10 @@ returns c =
     let a = (start t).args in
     v.volume.ensures
     ∙ volume_is (box_maximum (read_in (grid (start t)))) (as_medium a.m) (start t).requires.1 (record { x = a.nx; y = a.ny; z = a.nz })
-    (ends_in (at_x t).axis-table.result) (ends_in (at_y t).axis-table2.result) (ends_in t.axis-table3.result) (x-ends t) (y-ends t) (z-ends t)
+    (ends_in (at_x t).axis_table-xs.result) (ends_in (at_y t).axis_table-ys.result) (ends_in t.axis_table-zs.result) (x-ends t) (y-ends t) (z-ends t)
 
-pub cells-spec : {M : Type 1} → statement M
-cells-spec =
+pub cells_spec : {M : Type 1} → statement M
+cells_spec =
     tie.close
     (tie.spec
     (λ c κs. search rules)

@@ -11,12 +11,12 @@ start c = c.before.before.before.before.before
 returns : tie.Need-returns
 returns c =
     let a = (start c).args.a in
-    let low = c.before.before.before.struct_told.given.1 in
-    let high = c.before.struct-told2.given.1 in
+    let low = c.before.before.before.struct_told-1.given.1 in
+    let high = c.before.struct_told-2-1.given.1 in
     c.both.ensures
     ∙ (λ i.
     le_z (given a.first_lo low.0.1 i) (given a.second_lo low.1.1.0.1 i)
     && le_z (given a.second_hi high.1.1.1.0.1 i) (given a.first_hi high.1.0.1 i))
 
-pub first-holds-spec : {M : Type 1} → statement M
-first-holds-spec = tie.close (tie.spec (λ c κs. search rules) returns)
+pub first_holds_spec : {M : Type 1} → statement M
+first_holds_spec = tie.close (tie.spec (λ c κs. search rules) returns)

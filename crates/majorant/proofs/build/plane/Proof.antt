@@ -16,97 +16,97 @@ use Rattle.majorant.proofs.build.plane.Tie as tie
 abbrev step : Grid → List AxisEnds → List AxisEnds → AxisEnds → ℕ → ℕ → List Float → Result (List Float)
 step g xs ys z nx j = row_of (box_maximum (read_in g)) (ends_in xs) (ends_in ys j) (both_of z) nx
 
-abbrev invariant-loop : tie.invariant-loop
+abbrev invariant-loop : tie.invariant-loop-j
 invariant-loop background blocks root-links root-values upper-links upper-values lower-links lower-values leaf-values xs z nx ny start
     majorants₀ ys at₀ j₀ majorants at j =
     let g = grid_of background blocks root-links root-values upper-links upper-values lower-links lower-values leaf-values in
     (at ≡ start + j * nx) × Filled (step g xs ys z nx) (take start majorants₀) ny j at majorants₀ majorants
 
-abbrev decreases-loop : tie.decreases-loop
+abbrev decreases-loop : tie.decreases-loop-j
 decreases-loop background blocks root-links root-values upper-links upper-values lower-links lower-values leaf-values xs z nx ny start
     majorants₀ ys at₀ j₀ majorants at j =
     ny - j
 
 -- places
-abbrev begin : tie.After-slice-known invariant-loop decreases-loop → tie.Start invariant-loop decreases-loop
+abbrev begin : tie.After-slice_known-1 invariant-loop decreases-loop → tie.Start invariant-loop decreases-loop
 begin c = c.before.before.before.before.before.before.before.before
 
-abbrev start : tie.In-loop invariant-loop decreases-loop → tie.Start invariant-loop decreases-loop
+abbrev start : tie.In-loop-j invariant-loop decreases-loop → tie.Start invariant-loop decreases-loop
 start c = begin c.before.before
 
-abbrev at_test : tie.After-row invariant-loop decreases-loop → tie.In-loop invariant-loop decreases-loop
+abbrev at_test : tie.After-row-fault invariant-loop decreases-loop → tie.In-loop-j invariant-loop decreases-loop
 at_test c = c.before.before.before
 
 abbrev grid : tie.Start invariant-loop decreases-loop → Grid
 grid c =
     let a = c.args in
-    grid_of a.background a.blocks.now a.root-links.now a.root-values.now a.upper-links.now a.upper-values.now
-    a.lower-links.now a.lower-values.now a.leaf-values.now
+    grid_of a.background a.blocks.now a.root_links.now a.root_values.now a.upper_links.now a.upper_values.now
+    a.lower_links.now a.lower_values.now a.leaf_values.now
 
 -- the table as the row leaves it, as long as before
-abbrev left : tie.After-row invariant-loop decreases-loop → List Float
-left c = c.row.new.1.1.1.1.1.1.1.1.1.1.1.1.1.1.0
+abbrev left : tie.After-row-fault invariant-loop decreases-loop → List Float
+left c = c.row-fault.new.1.1.1.1.1.1.1.1.1.1.1.1.1.1.0
 
-kept : (c : tie.After-row invariant-loop decreases-loop) → length (left c) ≡ length (at_test c).before.loop.majorants
+kept : (c : tie.After-row-fault invariant-loop decreases-loop) → length (left c) ≡ length (at_test c).before.loop-j.majorants
 kept c = c.row.auto.1.1.1.1.1.1.1.1.1.1.1.1.1.1.0
 
 -- the row's places lie in the table
-places : (c : tie.In-loop invariant-loop decreases-loop) → c.before.loop.at + (start c).args.nx ≤ length (start c).args.majorants.now
+places : (c : tie.In-loop-j invariant-loop decreases-loop) → c.before.loop-j.at + (start c).args.nx ≤ length (start c).args.majorants.now
 places c =
     let b = start c in
-    omega (arith, b.requires.3, room c.before.loop.j b.args.ny b.args.nx c.loop-test.true, c.before.loop.invariant.0)
+    omega (arith, b.requires.3, room c.before.loop-j.j b.args.ny b.args.nx c.loop-j-test.true, c.before.loop-j.invariant.0)
 
 short : (c : tie.Start invariant-loop decreases-loop) → length c.args.majorants.now < 18446744073709551616
 short c = omega arith
 
-loop-holds : tie.Need-loop-init invariant-loop decreases-loop
+loop-holds : tie.Need-loop-j-init invariant-loop decreases-loop
 loop-holds c =
     let b = (begin c).args in (
       sym (ap (λ (k : ℕ). b.start + k) (zero-mul b.nx) ∙ add-zero b.start),
       filled_none (step (grid (begin c)) b.xs b.t11 b.z b.nx) (take b.start b.majorants.now) b.ny b.start b.majorants.now refl,
     )
 
-returns : tie.Need-returns invariant-loop decreases-loop
+returns : tie.Need-returns-then-fault-ne0 invariant-loop decreases-loop
 unfolding plane_of
 returns c =
     let r = c.before.before.before in
     let t = at_test r in
     let b = (start t).args in
-    filled_stop t.before.loop.invariant.1 r.row.result (t.before.loop.at + b.nx) (b.start + b.ny * b.nx) (left r)
-    t.loop-test.true r.row.ensures c.if1.true
+    filled_stop t.before.loop-j.invariant.1 r.row-fault.result (t.before.loop-j.at + b.nx) (b.start + b.ny * b.nx) (left r)
+    t.loop-j-test.true r.row-fault.ensures c.if-fault-ne0.true
 
-loop-again : tie.Need-loop-preserved invariant-loop decreases-loop
+loop-again : tie.Need-loop-j-preserved invariant-loop decreases-loop
 loop-again c =
     let r = c.before.before.before in
     let t = at_test r in
     let b = (start t).args in
-    let j = t.before.loop.j in (
-      ap (λ (k : ℕ). k + b.nx) t.before.loop.invariant.0 ∙ add_assoc b.start (j * b.nx) b.nx ∙ ap (λ (k : ℕ). b.start + k) (one_more j b.nx),
-      filled_more t.before.loop.invariant.1 r.row.result (t.before.loop.at + b.nx) (left r)
-          t.loop-test.true r.row.ensures c.if1.false (kept r),
+    let j = t.before.loop-j.j in (
+      ap (λ (k : ℕ). k + b.nx) t.before.loop-j.invariant.0 ∙ add_assoc b.start (j * b.nx) b.nx ∙ ap (λ (k : ℕ). b.start + k) (one_more j b.nx),
+      filled_more t.before.loop-j.invariant.1 r.row-fault.result (t.before.loop-j.at + b.nx) (left r)
+          t.loop-j-test.true r.row-fault.ensures c.if-fault-ne0.false (kept r),
     )
 
-returns-2 : tie.Need-returns-2 invariant-loop decreases-loop
+returns-2 : tie.Need-returns invariant-loop decreases-loop
 unfolding plane_of
 returns-2 c =
     let b = (begin c.before.before).args in
-    filled_end c.before.loop.invariant.1 c.loop-test.false (λ e. c.before.loop.invariant.0 ∙ ap (λ (k : ℕ). b.start + k * b.nx) e)
+    filled_end c.before.loop-j.invariant.1 c.loop-j-test.false (λ e. c.before.loop-j.invariant.0 ∙ ap (λ (k : ℕ). b.start + k * b.nx) e)
 
-pub plane-spec : {M : Type 1} → statement M
-plane-spec =
+pub plane_spec : {M : Type 1} → statement M
+plane_spec =
     tie.close
     (tie.spec
     invariant-loop
     decreases-loop
     loop-holds
-    (λ c. omega (arith, c.loop-test.true, (start c).requires.2))
-    (λ c. omega (arith, c.loop-test.true, (start c).requires.2))
-    (λ c κs. let t = c.before.before in ((start t).requires.0, (start t).requires.1, omega (arith, places t, t.before.loop.invariant.1.long)))
-    (λ c. let r = c.before.before.before in kept r ∙ (at_test r).before.loop.invariant.1.long)
+    (λ c. omega (arith, c.loop-j-test.true, (start c).requires.2))
+    (λ c. omega (arith, c.loop-j-test.true, (start c).requires.2))
+    (λ c κs. let t = c.before.before in ((start t).requires.0, (start t).requires.1, omega (arith, places t, t.before.loop-j.invariant.1.long)))
+    (λ c. let r = c.before.before.before in kept r ∙ (at_test r).before.loop-j.invariant.1.long)
     returns
     (λ c. let t = at_test c.before.before.before in omega (arith, places t, short (start t)))
-    (λ c. let t = at_test c.before.before.before in omega (arith, t.loop-test.true, (start t).requires.2))
-    (λ c. omega (arith, (at_test c.before.before.before).loop-test.true))
+    (λ c. let t = at_test c.before.before.before in omega (arith, t.loop-j-test.true, (start t).requires.2))
+    (λ c. omega (arith, (at_test c.before.before.before).loop-j-test.true))
     loop-again
-    (λ c. c.before.loop.invariant.1.long)
+    (λ c. c.before.loop-j.invariant.1.long)
     returns-2)

@@ -9,35 +9,35 @@ use Rattle.majorant.proofs.build.second_above.Statement.{statement}
 use Rattle.majorant.proofs.build.second_above.Tie as tie
 
 -- places
-abbrev at-tables : tie.After-both2 → tie.After-shared-slice-known7
+abbrev at-tables : tie.After-both-2 → tie.After-shared_slice_known-7-1
 at-tables c = c.before.before.before.before.before
 
-abbrev start : tie.After-both2 → tie.Start
+abbrev start : tie.After-both-2 → tie.Start
 start c = (at-tables c).before.before.before.before.before.before.before
 
-abbrev at-holds : tie.After-both2 → tie.After-both
+abbrev at-holds : tie.After-both-2 → tie.After-both
 at-holds c = c.before.before
 
 abbrev grid : tie.Start → Grid
 grid c =
     let a = c.args in
-    grid_of a.background a.blocks.now a.root-links.now a.root-values.now a.upper-links.now a.upper-values.now
-    a.lower-links.now a.lower-values.now a.leaf-values.now
+    grid_of a.background a.blocks.now a.root_links.now a.root_values.now a.upper_links.now a.upper_values.now
+    a.lower_links.now a.lower_values.now a.leaf_values.now
 
 -- the three tests together
-holds : (c : tie.After-both2) → let a = (start c).args in c.both2.result ≡ (first_holds a.x && first_holds a.y && first_holds a.z)
+holds : (c : tie.After-both-2) → let a = (start c).args in c.both-2.result ≡ (first_holds a.x && first_holds a.y && first_holds a.z)
 holds c =
     let d = at-holds c in
-    c.both2.ensures
-    ∙ (λ i. (d.both.ensures ∙ (λ j. d.before.before.first_holds.ensures j && d.before.first-holds2.ensures j)) i && c.before.first-holds3.ensures i)
+    c.both-2.ensures
+    ∙ (λ i. (d.both.ensures ∙ (λ j. d.before.before.first_holds.ensures j && d.before.first_holds-2.ensures j)) i && c.before.first_holds-3.ensures i)
 
-returns : tie.Need-returns
+returns : tie.Need-returns-then-both
 returns c =
     let b = start c.before in
-    sym (held (read_in (grid b)) b.args.x b.args.y b.args.z (sym (holds c.before) ∙ c.if1.true))
+    sym (held (read_in (grid b)) b.args.x b.args.y b.args.z (sym (holds c.before) ∙ c.if-both.true))
 
-pub second-above-spec : {M : Type 1} → statement M
-second-above-spec =
+pub second_above_spec : {M : Type 1} → statement M
+second_above_spec =
     tie.close
     (tie.spec
     (λ c κs. search rules)
@@ -47,4 +47,4 @@ second-above-spec =
     (λ c κs. search rules)
     returns
     (λ c κs. (start c.before).requires.0)
-    (λ c. (λ i. lt ((start c.before.before).requires.1 i) (c.second-maximum.ensures i))))
+    (λ c. (λ i. lt ((start c.before.before).requires.1 i) (c.second_maximum-second.ensures i))))

@@ -10,55 +10,55 @@ use Rattle.walk.specs.TalliedLaws.{none_x, till_x, add_x, ready_x}
 use Rattle.majorant.proofs.class_walk.lower_classes.Statement.{statement}
 use Rattle.majorant.proofs.class_walk.lower_classes.Tie as tie
 
-abbrev invariant-loop : tie.invariant-loop
+abbrev invariant-loop : tie.invariant-loop-at
 invariant-loop limits lower-links lower-values leaf-values k y z counts₀ end at₀ counts at =
     let read = lower_read lower-links lower-values leaf-values k in
     (at₀ ≤ at) × (at ≤ end) × (length counts ≡ length counts₀)
     × Added limits read (zone at₀ at y.lo y.hi z.lo z.hi) counts₀ counts
 
-abbrev decreases-loop : tie.decreases-loop
+abbrev decreases-loop : tie.decreases-loop-at
 decreases-loop limits lower-links lower-values leaf-values k y z counts₀ end at₀ counts at = end - at
 
 -- places
-abbrev begin : tie.After-slice-known invariant-loop decreases-loop → tie.Start invariant-loop decreases-loop
+abbrev begin : tie.After-slice_known-1 invariant-loop decreases-loop → tie.Start invariant-loop decreases-loop
 begin c = c.before.before.before.before.before
 
-abbrev start : tie.In-loop invariant-loop decreases-loop → tie.Start invariant-loop decreases-loop
+abbrev start : tie.In-loop-at invariant-loop decreases-loop → tie.Start invariant-loop decreases-loop
 start c = begin c.before.before
 
-abbrev at_cut : tie.After-lower-plane invariant-loop decreases-loop → tie.After-cell-end invariant-loop decreases-loop
+abbrev at_cut : tie.After-lower_plane invariant-loop decreases-loop → tie.After-cell_end-next invariant-loop decreases-loop
 at_cut c = c.before.before
 
 -- the part as a zone
 abbrev part : tie.Start invariant-loop decreases-loop → Zone
 part c = let a = c.args in zone_in a.x a.y a.z
 
-lower-plane-requires : tie.Need-lower-plane-requires invariant-loop decreases-loop
+lower-plane-requires : tie.Need-lower_plane-requires invariant-loop decreases-loop
 lower-plane-requires c κs =
     let e = c.before in
-    let k = e.cell-end.ensures in
+    let k = e.cell_end-next.ensures in
     let b = start e.before in
     let p = b.requires in
-    let w = e.before.before.loop in
+    let w = e.before.before.loop-at in
     (ready_x (part b) w.invariant.0 (omega (arith, k.more)) k.within p.0 w.invariant.2 w.invariant.3, p.1, cut_x p.2 k, k.cell)
 
-loop-again : tie.Need-loop-preserved invariant-loop decreases-loop
+loop-again : tie.Need-loop-at-preserved invariant-loop decreases-loop
 loop-again c =
     let d = c.before.before in
     let e = at_cut d in
-    let k = e.cell-end.ensures in
-    let w = e.before.before.loop in (
+    let k = e.cell_end-next.ensures in
+    let w = e.before.before.loop-at in (
       omega (arith, k.more),
       k.within,
-      d.lower-plane.auto.1.1.1.1.1.1.1.1.0 ∙ w.inv.2,
-      add_x (part (start e.before)) w.inv.0 (omega (arith, k.more)) w.inv.3 d.lower-plane.ensures,
+      d.lower_plane.auto.1.1.1.1.1.1.1.1.0 ∙ w.inv.2,
+      add_x (part (start e.before)) w.inv.0 (omega (arith, k.more)) w.inv.3 d.lower_plane.ensures,
     )
 
 returns : tie.Need-returns invariant-loop decreases-loop
-returns c = till_x (part (begin c.before.before)) (omega arith) c.before.loop.invariant.3
+returns c = till_x (part (begin c.before.before)) (omega arith) c.before.loop-at.invariant.3
 
-pub lower-classes-spec : {M : Type 1} → statement M
-lower-classes-spec =
+pub lower_classes_spec : {M : Type 1} → statement M
+lower_classes_spec =
     tie.close
     (tie.spec
     invariant-loop
@@ -66,7 +66,7 @@ lower-classes-spec =
     (λ c. let b = begin c in (omega arith, omega arith, refl, none_x b.args.counts.now (part b) b.args.x.lo))
     (λ c κs. (omega arith, omega arith, omega arith, omega arith))
     lower-plane-requires
-    (λ c. omega (arith, (at_cut c.before.before).cell-end.ensures.more))
+    (λ c. omega (arith, (at_cut c.before.before).cell_end-next.ensures.more))
     loop-again
-    (λ c. c.before.loop.invariant.2)
+    (λ c. c.before.loop-at.invariant.2)
     returns)

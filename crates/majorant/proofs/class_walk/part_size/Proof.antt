@@ -5,11 +5,11 @@ use Rattle.majorant.proofs.class_walk.part_size.Statement.{statement}
 use Rattle.majorant.proofs.class_walk.part_size.Tie as tie
 
 -- places
-abbrev start : tie.After-struct-known2 → tie.Start
+abbrev start : tie.After-struct_known-2-1 → tie.Start
 start c = c.before.before
 
-pub part-size-spec : {M : Type 1} → statement M
-part-size-spec =
+pub part_size_spec : {M : Type 1} → statement M
+part_size_spec =
     tie.close
     (tie.spec
     (λ c. search rules)

@@ -9,44 +9,44 @@ use Rattle.majorant.proofs.class_walk.root_classes.Statement.{statement}
 use Rattle.majorant.proofs.class_walk.root_classes.Tie as tie
 
 -- places
-abbrev begin : tie.After-slice-known → tie.Start
+abbrev begin : tie.After-slice_known-1 → tie.Start
 begin c = c.before.before.before.before.before.before.before
 
-abbrev at-child : tie.After-known-told → tie.Start
+abbrev at-child : tie.In-Child → tie.Start
 at-child c = begin c.before.before.before
 
-abbrev at-tile : tie.After-known-told2 → tie.Start
+abbrev at-tile : tie.In-Tile → tie.Start
 at-tile c = begin c.before.before.before
 
 -- what is read below the entry
 abbrev below : tie.Start → ℕ → ℕ → ℕ → ℕ → Float
 below c =
     let a = c.args in
-    upper_read a.upper-links.now a.upper-values.now a.lower-links.now a.lower-values.now a.leaf-values.now
+    upper_read a.upper_links.now a.upper_values.now a.lower_links.now a.lower_values.now a.leaf_values.now
 
-upper-classes-requires : tie.Need-upper-classes-requires
+upper-classes-requires : tie.Need-upper_classes-requires
 upper-classes-requires c κs =
     let p = (at-child c.before).requires in
-    (p.0, record { room = child_room c.before.before.entry.given.1 p.1; tables = p.2 }, p.3)
+    (p.0, record { room = child_room c.before.before.entry-1.given.1 p.1; tables = p.2 }, p.3)
 
-returns : tie.Need-returns
+returns : tie.Need-returns-in-Child
 returns c =
     let d = c.before.before in
     let m = d.before.before in
     let a = (at-child m).args in
-    cell_child (below (at-child m)) (zone_in a.x a.y a.z) (λ x y z s. refl) m.before.entry.given.1 d.upper-classes.ensures
+    cell_child (below (at-child m)) (zone_in a.x a.y a.z) (λ x y z s. refl) m.before.entry-1.given.1 d.upper_classes.ensures
 
-returns-2 : tie.Need-returns-2
+returns-2 : tie.Need-returns-in-Tile
 returns-2 c =
     let d = c.before.before in
     let s = d.before.before in
     let m = s.before in
     let a = (at-tile m).args in
-    cell_tile (below (at-tile m)) (zone_in a.x a.y a.z) (λ x y z s. refl) s.part-size.result
-    m.before.entry2.given.1 s.part-size.ensures d.add-value.ensures
+    cell_tile (below (at-tile m)) (zone_in a.x a.y a.z) (λ x y z s. refl) s.part_size.result
+    m.before.entry-in-Tile-1.given.1 s.part_size.ensures d.add_value.ensures
 
-pub root-classes-spec : {M : Type 1} → statement M
-root-classes-spec =
+pub root_classes_spec : {M : Type 1} → statement M
+root_classes_spec =
     tie.close
     (tie.spec
     (λ c. search rules)
@@ -54,8 +54,8 @@ root-classes-spec =
     upper-classes-requires
     (λ c. search rules)
     (λ c κs. let p = (at-tile c).requires in (p.3, p.4))
-    (λ c κs. let s = c.before in ready_value s.part-size.result (at-tile s.before).requires.0 s.part-size.ensures)
-    (λ c. c.before.before.upper-classes.auto.1.1.1.1.1.1.1.1.1.1.0)
+    (λ c κs. let s = c.before in ready_value s.part_size.result (at-tile s.before).requires.0 s.part_size.ensures)
+    (λ c. c.before.before.upper_classes.auto.1.1.1.1.1.1.1.1.1.1.0)
     returns
-    (λ c. c.before.before.add-value.auto.1.1.1.0)
+    (λ c. c.before.before.add_value.auto.1.1.1.0)
     returns-2)

@@ -10,55 +10,55 @@ use Rattle.walk.specs.TalliedLaws.{none_z, till_z, add_z, ready_z}
 use Rattle.majorant.proofs.class_walk.upper_row.Statement.{statement}
 use Rattle.majorant.proofs.class_walk.upper_row.Tie as tie
 
-abbrev invariant-loop : tie.invariant-loop
+abbrev invariant-loop : tie.invariant-loop-at
 invariant-loop limits upper-links upper-values lower-links lower-values leaf-values k x y counts₀ end at₀ counts at =
     let read = upper_read upper-links upper-values lower-links lower-values leaf-values k in
     (at₀ ≤ at) × (at ≤ end) × (length counts ≡ length counts₀)
     × Added limits read (zone x.lo x.hi y.lo y.hi at₀ at) counts₀ counts
 
-abbrev decreases-loop : tie.decreases-loop
+abbrev decreases-loop : tie.decreases-loop-at
 decreases-loop limits upper-links upper-values lower-links lower-values leaf-values k x y counts₀ end at₀ counts at = end - at
 
 -- places
-abbrev begin : tie.After-slice-known invariant-loop decreases-loop → tie.Start invariant-loop decreases-loop
+abbrev begin : tie.After-slice_known-1 invariant-loop decreases-loop → tie.Start invariant-loop decreases-loop
 begin c = c.before.before.before.before.before.before.before
 
-abbrev start : tie.In-loop invariant-loop decreases-loop → tie.Start invariant-loop decreases-loop
+abbrev start : tie.In-loop-at invariant-loop decreases-loop → tie.Start invariant-loop decreases-loop
 start c = begin c.before.before
 
-abbrev at_cut : tie.After-upper-cell invariant-loop decreases-loop → tie.After-cell-end invariant-loop decreases-loop
+abbrev at_cut : tie.After-upper_cell invariant-loop decreases-loop → tie.After-cell_end-next invariant-loop decreases-loop
 at_cut c = c.before.before
 
 -- the part as a zone
 abbrev part : tie.Start invariant-loop decreases-loop → Zone
 part c = let a = c.args in zone_in a.x a.y a.z
 
-upper-cell-requires : tie.Need-upper-cell-requires invariant-loop decreases-loop
+upper-cell-requires : tie.Need-upper_cell-requires invariant-loop decreases-loop
 upper-cell-requires c κs =
     let e = c.before in
-    let k = e.cell-end.ensures in
+    let k = e.cell_end-next.ensures in
     let b = start e.before in
     let p = b.requires in
-    let w = e.before.before.loop in
+    let w = e.before.before.loop-at in
     (ready_z (part b) w.invariant.0 (omega (arith, k.more)) k.within p.0 w.invariant.2 w.invariant.3, p.1, cut_z p.2 k, p.3, p.4, k.cell)
 
-loop-again : tie.Need-loop-preserved invariant-loop decreases-loop
+loop-again : tie.Need-loop-at-preserved invariant-loop decreases-loop
 loop-again c =
     let d = c.before.before in
     let e = at_cut d in
-    let k = e.cell-end.ensures in
-    let w = e.before.before.loop in (
+    let k = e.cell_end-next.ensures in
+    let w = e.before.before.loop-at in (
       omega (arith, k.more),
       k.within,
-      d.upper-cell.auto.1.1.1.1.1.1.1.1.1.1.0 ∙ w.inv.2,
-      add_z (part (start e.before)) w.inv.0 (omega (arith, k.more)) w.inv.3 d.upper-cell.ensures,
+      d.upper_cell.auto.1.1.1.1.1.1.1.1.1.1.0 ∙ w.inv.2,
+      add_z (part (start e.before)) w.inv.0 (omega (arith, k.more)) w.inv.3 d.upper_cell.ensures,
     )
 
 returns : tie.Need-returns invariant-loop decreases-loop
-returns c = till_z (part (begin c.before.before)) (omega arith) c.before.loop.invariant.3
+returns c = till_z (part (begin c.before.before)) (omega arith) c.before.loop-at.invariant.3
 
-pub upper-row-spec : {M : Type 1} → statement M
-upper-row-spec =
+pub upper_row_spec : {M : Type 1} → statement M
+upper_row_spec =
     tie.close
     (tie.spec
     invariant-loop
@@ -66,7 +66,7 @@ upper-row-spec =
     (λ c. let b = begin c in (omega arith, omega arith, refl, none_z b.args.counts.now (part b) b.args.z.lo))
     (λ c κs. (omega arith, omega arith, omega arith, omega arith))
     upper-cell-requires
-    (λ c. omega (arith, (at_cut c.before.before).cell-end.ensures.more))
+    (λ c. omega (arith, (at_cut c.before.before).cell_end-next.ensures.more))
     loop-again
-    (λ c. c.before.loop.invariant.2)
+    (λ c. c.before.loop-at.invariant.2)
     returns)

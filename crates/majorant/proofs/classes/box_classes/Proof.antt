@@ -8,20 +8,20 @@ use Rattle.majorant.proofs.classes.box_classes.Statement.{statement}
 use Rattle.majorant.proofs.classes.box_classes.Tie as tie
 
 -- places
-abbrev begin : tie.After-slice-known → tie.Start
+abbrev begin : tie.After-slice_known-1 → tie.Start
 begin c = c.before.before.before.before.before.before.before.before.before
 
-abbrev start : tie.After-span-of3 → tie.Start
+abbrev start : tie.After-span_of-z → tie.Start
 start c = begin c.before.before.before
 
-abbrev at-spans : tie.After-roots-classes → tie.After-span-of3
+abbrev at-spans : tie.After-roots_classes → tie.After-span_of-z
 at-spans c = c.before.before.before.before
 
 abbrev grid : tie.Start → Grid
 grid c =
     let a = c.args in
-    grid_of a.background a.blocks.now a.root-links.now a.root-values.now a.upper-links.now a.upper-values.now
-    a.lower-links.now a.lower-values.now a.leaf-values.now
+    grid_of a.background a.blocks.now a.root_links.now a.root_values.now a.upper_links.now a.upper_values.now
+    a.lower_links.now a.lower_values.now a.leaf_values.now
 
 fit : (c : tie.Start) → let a = c.args in Fit a.lx a.ly a.lz a.hx a.hy a.hz
 fit c =
@@ -29,46 +29,46 @@ fit c =
     record { lx_fits = f.lx; ly_fits = f.ly; lz_fits = f.lz; hx_fits = f.hx; hy_fits = f.hy; hz_fits = f.hz }
 
 -- the spans of the box
-spans : (c : tie.After-span-of3) →
+spans : (c : tie.After-span_of-z) →
     let a = (start c).args in
-    Spans a.lx a.ly a.lz a.hx a.hy a.hz c.before.before.Span-of.result c.before.span-of2.result c.span-of3.result
+    Spans a.lx a.ly a.lz a.hx a.hy a.hz c.before.before.span_of-x.result c.before.span_of-y.result c.span_of-z.result
 spans c =
     let f = (start c).ranges in
     record {
-      along_x_lem = seen_ends c.before.before.Span-of.result f.lx f.hx c.before.before.Span-of.ensures;
-      along_y_lem = seen_ends c.before.span-of2.result f.ly f.hy c.before.span-of2.ensures;
-      along_z_lem = seen_ends c.span-of3.result f.lz f.hz c.span-of3.ensures;
+      along_x_lem = seen_ends c.before.before.span_of-x.result f.lx f.hx c.before.before.span_of-x.ensures;
+      along_y_lem = seen_ends c.before.span_of-y.result f.ly f.hy c.before.span_of-y.ensures;
+      along_z_lem = seen_ends c.span_of-z.result f.lz f.hz c.span_of-z.ensures;
     }
 
-returns : tie.Need-returns
+returns : tie.Need-returns-then-is_empty
 returns c =
     let s = c.before.before in
     let b = start s in
     λ k l. b.requires.4 k l
-    ∙ sym (counts_none (fit b) (spans s) (grid b) b.args.limits.now k (sym c.before.is-empty.ensures ∙ c.if1.true))
+    ∙ sym (counts_none (fit b) (spans s) (grid b) b.args.limits.now k (sym c.before.is_empty.ensures ∙ c.if-is_empty.true))
 
-roots-classes-requires : tie.Need-roots-classes-requires
+roots-classes-requires : tie.Need-roots_classes-requires
 roots-classes-requires c κs =
     let s = c.before.before.before in
     let b = start s in
     let p = b.requires in (
       sound (grid b) p.0,
-      filled (spans s) (sym c.before.before.is-empty.ensures ∙ c.before.if1.false),
+      filled (spans s) (sym c.before.before.is_empty.ensures ∙ c.before.if-is_empty.false),
       sides_few (fit b) (spans s) p.1,
       p.2,
       p.3,
       p.4,
     )
 
-returns-2 : tie.Need-returns-2
+returns-2 : tie.Need-returns
 returns-2 c =
     let d = c.before.before in
     let s = at-spans d in
     let b = start s in
-    λ k l. d.roots-classes.ensures k l ∙ sym (counts_are (fit b) (spans s) (grid b) b.args.limits.now k)
+    λ k l. d.roots_classes.ensures k l ∙ sym (counts_are (fit b) (spans s) (grid b) b.args.limits.now k)
 
-pub box-classes-spec : {M : Type 1} → statement M
-box-classes-spec =
+pub box_classes_spec : {M : Type 1} → statement M
+box_classes_spec =
     tie.close
     (tie.spec
     (λ c κs. search rules)
@@ -77,5 +77,5 @@ box-classes-spec =
     (λ c κs. search rules)
     returns
     roots-classes-requires
-    (λ c. c.before.before.roots-classes.auto.1.1.1.1.1.1.1.1.1.1.1.1.1.0)
+    (λ c. c.before.before.roots_classes.auto.1.1.1.1.1.1.1.1.1.1.1.1.1.0)
     returns-2)

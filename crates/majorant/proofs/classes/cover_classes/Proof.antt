@@ -8,82 +8,82 @@ use Rattle.majorant.proofs.classes.cover_classes.Statement.{statement}
 use Rattle.majorant.proofs.classes.cover_classes.Tie as tie
 
 -- places: the start, the three tests, the three clips, the entry
-abbrev begin : tie.After-slice-known → tie.Start
+abbrev begin : tie.After-slice_known-1 → tie.Start
 begin c = c.before.before.before.before.before.before.before.before.before
 
-abbrev start : tie.After-is-apart → tie.Start
+abbrev start : tie.After-is_apart → tie.Start
 start c = begin c.before.before
 
-abbrev at_x : tie.After-is-apart2 → tie.After-is-apart
+abbrev at_x : tie.After-is_apart-2 → tie.After-is_apart
 at_x c = c.before.before.before
 
-abbrev at_y : tie.After-is-apart3 → tie.After-is-apart2
+abbrev at_y : tie.After-is_apart-3 → tie.After-is_apart-2
 at_y c = c.before.before.before
 
-abbrev start-2 : tie.After-is-apart2 → tie.Start
+abbrev start-2 : tie.After-is_apart-2 → tie.Start
 start-2 c = start (at_x c)
 
-abbrev start-3 : tie.After-is-apart3 → tie.Start
+abbrev start-3 : tie.After-is_apart-3 → tie.Start
 start-3 c = start-2 (at_y c)
 
-abbrev at-clip-x : tie.After-intersect-bounds3 → tie.After-intersect-bounds
+abbrev at-clip-x : tie.After-intersect_bounds-cz → tie.After-intersect_bounds-cx
 at-clip-x c = c.before.before
 
-abbrev at-tests : tie.After-intersect-bounds3 → tie.Else3
+abbrev at-tests : tie.After-intersect_bounds-cz → tie.Else-is_apart-3
 at-tests c = (at-clip-x c).before
 
-abbrev at-clips : tie.After-entry-of → tie.After-intersect-bounds3
+abbrev at-clips : tie.After-entry_of-entry → tie.After-intersect_bounds-cz
 at-clips c = c.before.before.before
 
-abbrev start-4 : tie.After-intersect-bounds3 → tie.Start
+abbrev start-4 : tie.After-intersect_bounds-cz → tie.Start
 start-4 c = start-3 (at-tests c).before
 
-abbrev at_entry : tie.After-root-classes → tie.After-entry-of
+abbrev at_entry : tie.After-root_classes → tie.After-entry_of-entry
 at_entry c = c.before.before
 
 -- the grid, and the root
 abbrev grid : tie.Start → Grid
 grid c =
     let a = c.args in
-    grid_of a.background a.blocks.now a.root-links.now a.root-values.now a.upper-links.now a.upper-values.now
-    a.lower-links.now a.lower-values.now a.leaf-values.now
+    grid_of a.background a.blocks.now a.root_links.now a.root_values.now a.upper_links.now a.upper_values.now
+    a.lower_links.now a.lower_values.now a.leaf_values.now
 
 rooted : (c : tie.Start) → Rooted (grid c) c.args.i
 rooted c = record { sound = c.requires.0; inside = c.requires.1 }
 
 -- the three clips of a root that no test told apart from the box
-clips : (c : tie.After-intersect-bounds3) →
+clips : (c : tie.After-intersect_bounds-cz) →
     let b = (start-4 c).args in
     Clips (block_at (grid (start-4 c)) b.i) b.x b.y b.z
-    (at-clip-x c).intersect-bounds.result c.before.intersect-bounds2.result c.intersect-bounds3.result
+    (at-clip-x c).intersect_bounds-cx.result c.before.intersect_bounds-cy.result c.intersect_bounds-cz.result
 clips c =
     let t = at-tests c in
     let z = t.before in
     record {
-      x_part = (at-clip-x c).intersect-bounds.ensures;
-      y_part = c.before.intersect-bounds2.ensures;
-      z_part = c.intersect-bounds3.ensures;
-      x_met = sym (at_x (at_y z)).is-apart.ensures ∙ (at_y z).before.before.if1.false;
-      y_met = sym (at_y z).is-apart2.ensures ∙ z.before.before.if2.false;
-      z_met = sym z.is-apart3.ensures ∙ t.if3.false;
+      x_part = (at-clip-x c).intersect_bounds-cx.ensures;
+      y_part = c.before.intersect_bounds-cy.ensures;
+      z_part = c.intersect_bounds-cz.ensures;
+      x_met = sym (at_x (at_y z)).is_apart.ensures ∙ (at_y z).before.before.if-is_apart.false;
+      y_met = sym (at_y z).is_apart-2.ensures ∙ z.before.before.if-is_apart-2.false;
+      z_met = sym z.is_apart-3.ensures ∙ t.if-is_apart-3.false;
     }
 
 -- the entry that was read
-entry-is : (c : tie.After-entry-of) → let b = start-4 (at-clips c) in IsEntry (grid b) b.args.i c.entry_of_lem.result
+entry-is : (c : tie.After-entry_of-entry) → let b = start-4 (at-clips c) in IsEntry (grid b) b.args.i c.entry_of-entry.result
 entry-is c =
     let b = start-4 (at-clips c) in
-    c.entry_of_lem.ensures ∙ entry_read_lem b.args.root-links.now b.args.root-values.now b.args.i (value_in_lem (rooted b))
+    c.entry_of-entry.ensures ∙ entry_read_lem b.args.root_links.now b.args.root_values.now b.args.i (value_in_lem (rooted b))
 
-returns : tie.Need-returns
-returns c = let s = start c.before in gone_misses (rooted s) (inl (sym c.before.is-apart.ensures ∙ c.if1.true)) s.requires.6
+returns : tie.Need-returns-then-is_apart
+returns c = let s = start c.before in gone_misses (rooted s) (inl (sym c.before.is_apart.ensures ∙ c.if-is_apart.true)) s.requires.6
 
-returns-2 : tie.Need-returns-2
-returns-2 c = let s = start-2 c.before in gone_misses (rooted s) (inr (inl (sym c.before.is-apart2.ensures ∙ c.if2.true))) s.requires.6
+returns-2 : tie.Need-returns-then-is_apart-2
+returns-2 c = let s = start-2 c.before in gone_misses (rooted s) (inr (inl (sym c.before.is_apart-2.ensures ∙ c.if-is_apart-2.true))) s.requires.6
 
-returns-3 : tie.Need-returns-3
-returns-3 c = let s = start-3 c.before in gone_misses (rooted s) (inr (inr (sym c.before.is-apart3.ensures ∙ c.if3.true))) s.requires.6
+returns-3 : tie.Need-returns-then-is_apart-3
+returns-3 c = let s = start-3 c.before in gone_misses (rooted s) (inr (inr (sym c.before.is_apart-3.ensures ∙ c.if-is_apart-3.true))) s.requires.6
 
-root-classes-requires : tie.Need-root-classes-requires
+root-classes-requires : tie.Need-root_classes-requires
 root-classes-requires c κs =
     let e = c.before in
     let b = start-4 (at-clips e) in
@@ -97,31 +97,31 @@ root-classes-requires c κs =
       part_sides (rooted b) p.2 p.3 k p.6,
     )
 
-part-size-requires : tie.Need-part-size-requires
+part-size-requires : tie.Need-part_size-requires
 part-size-requires c κs =
     let e = at_entry c.before.before in
     let b = start-4 (at-clips e) in
     let k = clips (at-clips e) in
     (part b.requires.2 k, part_sides (rooted b) b.requires.2 b.requires.3 k b.requires.6)
 
-add-result : tie.Need-overflow-add-result
+add-result : tie.Need-overflow_add-result
 add-result c =
     let e = at_entry c.before.before.before in
     let b = start-4 (at-clips e) in
     let p = b.requires in
-    let h = covered_few (rooted b) p.2 p.3 (clips (at-clips e)) p.6 c.part-size.result c.part-size.ensures in
+    let h = covered_few (rooted b) p.2 p.3 (clips (at-clips e)) p.6 c.part_size.result c.part_size.ensures in
     omega (arith, h)
 
-returns-4 : tie.Need-returns-4
+returns-4 : tie.Need-returns
 returns-4 c =
     let r = c.before.before.before in
     let e = at_entry r in
     let b = start-4 (at-clips e) in
     let p = b.requires in
-    gone_meets (rooted b) p.2 p.3 (clips (at-clips e)) p.6 c.part-size.result (entry-is e) r.root-classes.ensures c.part-size.ensures
+    gone_meets (rooted b) p.2 p.3 (clips (at-clips e)) p.6 c.part_size.result (entry-is e) r.root_classes.ensures c.part_size.ensures
 
-pub cover-classes-spec : {M : Type 1} → statement M
-cover-classes-spec =
+pub cover_classes_spec : {M : Type 1} → statement M
+cover_classes_spec =
     tie.close
     (tie.spec
     (λ c. omega arith)
@@ -152,5 +152,5 @@ cover-classes-spec =
     root-classes-requires
     part-size-requires
     add-result
-    (λ c. c.before.before.before.root-classes.auto.1.1.1.1.1.1.1.1.1.1.0)
+    (λ c. c.before.before.before.root_classes.auto.1.1.1.1.1.1.1.1.1.1.0)
     returns-4)

@@ -8,70 +8,70 @@ use Rattle.majorant.proofs.Gone.{gone_none, rest_fits, rest_room, gone_all}
 use Rattle.majorant.proofs.classes.roots_classes.Statement.{statement}
 use Rattle.majorant.proofs.classes.roots_classes.Tie as tie
 
-abbrev invariant-loop : tie.invariant-loop
+abbrev invariant-loop : tie.invariant-loop-i
 invariant-loop limits background blocks root-links root-values upper-links upper-values lower-links lower-values leaf-values x y z counts₀ covered₀ i₀
     counts covered i =
     let g = grid_of background blocks root-links root-values upper-links upper-values lower-links lower-values leaf-values in
     (i ≤ length root-links) × (length counts ≡ length counts₀) × Gone g limits i (zone_in x y z) counts covered
 
-abbrev decreases-loop : tie.decreases-loop
+abbrev decreases-loop : tie.decreases-loop-i
 decreases-loop limits background blocks root-links root-values upper-links upper-values lower-links lower-values leaf-values x y z counts₀ covered₀ i₀
     counts covered i =
     length root-links - i
 
 -- places
-abbrev begin : tie.After-slice-known invariant-loop decreases-loop → tie.Start invariant-loop decreases-loop
+abbrev begin : tie.After-slice_known-1 invariant-loop decreases-loop → tie.Start invariant-loop decreases-loop
 begin c = c.before.before.before.before.before.before.before.before.before
 
-abbrev start : tie.In-loop invariant-loop decreases-loop → tie.Start invariant-loop decreases-loop
+abbrev start : tie.In-loop-i invariant-loop decreases-loop → tie.Start invariant-loop decreases-loop
 start c = begin c.before.before
 
-abbrev at_test : tie.After-cover-classes invariant-loop decreases-loop → tie.In-loop invariant-loop decreases-loop
+abbrev at_test : tie.After-cover_classes-covered invariant-loop decreases-loop → tie.In-loop-i invariant-loop decreases-loop
 at_test c = c.before.before
 
-abbrev ended : tie.After-loop invariant-loop decreases-loop → tie.Start invariant-loop decreases-loop
+abbrev ended : tie.After-loop-i invariant-loop decreases-loop → tie.Start invariant-loop decreases-loop
 ended c = begin c.before.before
 
-abbrev at_end : tie.After-add-value invariant-loop decreases-loop → tie.After-part-size invariant-loop decreases-loop
+abbrev at_end : tie.After-add_value invariant-loop decreases-loop → tie.After-part_size-all invariant-loop decreases-loop
 at_end c = c.before.before
 
 abbrev grid : tie.Start invariant-loop decreases-loop → Grid
 grid c =
     let a = c.args in
-    grid_of a.background a.blocks.now a.root-links.now a.root-values.now a.upper-links.now a.upper-values.now
-    a.lower-links.now a.lower-values.now a.leaf-values.now
+    grid_of a.background a.blocks.now a.root_links.now a.root_values.now a.upper_links.now a.upper_values.now
+    a.lower_links.now a.lower_values.now a.leaf_values.now
 
 -- every root was gone through
-gone : (c : tie.After-loop invariant-loop decreases-loop) →
+gone : (c : tie.After-loop-i invariant-loop decreases-loop) →
     let b = ended c in
     let a = b.args in
-    Gone (grid b) a.limits.now (length a.root-links.now) (zone_in a.x a.y a.z) c.before.loop.counts c.before.loop.covered
+    Gone (grid b) a.limits.now (length a.root_links.now) (zone_in a.x a.y a.z) c.before.loop-i.counts c.before.loop-i.covered
 gone c =
     let b = ended c in
     let a = b.args in
-    let w = c.before.loop in
-    let e : w.i ≡ length a.root-links.now = omega (arith, w.invariant.0, c.loop-test.false) in
+    let w = c.before.loop-i in
+    let e : w.i ≡ length a.root_links.now = omega (arith, w.invariant.0, c.loop-i-test.false) in
     subst (λ (n : ℕ). Gone (grid b) a.limits.now n (zone_in a.x a.y a.z) w.counts w.covered) e w.invariant.2
 
-cover-classes-requires : tie.Need-cover-classes-requires invariant-loop decreases-loop
+cover-classes-requires : tie.Need-cover_classes-covered-requires invariant-loop decreases-loop
 cover-classes-requires c κs =
     let t = c.before in
     let p = (start t).requires in
-    let w = t.before.loop in
-    (p.0, t.loop-test.true, p.1, p.2, p.3, w.invariant.1 ∙ p.4, w.invariant.2)
+    let w = t.before.loop-i in
+    (p.0, t.loop-i-test.true, p.1, p.2, p.3, w.invariant.1 ∙ p.4, w.invariant.2)
 
-loop-again : tie.Need-loop-preserved invariant-loop decreases-loop
+loop-again : tie.Need-loop-i-preserved invariant-loop decreases-loop
 loop-again c =
     let d = c.before.before in
-    let w = (at_test d).before.loop in
-    (omega (arith, (at_test d).loop-test.true), d.cover-classes.auto.1.1.1.1.1.1.1.1.1.1.1.1.1.1.1.0 ∙ w.inv.1, d.cover-classes.ensures)
+    let w = (at_test d).before.loop-i in
+    (omega (arith, (at_test d).loop-i-test.true), d.cover_classes-covered.auto.1.1.1.1.1.1.1.1.1.1.1.1.1.1.1.0 ∙ w.inv.1, d.cover_classes-covered.ensures)
 
-add-value-requires : tie.Need-add-value-requires invariant-loop decreases-loop
+add-value-requires : tie.Need-add_value-requires invariant-loop decreases-loop
 add-value-requires c κs =
     let s = c.before in
     let l = s.before in
     let p = (ended l).requires in
-    (p.3, l.before.loop.invariant.1 ∙ p.4, rest_room p.0 p.2 (gone l) s.part-size.result s.part-size.ensures)
+    (p.3, l.before.loop-i.invariant.1 ∙ p.4, rest_room p.0 p.2 (gone l) s.part_size-all.result s.part_size-all.ensures)
 
 returns : tie.Need-returns invariant-loop decreases-loop
 returns c =
@@ -79,10 +79,10 @@ returns c =
     let s = at_end d in
     let l = s.before in
     let p = (ended l).requires in
-    gone_all p.0 p.2 (gone l) d.add-value.new.1.1.1.0 s.part-size.result s.part-size.ensures d.add-value.ensures
+    gone_all p.0 p.2 (gone l) d.add_value.new.1.1.1.0 s.part_size-all.result s.part_size-all.ensures d.add_value.ensures
 
-pub roots-classes-spec : {M : Type 1} → statement M
-roots-classes-spec =
+pub roots_classes_spec : {M : Type 1} → statement M
+roots_classes_spec =
     tie.close
     (tie.spec
     invariant-loop
@@ -91,11 +91,11 @@ roots-classes-spec =
     let b = begin c in
     (omega arith, refl, gone_none (grid b) b.args.limits.now (zone_in b.args.x b.args.y b.args.z) b.args.counts.now b.requires.5))
     cover-classes-requires
-    (λ c. omega (arith, (at_test c.before.before).loop-test.true))
-    (λ c. omega (arith, (at_test c.before.before).loop-test.true))
+    (λ c. omega (arith, (at_test c.before.before).loop-i-test.true))
+    (λ c. omega (arith, (at_test c.before.before).loop-i-test.true))
     loop-again
     (λ c κs. let p = (ended c).requires in (p.1, p.2))
-    (λ c. let l = c.before in let p = (ended l).requires in rest_fits p.0 p.2 (gone l) c.part-size.result c.part-size.ensures)
+    (λ c. let l = c.before in let p = (ended l).requires in rest_fits p.0 p.2 (gone l) c.part_size-all.result c.part_size-all.ensures)
     add-value-requires
-    (λ c. let d = c.before.before in d.add-value.auto.1.1.1.0 ∙ (at_end d).before.before.loop.invariant.1)
+    (λ c. let d = c.before.before in d.add_value.auto.1.1.1.0 ∙ (at_end d).before.before.loop-i.invariant.1)
     returns)

@@ -9,17 +9,17 @@ use Rattle.majorant.proofs.maxima.maximum_at.Statement.{statement}
 use Rattle.majorant.proofs.maxima.maximum_at.Tie as tie
 
 -- ---- places on the way to a place: the second number, and the start
-abbrev at_second : tie.After-range-max-arg6 → tie.After-range-max-arg2
+abbrev at_second : tie.After-range_max-arg-6-1 → tie.After-range_max-arg-2-1
 at_second c = c.before.before.before.before
 
-abbrev start : tie.After-range-max-arg → tie.Start
+abbrev start : tie.After-range_max-arg-1 → tie.Start
 start c = c.before.before.before.before.before.before.before.before
 
 abbrev grid : tie.Start → Grid
 grid c =
     let a = c.args in
-    grid_of a.background a.blocks.now a.root-links.now a.root-values.now a.upper-links.now a.upper-values.now
-    a.lower-links.now a.lower-values.now a.leaf-values.now
+    grid_of a.background a.blocks.now a.root_links.now a.root_values.now a.upper_links.now a.upper_values.now
+    a.lower_links.now a.lower_values.now a.leaf_values.now
 
 -- number k of the list, and that it is handed on as it is read
 abbrev number : tie.Start → ℕ → ℤ
@@ -34,16 +34,16 @@ returns c =
     let two = at_second six in
     let s = start two.before in
     let at = 6 * s.args.i in
-    let lx = handed s at two.before.range-max-arg.given in
-    let ly = handed s (at + 1) two.range-max-arg2.given in
-    let lz = handed s (at + 2) six.before.before.before.range-max-arg3.given in
-    let hx = handed s (at + 3) six.before.before.range-max-arg4.given in
-    let hy = handed s (at + 4) six.before.range-max-arg5.given in
-    let hz = handed s (at + 5) six.range-max-arg6.given in
-    c.range-max.ensures.0 ∙ (λ j. box_maximum (read_in (grid s)) (between (lx j) (ly j) (lz j) (hx j) (hy j) (hz j)))
+    let lx = handed s at two.before.range_max-arg-1.given in
+    let ly = handed s (at + 1) two.range_max-arg-2-1.given in
+    let lz = handed s (at + 2) six.before.before.before.range_max-arg-3-1.given in
+    let hx = handed s (at + 3) six.before.before.range_max-arg-4-1.given in
+    let hy = handed s (at + 4) six.before.range_max-arg-5-1.given in
+    let hz = handed s (at + 5) six.range_max-arg-6-1.given in
+    c.range_max.ensures.0 ∙ (λ j. box_maximum (read_in (grid s)) (between (lx j) (ly j) (lz j) (hx j) (hy j) (hz j)))
 
-pub maximum-at-spec : {M : Type 1} → statement M
-maximum-at-spec =
+pub maximum_at_spec : {M : Type 1} → statement M
+maximum_at_spec =
     tie.close
     (tie.spec
     (λ c. search rules) (λ c. search rules) (λ c. search rules) (λ c. search rules) (λ c. search rules) (λ c. search rules)

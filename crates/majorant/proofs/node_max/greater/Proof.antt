@@ -3,11 +3,11 @@ use Rattle.std.proofs.Common.{Bool, cond, sym, ap}
 use Rattle.majorant.proofs.node_max.greater.Statement.{statement}
 use Rattle.majorant.proofs.node_max.greater.Tie as tie
 
-returns : tie.Need-returns
-returns c = ap (λ (t : Bool). cond t c.before.args.b c.before.args.a) (sym c.if1.true)
+returns : tie.Need-returns-then-a-b
+returns c = ap (λ (t : Bool). cond t c.before.args.b c.before.args.a) (sym c.if-a-b.true)
 
-returns-2 : tie.Need-returns-2
-returns-2 c = ap (λ (t : Bool). cond t c.before.args.b c.before.args.a) (sym c.if1.false)
+returns-2 : tie.Need-returns-else-a-b
+returns-2 c = ap (λ (t : Bool). cond t c.before.args.b c.before.args.a) (sym c.if-a-b.false)
 
-pub greater-spec : {M : Type 1} → statement M
-greater-spec = tie.close (tie.spec returns returns-2)
+pub greater_spec : {M : Type 1} → statement M
+greater_spec = tie.close (tie.spec returns returns-2)

@@ -6,35 +6,35 @@ use Rattle.boxes.specs.ColumnLaws.{none_y, more_y, till_y, still_eight}
 use Rattle.majorant.proofs.node_max.join_plane.Statement.{statement}
 use Rattle.majorant.proofs.node_max.join_plane.Tie as tie
 
-abbrev invariant-loop : tie.invariant-loop
+abbrev invariant-loop : tie.invariant-loop-at
 invariant-loop leaf-values k x maxima₀ end at₀ maxima at =
     (at₀ ≤ at) × (at < end) × Columns (leaf_read leaf-values k) x (x + 1) at₀ at maxima₀ maxima
 
-abbrev decreases-loop : tie.decreases-loop
+abbrev decreases-loop : tie.decreases-loop-at
 decreases-loop leaf-values k x maxima₀ end at₀ maxima at = end - at
 
 -- places
-abbrev at-loop : tie.After-join-row invariant-loop decreases-loop → tie.At-loop invariant-loop decreases-loop
+abbrev at-loop : tie.After-join_row invariant-loop decreases-loop → tie.At-loop-at invariant-loop decreases-loop
 at-loop c = c.before.before
 
-abbrev start : tie.At-loop invariant-loop decreases-loop → tie.Start invariant-loop decreases-loop
+abbrev start : tie.At-loop-at invariant-loop decreases-loop → tie.Start invariant-loop decreases-loop
 start c = c.before.before
 
-join-row-requires : tie.Need-join-row-requires invariant-loop decreases-loop
-join-row-requires c κs = let l = c.before in let p = (start l).requires in (p.0, still_eight p.2 l.loop.invariant.2)
+join-row-requires : tie.Need-join_row-requires invariant-loop decreases-loop
+join-row-requires c κs = let l = c.before in let p = (start l).requires in (p.0, still_eight p.2 l.loop-at.invariant.2)
 
-returns : tie.Need-returns invariant-loop decreases-loop
+returns : tie.Need-returns-then-at-end invariant-loop decreases-loop
 returns c =
-    let w = (at-loop c.before).loop in
-    till_y (more_y w.inv.0 (omega arith) w.inv.2 c.before.join-row.ensures) (omega arith)
+    let w = (at-loop c.before).loop-at in
+    till_y (more_y w.inv.0 (omega arith) w.inv.2 c.before.join_row.ensures) (omega arith)
 
-loop-again : tie.Need-loop-preserved invariant-loop decreases-loop
+loop-again : tie.Need-loop-at-preserved invariant-loop decreases-loop
 loop-again c =
-    let w = (at-loop c.before).loop in
-    (omega arith, omega arith, more_y w.inv.0 (omega arith) w.inv.2 c.before.join-row.ensures)
+    let w = (at-loop c.before).loop-at in
+    (omega arith, omega arith, more_y w.inv.0 (omega arith) w.inv.2 c.before.join_row.ensures)
 
-pub join-plane-spec : {M : Type 1} → statement M
-join-plane-spec =
+pub join_plane_spec : {M : Type 1} → statement M
+join_plane_spec =
     tie.close
     (tie.spec
     invariant-loop

@@ -6,35 +6,35 @@ use Rattle.boxes.specs.ColumnLaws.{none_x, more_x, till_x, still_eight}
 use Rattle.majorant.proofs.node_max.join_planes.Statement.{statement}
 use Rattle.majorant.proofs.node_max.join_planes.Tie as tie
 
-abbrev invariant-loop : tie.invariant-loop
+abbrev invariant-loop : tie.invariant-loop-at
 invariant-loop leaf-values k y maxima₀ end at₀ maxima at =
     (at₀ ≤ at) × (at < end) × Columns (leaf_read leaf-values k) at₀ at y.lo y.hi maxima₀ maxima
 
-abbrev decreases-loop : tie.decreases-loop
+abbrev decreases-loop : tie.decreases-loop-at
 decreases-loop leaf-values k y maxima₀ end at₀ maxima at = end - at
 
 -- places
-abbrev at-loop : tie.After-join-plane invariant-loop decreases-loop → tie.At-loop invariant-loop decreases-loop
+abbrev at-loop : tie.After-join_plane invariant-loop decreases-loop → tie.At-loop-at invariant-loop decreases-loop
 at-loop c = c.before.before
 
-abbrev start : tie.At-loop invariant-loop decreases-loop → tie.Start invariant-loop decreases-loop
+abbrev start : tie.At-loop-at invariant-loop decreases-loop → tie.Start invariant-loop decreases-loop
 start c = c.before.before
 
-join-plane-requires : tie.Need-join-plane-requires invariant-loop decreases-loop
-join-plane-requires c κs = let l = c.before in let p = (start l).requires in (p.0, p.2, still_eight p.3 l.loop.invariant.2)
+join-plane-requires : tie.Need-join_plane-requires invariant-loop decreases-loop
+join-plane-requires c κs = let l = c.before in let p = (start l).requires in (p.0, p.2, still_eight p.3 l.loop-at.invariant.2)
 
-returns : tie.Need-returns invariant-loop decreases-loop
+returns : tie.Need-returns-then-at-end invariant-loop decreases-loop
 returns c =
-    let w = (at-loop c.before).loop in
-    till_x (more_x w.inv.0 (omega arith) w.inv.2 c.before.join-plane.ensures) (omega arith)
+    let w = (at-loop c.before).loop-at in
+    till_x (more_x w.inv.0 (omega arith) w.inv.2 c.before.join_plane.ensures) (omega arith)
 
-loop-again : tie.Need-loop-preserved invariant-loop decreases-loop
+loop-again : tie.Need-loop-at-preserved invariant-loop decreases-loop
 loop-again c =
-    let w = (at-loop c.before).loop in
-    (omega arith, omega arith, more_x w.inv.0 (omega arith) w.inv.2 c.before.join-plane.ensures)
+    let w = (at-loop c.before).loop-at in
+    (omega arith, omega arith, more_x w.inv.0 (omega arith) w.inv.2 c.before.join_plane.ensures)
 
-pub join-planes-spec : {M : Type 1} → statement M
-join-planes-spec =
+pub join_planes_spec : {M : Type 1} → statement M
+join_planes_spec =
     tie.close
     (tie.spec
     invariant-loop

@@ -35,48 +35,48 @@ next {value} {m} {r} {i} {v} u h e = record {
         ∙ e ∙ ap (λ (w : Float). greater w (value i)) (u.left i (omega arith))
         ∙ ap (λ (n : ℕ). greater (get_or m n +0) (value n)) (sym q)
 
-abbrev invariant-loop : tie.invariant-loop
+abbrev invariant-loop : tie.invariant-loop-i
 invariant-loop leaf-values k x y maxima₀ start i₀ maxima i = Upto (λ j. get_or leaf-values (start + j) +0) maxima₀ maxima i
 
-abbrev decreases-loop : tie.decreases-loop
+abbrev decreases-loop : tie.decreases-loop-i
 decreases-loop leaf-values k x y maxima₀ start i₀ maxima i = 8 - i
 
 -- places
-abbrev begin : tie.After-table-index invariant-loop decreases-loop → tie.Start invariant-loop decreases-loop
+abbrev begin : tie.After-table_index invariant-loop decreases-loop → tie.Start invariant-loop decreases-loop
 begin c = c.before.before
 
-abbrev at_first : tie.In-loop invariant-loop decreases-loop → tie.After-table-index invariant-loop decreases-loop
+abbrev at_first : tie.In-loop-i invariant-loop decreases-loop → tie.After-table_index invariant-loop decreases-loop
 at_first c = c.before.before
 
-abbrev at-loop : tie.After-greater invariant-loop decreases-loop → tie.In-loop invariant-loop decreases-loop
+abbrev at-loop : tie.After-greater invariant-loop decreases-loop → tie.In-loop-i invariant-loop decreases-loop
 at-loop c = c.before.before.before
 
-loop-holds : tie.Need-loop-init invariant-loop decreases-loop
+loop-holds : tie.Need-loop-i-init invariant-loop decreases-loop
 loop-holds c = record { eight = (begin c).requires.1.eight; most = omega arith; joined = λ j h. absurd (omega arith); left = λ j h. refl }
 
-loop-again : tie.Need-loop-preserved invariant-loop decreases-loop
+loop-again : tie.Need-loop-i-preserved invariant-loop decreases-loop
 loop-again c =
     let l = at-loop c in
-    let w = l.before.loop in
-    let values = (begin (at_first l)).args.leaf-values.now in
-    let n = 512 * (begin (at_first l)).args.k + (at_first l).table-index.result + w.i in
+    let w = l.before.loop-i in
+    let values = (begin (at_first l)).args.leaf_values.now in
+    let n = 512 * (begin (at_first l)).args.k + (at_first l).table_index.result + w.i in
     next w.inv (omega arith)
     (c.greater.ensures
     ∙ λ j. greater (get_d_any w.maxima w.i nan +0 (omega (arith, w.inv.eight)) j)
-    (get_d_any values n nan +0 (omega (arith, (at_first l).table-index.ensures)) j))
+    (get_d_any values n nan +0 (omega (arith, (at_first l).table_index.ensures)) j))
 
 returns : tie.Need-returns invariant-loop decreases-loop
 unfolding leaf_read
 returns c =
     let b = begin c.before.before in
-    let u = c.before.loop.invariant in
+    let u = c.before.loop-i.invariant in
     row b.requires.1 b.args.x b.args.y u.eight
     (λ z. u.joined (z % 8) (omega arith)
-    ∙ ap (λ (n : ℕ). greater (maximum_at b.args.maxima.now z) (get_or b.args.leaf-values.now n +0))
-    (omega (arith, c.before.before.table-index.ensures)))
+    ∙ ap (λ (n : ℕ). greater (maximum_at b.args.maxima.now z) (get_or b.args.leaf_values.now n +0))
+    (omega (arith, c.before.before.table_index.ensures)))
 
-pub join-row-spec : {M : Type 1} → statement M
-join-row-spec =
+pub join_row_spec : {M : Type 1} → statement M
+join_row_spec =
     tie.close
     (tie.spec
     invariant-loop

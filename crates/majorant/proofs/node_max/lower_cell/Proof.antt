@@ -18,56 +18,56 @@ use Rattle.majorant.proofs.node_max.lower_cell.Tie as tie
 abbrev begin : tie.After-tally → tie.Start
 begin c = c.before.before.before.before.before
 
-abbrev at-tally : tie.After-table-index → tie.After-tally
+abbrev at-tally : tie.After-table_index → tie.After-tally
 at-tally c = c.before.before.before.before
 
-abbrev at-index : tie.After-entry-of → tie.After-table-index
+abbrev at-index : tie.After-entry_of → tie.After-table_index
 at-index c = c.before.before.before
 
-abbrev at-child : tie.After-tally-values → tie.After-j
+abbrev at-child : tie.After-tally_values → tie.In-Child-2
 at-child c = c.before.before.before
 
-abbrev start : tie.After-entry-of → tie.Start
+abbrev start : tie.After-entry_of → tie.Start
 start c = begin (at-tally (at-index c))
 
 -- the node's two tables, the slot of the first place, and what is read below
 abbrev links : tie.Start → List ℕ
-links c = c.args.lower-links.now
+links c = c.args.lower_links.now
 
 abbrev values : tie.Start → List Float
-values c = c.args.lower-values.now
+values c = c.args.lower_values.now
 
 abbrev slot : tie.Start → ℕ
 slot c = let a = c.args in lower_slot a.k a.x.lo a.y.lo a.z.lo
 
 abbrev below : tie.Start → ℕ → ℕ → ℕ → ℕ → Float
-below c = leaf_read c.args.leaf-values.now
+below c = leaf_read c.args.leaf_values.now
 
 -- a place of the node lies in both of its tables
-slot-in : (c : tie.After-table-index) →
+slot-in : (c : tie.After-table_index) →
     let b = begin (at-tally c) in
-    let i = 4096 * b.args.k + c.table-index.result in (i < length (links b)) × (i < length (values b))
+    let i = 4096 * b.args.k + c.table_index.result in (i < length (links b)) × (i < length (values b))
 slot-in c =
     let h = (begin (at-tally c)).requires.0 in
-    (omega (arith, c.table-index.ensures, h.room), omega (arith, c.table-index.ensures, h.room, h.pair))
+    (omega (arith, c.table_index.ensures, h.room), omega (arith, c.table_index.ensures, h.room, h.pair))
 
 -- the entry that the code reads is that of the slot
-entry : (c : tie.After-entry-of) → entry_at (links (start c)) (values (start c)) (slot (start c)) ≡ c.entry_of_lem.result
+entry : (c : tie.After-entry_of) → entry_at (links (start c)) (values (start c)) (slot (start c)) ≡ c.entry_of.result
 entry c =
     let b = start c in
-    let i = 4096 * b.args.k + (at-index c).table-index.result in
-    ap (λ (n : ℕ). entry_at (links b) (values b) (4096 * b.args.k + n)) (sym (at-index c).table-index.ensures)
-    ∙ sym (c.entry_of_lem.ensures ∙ entry_read_lem (links b) (values b) i (slot-in (at-index c)).1)
+    let i = 4096 * b.args.k + (at-index c).table_index.result in
+    ap (λ (n : ℕ). entry_at (links b) (values b) (4096 * b.args.k + n)) (sym (at-index c).table_index.ensures)
+    ∙ sym (c.entry_of.ensures ∙ entry_read_lem (links b) (values b) i (slot-in (at-index c)).1)
 
 -- and every place of the cell goes by it
 same : (c : tie.Start) →
     let a = c.args in
     (x y z : ℕ) → Within a.x a.y a.z x y z
-    → lower_read a.lower-links.now a.lower-values.now a.leaf-values.now a.k x y z
+    → lower_read a.lower_links.now a.lower_values.now a.leaf_values.now a.k x y z
     ≡ entry_read (entry_at (links c) (values c) (slot c)) (λ j. below c j x y z)
 same c =
     let a = c.args in
-    lower_same a.x a.y a.z a.lower-links.now a.lower-values.now a.leaf-values.now a.k
+    lower_same a.x a.y a.z a.lower_links.now a.lower_values.now a.leaf_values.now a.k
     c.requires.2.0 c.requires.2.1 c.requires.2.2
 
 -- what the entry is for the counts
@@ -76,39 +76,39 @@ counted : (c : tie.Start) (p : Price) {e : Entry} → entry_at (links c) (values
     p.lower + walk_below e (λ j. p.leaf * volume (zone_in a.x a.y a.z)) ≡ lower_count p (links c) (values c) a.k a.x a.y a.z
 counted c p q = lower_entry_lem p (links c) (values c) c.args.k c.requires.1 c.requires.2 q
 
-leaf-max-requires : tie.Need-leaf-max-requires
+leaf-max-requires : tie.Need-leaf_max-requires
 leaf-max-requires c κs =
     let m = at-child c in
     let d = m.before.before in
     let b = start d in
-    let l = child_link (links b) (values b) (slot b) (entry d ∙ m.j.given.1) in
+    let l = child_link (links b) (values b) (slot b) (entry d ∙ m.j-1.given.1) in
     let h = b.requires.0.linked (slot b) in
     (omega arith, b.requires.1, b.requires.3)
 
-returns : tie.Need-returns
+returns : tie.Need-returns-in-Child
 returns c =
     let d = c.before in
     let m = at-child d in
     let e = m.before.before in
     let b = start e in
-    let q = entry e ∙ m.j.given.1 in (
-      cell_child (below b) b.args.x b.args.y b.args.z (same b) q c.leaf-max.ensures,
+    let q = entry e ∙ m.j-1.given.1 in (
+      cell_child (below b) b.args.x b.args.y b.args.z (same b) q c.leaf_max.ensures,
       λ w. equal refl refl (omega (arith, counted b lowers_only q)) (omega (arith, counted b leaves_only q))
-          (and ((at-tally (at-index e)).tally.ensures w) (d.tally-values.ensures w)),
+          (and ((at-tally (at-index e)).tally.ensures w) (d.tally_values.ensures w)),
     )
 
-returns-2 : tie.Need-returns-2
+returns-2 : tie.Need-returns-in-Tile
 returns-2 c =
     let m = c.before.before in
     let e = m.before.before in
     let b = start e in
-    let q = entry e ∙ m.v.given.1 in (
+    let q = entry e ∙ m.v-1.given.1 in (
       cell_tile (below b) b.args.x b.args.y b.args.z (same b) b.requires.1 q b.requires.3 c.greater.ensures,
       λ w. equal refl refl (counted b lowers_only q) (counted b leaves_only q) ((at-tally (at-index e)).tally.ensures w),
     )
 
-pub lower-cell-spec : {M : Type 1} → statement M
-lower-cell-spec =
+pub lower_cell_spec : {M : Type 1} → statement M
+lower_cell_spec =
     tie.close
     (tie.spec
     (λ c κs. search rules)

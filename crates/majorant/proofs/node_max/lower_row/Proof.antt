@@ -6,36 +6,36 @@ use Rattle.majorant.proofs.Turns.{lower, along_z_lem, Gathered, first, turn, til
 use Rattle.majorant.proofs.node_max.lower_row.Statement.{statement}
 use Rattle.majorant.proofs.node_max.lower_row.Tie as tie
 
-abbrev invariant-loop : tie.invariant-loop
+abbrev invariant-loop : tie.invariant-loop-at
 invariant-loop lower-links lower-values leaf-values k x y maximum counting counts₀ end held₀ at₀ counts held at =
     Gathered (along_z_lem (lower lower-links lower-values leaf-values k) x y) counting end held₀ counts₀ at₀ held counts at
 
-abbrev decreases-loop : tie.decreases-loop
+abbrev decreases-loop : tie.decreases-loop-at
 decreases-loop lower-links lower-values leaf-values k x y maximum counting counts₀ end held₀ at₀ counts held at = end - at
 
 -- places: the loop, and the cell's end
-abbrev begin : tie.After-shared-slice-known3 invariant-loop decreases-loop → tie.Start invariant-loop decreases-loop
+abbrev begin : tie.After-shared_slice_known-3-1 invariant-loop decreases-loop → tie.Start invariant-loop decreases-loop
 begin c = c.before.before.before
 
-abbrev start : tie.In-loop invariant-loop decreases-loop → tie.Start invariant-loop decreases-loop
+abbrev start : tie.In-loop-at invariant-loop decreases-loop → tie.Start invariant-loop decreases-loop
 start c = begin c.before.before
 
-abbrev at-cell : tie.After-lower-cell invariant-loop decreases-loop → tie.After-cell-end invariant-loop decreases-loop
+abbrev at-cell : tie.After-lower_cell-held invariant-loop decreases-loop → tie.After-cell_end-next invariant-loop decreases-loop
 at-cell c = c.before.before
 
-abbrev at-loop : tie.After-lower-cell invariant-loop decreases-loop → tie.In-loop invariant-loop decreases-loop
+abbrev at-loop : tie.After-lower_cell-held invariant-loop decreases-loop → tie.In-loop-at invariant-loop decreases-loop
 at-loop c = (at-cell c).before
 
-lower-cell-requires : tie.Need-lower-cell-requires invariant-loop decreases-loop
+lower-cell-requires : tie.Need-lower_cell-held-requires invariant-loop decreases-loop
 lower-cell-requires c κs =
     let l = c.before.before in
     let p = (start l).requires in
-    let k = c.before.cell-end.ensures in
-    let w = l.before.loop.invariant in
+    let k = c.before.cell_end-next.ensures in
+    let w = l.before.loop-at.invariant in
     (p.0, cut_z p.1 k, (p.2, p.3, k.cell), joined_not_below p.5 w.joined)
 
-pub lower-row-spec : {M : Type 1} → statement M
-lower-row-spec =
+pub lower_row_spec : {M : Type 1} → statement M
+lower_row_spec =
     tie.close
     (tie.spec
     invariant-loop
@@ -43,6 +43,6 @@ lower-row-spec =
     (λ c. first (omega arith) (begin c).requires.5)
     (λ c κs. (omega arith, omega arith, omega arith, omega arith))
     lower-cell-requires
-    (λ c. let k = (at-cell c).cell-end.ensures in omega arith)
-    (λ c. turn (at-loop c).before.loop.invariant (at-cell c).cell-end.ensures (start (at-loop c)).requires.4 c.lower-cell.ensures)
-    (λ c. till c.before.loop.invariant c.loop-test.false))
+    (λ c. let k = (at-cell c).cell_end-next.ensures in omega arith)
+    (λ c. turn (at-loop c).before.loop-at.invariant (at-cell c).cell_end-next.ensures (start (at-loop c)).requires.4 c.lower_cell-held.ensures)
+    (λ c. till c.before.loop-at.invariant c.loop-at-test.false))

@@ -10,17 +10,17 @@ module _ {x y n : ℕ} (p : x < 32) (q : y < 32) (h : n ≤ 32) where
   plane : (x * n + y) * n ≤ 33792
   plane = let r = row in mul-le-mul {n₂ = 1056} (omega arith) h
 
-mul-result : tie.Need-overflow-mul-result
+mul-result : tie.Need-overflow_mul-result
 mul-result c = let r = row c.requires.0 c.requires.1 c.requires.3 in omega arith
 
-add-result : tie.Need-overflow-add-result
+add-result : tie.Need-overflow_add-result
 add-result c = let r = row c.requires.0 c.requires.1 c.requires.3 in omega arith
 
-mul-result-2 : tie.Need-overflow-mul-result-2
+mul-result-2 : tie.Need-overflow_mul-result-2
 mul-result-2 c = let r = plane c.requires.0 c.requires.1 c.requires.3 in omega arith
 
-add-result-2 : tie.Need-overflow-add-result-2
+add-result-2 : tie.Need-overflow_add-result-2
 add-result-2 c = let r = plane c.requires.0 c.requires.1 c.requires.3 in omega arith
 
-pub table-index-spec : {M : Type 1} → statement M
-table-index-spec = tie.close (tie.spec mul-result add-result mul-result-2 add-result-2 (λ c. search rules))
+pub table_index_spec : {M : Type 1} → statement M
+table_index_spec = tie.close (tie.spec mul-result add-result mul-result-2 add-result-2 (λ c. search rules))

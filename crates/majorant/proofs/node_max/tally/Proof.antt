@@ -4,13 +4,13 @@ use Rattle.walk.specs.WordLaws.{entry_more}
 use Rattle.majorant.proofs.node_max.tally.Statement.{statement}
 use Rattle.majorant.proofs.node_max.tally.Tie as tie
 
-returns : tie.Need-returns
+returns : tie.Need-returns-then-counting
 returns c q =
     let b = c.before.before.before in
-    entry_more b.args.counts.now b.args.place b.requires.0 b.requires.1 c.wrapping-add-u64.ensures
+    entry_more b.args.counts.now b.args.place b.requires.0 b.requires.1 c.wrapping_add_u64.ensures
 
-pub tally-spec : {M : Type 1} → statement M
-tally-spec =
+pub tally_spec : {M : Type 1} → statement M
+tally_spec =
     tie.close
     (tie.spec
     (λ c. search rules)
@@ -19,4 +19,4 @@ tally-spec =
     (λ c. search rules)
     (λ c. search rules)
     returns
-    (λ c q. absurd (true≢false (sym q ∙ c.if1.false))))
+    (λ c q. absurd (true≢false (sym q ∙ c.if-counting.false))))

@@ -6,12 +6,13 @@ use Rattle.walk.specs.Counts.{More}
 use Rattle.walk.specs.WordLaws.{values_more, values_carry}
 use Rattle.majorant.proofs.node_max.tally_values.Statement.{statement}
 use Rattle.majorant.proofs.node_max.tally_values.Tie as tie
+use Rattle.majorant.proofs.node_max.tally_values.Lts.{then-low-size, else-low-size}
 
 -- places, and how long a side is
-abbrev begin : tie.After-struct-known3 → tie.Start
+abbrev begin : tie.After-struct_known-then-counting-2-1 → tie.Start
 begin c = c.before.before.before.before
 
-abbrev start : tie.After-wrapping-add-u64 → tie.Start
+abbrev start : tie.After-wrapping_add_u64-low → tie.Start
 start c = begin c.before.before
 
 abbrev along : Span → ℕ
@@ -26,20 +27,20 @@ flat c = mul-le-mul (short c.args.x c.requires.0.x_some c.requires.1.0) (short c
 size : (c : tie.Start) → along c.args.x * along c.args.y * along c.args.z ≤ 512
 size c = mul-le-mul (flat c) (short c.args.z c.requires.0.z_some c.requires.1.2)
 
-returns : tie.Need-returns
+returns : tie.Need-returns-after-low-size
 returns c q =
     let a = c.before in
     let t = (start a).args.counts.now in
     let h = size (start a) in
     let n = along (start a).args.x * along (start a).args.y * along (start a).args.z in
-    let to : List ℕ → Type 0 = λ u. More t (set u 4 a.wrapping-add-u64.result) 0 0 0 n in
-    ⊎_elim
-    (λ w. subst to (sym w.3) (values_carry t n (omega arith) a.wrapping-add-u64.ensures w.0.true w.2.ensures))
-    (λ w. subst to (sym w.1) (values_more t n (omega arith) a.wrapping-add-u64.ensures w.0.left))
-    c.if2.branch
+    let to : List ℕ → Type 0 = λ u. More t (set u 4 a.wrapping_add_u64-low.result) 0 0 0 n in
+    elim c.if-low-size.branch [
+      | then-low-size w ↦ subst to (sym w.3) (values_carry t n (omega arith) a.wrapping_add_u64-low.ensures w.if-low-size.true w.2.ensures)
+      | else-low-size w ↦ subst to (sym w.1@IS) (values_more t n (omega arith) a.wrapping_add_u64-low.ensures w.if-low-size.false)
+    ]
 
-pub tally-values-spec : {M : Type 1} → statement M
-tally-values-spec =
+pub tally_values_spec : {M : Type 1} → statement M
+tally_values_spec =
     tie.close
     (tie.spec
     (λ c. search rules)
@@ -54,4 +55,4 @@ tally-values-spec =
     (λ c. search rules)
     (λ c. search rules)
     returns
-    (λ c q. absurd (true≢false (sym q ∙ c.if1.false))))
+    (λ c q. absurd (true≢false (sym q ∙ c.if-counting.false))))

@@ -9,90 +9,90 @@ use Rattle.majorant.proofs.range_max.cover.Statement.{statement}
 use Rattle.majorant.proofs.range_max.cover.Tie as tie
 
 -- places: the start, the three tests, the entry, a child's three clips
-abbrev begin : tie.After-shared-slice-known7 → tie.Start
+abbrev begin : tie.After-shared_slice_known-7-1 → tie.Start
 begin c = c.before.before.before.before.before.before.before
 
-abbrev start : tie.After-is-apart → tie.Start
+abbrev start : tie.After-is_apart → tie.Start
 start c = begin c.before.before
 
-abbrev at_x : tie.After-is-apart2 → tie.After-is-apart
+abbrev at_x : tie.After-is_apart-2 → tie.After-is_apart
 at_x c = c.before.before.before
 
-abbrev at_y : tie.After-is-apart3 → tie.After-is-apart2
+abbrev at_y : tie.After-is_apart-3 → tie.After-is_apart-2
 at_y c = c.before.before.before
 
-abbrev start-2 : tie.After-is-apart2 → tie.Start
+abbrev start-2 : tie.After-is_apart-2 → tie.Start
 start-2 c = start (at_x c)
 
-abbrev start-3 : tie.After-is-apart3 → tie.Start
+abbrev start-3 : tie.After-is_apart-3 → tie.Start
 start-3 c = start-2 (at_y c)
 
-abbrev start-4 : tie.Else3 → tie.Start
+abbrev start-4 : tie.Else-is_apart-3 → tie.Start
 start-4 c = start-3 c.before
 
-abbrev at-tests : tie.After-entry-of → tie.Else3
+abbrev at-tests : tie.After-entry_of → tie.Else-is_apart-3
 at-tests c = c.before.before.before
 
-abbrev start-5 : tie.After-entry-of → tie.Start
+abbrev start-5 : tie.After-entry_of → tie.Start
 start-5 c = start-4 (at-tests c)
 
-abbrev at-child : tie.After-upper-max-arg → tie.After-known-told
+abbrev at-child : tie.After-upper_max-arg-1 → tie.In-Child
 at-child c = c.before.before.before.before
 
-abbrev at_entry : tie.After-known-told → tie.After-entry-of
+abbrev at_entry : tie.In-Child → tie.After-entry_of
 at_entry c = c.before.before.before
 
 -- the grid, and the root
 abbrev grid : tie.Start → Grid
 grid c =
     let a = c.args in
-    grid_of a.background a.blocks.now a.root-links.now a.root-values.now a.upper-links.now a.upper-values.now
-    a.lower-links.now a.lower-values.now a.leaf-values.now
+    grid_of a.background a.blocks.now a.root_links.now a.root_values.now a.upper_links.now a.upper_values.now
+    a.lower_links.now a.lower_values.now a.leaf_values.now
 
 rooted : (c : tie.Start) → Rooted (grid c) c.args.i
 rooted c = record { sound = c.requires.0; inside = c.requires.1 }
 
 -- no test told the root apart from the box
-touched : (c : tie.Else3) → let b = (start-4 c).args in Touched (block_at (grid (start-4 c)) b.i) b.x b.y b.z
+touched : (c : tie.Else-is_apart-3) → let b = (start-4 c).args in Touched (block_at (grid (start-4 c)) b.i) b.x b.y b.z
 touched c =
     let z = c.before in
     record {
-      x_met = sym (at_x (at_y z)).is-apart.ensures ∙ (at_y z).before.before.if1.false;
-      y_met = sym (at_y z).is-apart2.ensures ∙ z.before.before.if2.false;
-      z_met = sym z.is-apart3.ensures ∙ c.if3.false;
+      x_met = sym (at_x (at_y z)).is_apart.ensures ∙ (at_y z).before.before.if-is_apart.false;
+      y_met = sym (at_y z).is_apart-2.ensures ∙ z.before.before.if-is_apart-2.false;
+      z_met = sym z.is_apart-3.ensures ∙ c.if-is_apart-3.false;
     }
 
 -- the entry that was read
-entry-is : (c : tie.After-entry-of) → let b = start-5 c in IsEntry (grid b) b.args.i c.entry_of_lem.result
+entry-is : (c : tie.After-entry_of) → let b = start-5 c in IsEntry (grid b) b.args.i c.entry_of.result
 entry-is c =
     let b = start-5 c in
-    c.entry_of_lem.ensures ∙ entry_read_lem b.args.root-links.now b.args.root-values.now b.args.i (value_in_lem (rooted b))
+    c.entry_of.ensures ∙ entry_read_lem b.args.root_links.now b.args.root_values.now b.args.i (value_in_lem (rooted b))
 
-returns : tie.Need-returns
+returns : tie.Need-returns-then-is_apart
 returns c =
     let s = start c.before in
-    misses (rooted s) s.requires.2 s.requires.3 (inl (sym c.before.is-apart.ensures ∙ c.if1.true))
+    misses (rooted s) s.requires.2 s.requires.3 (inl (sym c.before.is_apart.ensures ∙ c.if-is_apart.true))
 
-returns-2 : tie.Need-returns-2
+returns-2 : tie.Need-returns-then-is_apart-2
 returns-2 c =
     let s = start-2 c.before in
-    misses (rooted s) s.requires.2 s.requires.3 (inr (inl (sym c.before.is-apart2.ensures ∙ c.if2.true)))
+    misses (rooted s) s.requires.2 s.requires.3 (inr (inl (sym c.before.is_apart-2.ensures ∙ c.if-is_apart-2.true)))
 
-returns-3 : tie.Need-returns-3
+returns-3 : tie.Need-returns-then-is_apart-3
 returns-3 c =
     let s = start-3 c.before in
-    misses (rooted s) s.requires.2 s.requires.3 (inr (inr (sym c.before.is-apart3.ensures ∙ c.if3.true)))
+    misses (rooted s) s.requires.2 s.requires.3 (inr (inr (sym c.before.is_apart-3.ensures ∙ c.if-is_apart-3.true)))
 
-upper-max-requires : tie.Need-upper-max-requires
+upper-max-requires : tie.Need-upper_max-maximum-requires
 upper-max-requires c κs =
     let k = at-child c in
     let e = at_entry k in
     let b = start-5 e in
     let s = b.requires.0 in
-    let p = clipped (touched (at-tests e)) c.before.before.before.intersect-bounds.ensures
-    c.before.before.intersect-bounds2.ensures c.before.intersect-bounds3.ensures in (
+    let p = clipped (touched (at-tests e)) c.before.before.before.intersect_bounds.ensures
+    c.before.before.intersect_bounds-in-Child.ensures c.before.intersect_bounds-in-Child-2.ensures in (
       record {
-        room = child_in_lem (rooted b) (sym k.before.k.given.1 ∙ entry-is e);
+        room = child_in_lem (rooted b) (sym k.before.k-1.given.1 ∙ entry-is e);
         tables = record { upper = s.upper; lower = s.lower; upper_linked = s.upper_linked; lower_linked = s.lower_linked };
       },
       part b.requires.2 p,
@@ -100,7 +100,7 @@ upper-max-requires c κs =
       most_not_below b.requires.3.most,
     )
 
-returns-4 : tie.Need-returns-4
+returns-4 : tie.Need-returns
 returns-4 c =
     let e = c.before.before in
     let b = start-5 e in
@@ -113,10 +113,10 @@ returns-4 c =
     (meets_child r f v (sym w.1.given.1 ∙ entry-is e) (clipped t w.3.ensures w.4.ensures w.5.ensures)
     w.7.ensures.0 w.7.ensures.1))
     (λ w. step_as r f v w.5 w.4 (meets_tile r f v (sym w.1.given.1 ∙ entry-is e) t w.3.ensures))
-    c.before.match.branch
+    c.before.in-Child.branch
 
-pub cover-spec : {M : Type 1} → statement M
-cover-spec =
+pub cover_spec : {M : Type 1} → statement M
+cover_spec =
     tie.close
     (tie.spec
     (λ c. omega arith)

@@ -9,8 +9,8 @@ returns : tie.Need-returns
 returns c =
     let d = c.before.before in
     let s : d.lifted.result ≡ raised d.before.args.block = d.lifted.ensures ∙ ap raised (seen d.before.ranges.block) in
-    let h = c.before.higher.ensures in
-    let l = c.lesser.ensures in
+    let h = c.before.higher-lo.ensures in
+    let l = c.lesser-hi.ensures in
     record {
       low = h.0;
       block_low = omega (arith, h.1, s);
@@ -19,14 +19,14 @@ returns c =
       all = λ x p q e. (h.2 x p (omega (arith, s)), l.2 x q (omega (arith, s)));
     }
 
-pub intersect-bounds-spec : {M : Type 1} → statement M
-intersect-bounds-spec =
+pub intersect_bounds_spec : {M : Type 1} → statement M
+intersect_bounds_spec =
     tie.close
     (tie.spec
     (λ c κs. search rules)
     (λ c. search rules)
-    (λ c. omega (arith, c.lifted.type-inv))
+    (λ c. omega (arith, c.lifted.type_inv))
     (λ c κs. search rules)
-    (λ c. omega (arith, c.before.lifted.type-inv))
+    (λ c. omega (arith, c.before.lifted.type_inv))
     (λ c κs. search rules)
     returns)

@@ -6,23 +6,23 @@ use Rattle.sparse_grid.specs.Signs.{seen}
 use Rattle.majorant.proofs.range_max.is_apart.Statement.{statement}
 use Rattle.majorant.proofs.range_max.is_apart.Tie as tie
 
-lift : (c : tie.After-lifted) → c.lifted.result ≡ raised c.before.args.block
-lift c = c.lifted.ensures ∙ ap raised (seen c.before.ranges.block)
+lift : (c : tie.After-lifted-b) → c.lifted-b.result ≡ raised c.before.args.block
+lift c = c.lifted-b.ensures ∙ ap raised (seen c.before.ranges.block)
 
 -- the first test of the two decided so
-decided : (c : tie.After-lifted) (t : Bool) →
+decided : (c : tie.After-lifted-b) (t : Bool) →
     let s = c.before.args.span in
-    ltb c.lifted.result (s.lo / 4096) ≡ t → (t || ltb ((s.hi - 1) / 4096) c.lifted.result) ≡ apart (raised c.before.args.block) s.lo s.hi
+    ltb c.lifted-b.result (s.lo / 4096) ≡ t → (t || ltb ((s.hi - 1) / 4096) c.lifted-b.result) ≡ apart (raised c.before.args.block) s.lo s.hi
 decided c t e =
     let s = c.before.args.span in
-    sym (ap (λ (t : Bool). t || ltb ((s.hi - 1) / 4096) c.lifted.result) e) ∙ ap (λ (n : ℕ). apart n s.lo s.hi) (lift c)
+    sym (ap (λ (t : Bool). t || ltb ((s.hi - 1) / 4096) c.lifted-b.result) e) ∙ ap (λ (n : ℕ). apart n s.lo s.hi) (lift c)
 
-pub is-apart-spec : {M : Type 1} → statement M
-is-apart-spec =
+pub is_apart_spec : {M : Type 1} → statement M
+is_apart_spec =
     tie.close
     (tie.spec
     (λ c κs. search rules)
     (λ c. search rules)
-    (λ c. decided c.before.before true (lt-ltb _ _ c.if1.true))
+    (λ c. decided c.before.before true (lt-ltb _ _ c.if-b-span.true))
     (λ c. omega arith)
-    (λ c. decided c.before.before.before false (le-ltb _ _ c.before.if1.false)))
+    (λ c. decided c.before.before.before false (le-ltb _ _ c.before.if-b-span.false)))

@@ -8,13 +8,13 @@ use Rattle.majorant.proofs.range_max.span_of.Tie as tie
 returns : tie.Need-returns
 returns c =
     let f = c.before.before.ranges in
-    let e : c.biased2.result + 1 - 1 ≡ c.biased2.result = omega arith in
+    let e : c.biased-e.result + 1 - 1 ≡ c.biased-e.result = omega arith in
     record {
-      low = sym (seen f.lo) ∙ c.before.biased.ensures;
-      high = sym (seen f.hi) ∙ c.biased2.ensures ∙ ap (back 2147483648) (sym e);
+      low = sym (seen f.lo) ∙ c.before.biased-a.ensures;
+      high = sym (seen f.hi) ∙ c.biased-e.ensures ∙ ap (back 2147483648) (sym e);
       some = omega arith;
-      top = omega (arith, c.biased2.type-inv);
+      top = omega (arith, c.biased-e.type_inv);
     }
 
-pub span-of-spec : {M : Type 1} → statement M
-span-of-spec = tie.close (tie.spec (λ c κs. search rules) (λ c. omega arith) (λ c κs. search rules) (λ c. omega arith) (λ c. omega arith) returns)
+pub span_of_spec : {M : Type 1} → statement M
+span_of_spec = tie.close (tie.spec (λ c κs. search rules) (λ c. omega arith) (λ c κs. search rules) (λ c. omega arith) (λ c. omega arith) returns)

@@ -12,5 +12,5 @@ returns c =
     let fit = c.ranges.c.sfits in
     ap (λ (z : ℤ). held (shr_z z 8)) (seen a fit) ∙ shifted a fit
 
-pub cube-of-spec : {M : Type 1} → statement M
-cube-of-spec = tie.close (tie.spec returns)
+pub cube_of_spec : {M : Type 1} → statement M
+cube_of_spec = tie.close (tie.spec returns)

@@ -11,13 +11,13 @@ use Rattle.mix.proofs.cube.cube_x.Statement.{statement}
 use Rattle.mix.proofs.cube.cube_x.Tie as tie
 
 -- the start, what is read from the spot on, and the first of the two calls
-abbrev at-start : tie.After-struct-told → tie.Start
+abbrev at-start : tie.After-struct_told-1 → tie.Start
 at-start c = c.before.before
 
 abbrev read : tie.Start → Coord → Float
-read c = read_from (leaves_of c.args.leaf-values.now) c.args.spot
+read c = read_from (leaves_of c.args.leaf_values.now) c.args.spot
 
-abbrev at_first : tie.After-lerp → tie.After-cube-y
+abbrev at_first : tie.After-lerp → tie.After-cube_y-a
 at_first c = c.before.before.before
 
 returns : tie.Need-returns
@@ -25,12 +25,12 @@ returns c =
     let q = at_first c in
     let s = at-start q.before in
     let a = s.args in
-    let e = q.before.struct_told.given.1 in
+    let e = q.before.struct_told-1.given.1 in
     c.lerp.ensures
     ∙ (λ i. lerp
-    ((q.cube-y.ensures ∙ (λ j. on_y (read s) (seen a.i.lo e.0.1 j) a.j a.k)) i)
-    ((c.before.cube-y2.ensures ∙ (λ j. on_y (read s) (seen a.i.hi e.1.0.1 j) a.j a.k)) i)
+    ((q.cube_y-a.ensures ∙ (λ j. on_y (read s) (seen a.i.lo e.0.1 j) a.j a.k)) i)
+    ((c.before.cube_y-b.ensures ∙ (λ j. on_y (read s) (seen a.i.hi e.1.0.1 j) a.j a.k)) i)
     a.i.t)
 
-pub cube-x-spec : {M : Type 1} → statement M
-cube-x-spec = tie.close (tie.spec (λ c κs. search rules) (λ c κs. search rules) (λ c κs. search rules) returns)
+pub cube_x_spec : {M : Type 1} → statement M
+cube_x_spec = tie.close (tie.spec (λ c κs. search rules) (λ c κs. search rules) (λ c κs. search rules) returns)

@@ -11,13 +11,13 @@ use Rattle.mix.proofs.cube.cube_y.Statement.{statement}
 use Rattle.mix.proofs.cube.cube_y.Tie as tie
 
 -- the start, what is read from the spot on, and the first of the two calls
-abbrev at-start : tie.After-struct-told → tie.Start
+abbrev at-start : tie.After-struct_told-1 → tie.Start
 at-start c = c.before.before
 
 abbrev read : tie.Start → Coord → Float
-read c = read_from (leaves_of c.args.leaf-values.now) c.args.spot
+read c = read_from (leaves_of c.args.leaf_values.now) c.args.spot
 
-abbrev at_first : tie.After-lerp → tie.After-cube-z
+abbrev at_first : tie.After-lerp → tie.After-cube_z-a
 at_first c = c.before.before.before
 
 returns : tie.Need-returns
@@ -26,12 +26,12 @@ returns c =
     let s = at-start q.before in
     let a = s.args in
     let f = s.ranges in
-    let e = q.before.struct_told.given.1 in
+    let e = q.before.struct_told-1.given.1 in
     c.lerp.ensures
     ∙ (λ i. lerp
-    ((q.cube-z.ensures ∙ (λ j. on_z (read s) (seen a.x f.x.sfits j) (seen a.j.lo e.0.1 j) a.k)) i)
-    ((c.before.cube-z2.ensures ∙ (λ j. on_z (read s) (seen a.x f.x.sfits j) (seen a.j.hi e.1.0.1 j) a.k)) i)
+    ((q.cube_z-a.ensures ∙ (λ j. on_z (read s) (seen a.x f.x.sfits j) (seen a.j.lo e.0.1 j) a.k)) i)
+    ((c.before.cube_z-b.ensures ∙ (λ j. on_z (read s) (seen a.x f.x.sfits j) (seen a.j.hi e.1.0.1 j) a.k)) i)
     a.j.t)
 
-pub cube-y-spec : {M : Type 1} → statement M
-cube-y-spec = tie.close (tie.spec (λ c κs. search rules) (λ c κs. search rules) (λ c κs. search rules) returns)
+pub cube_y_spec : {M : Type 1} → statement M
+cube_y_spec = tie.close (tie.spec (λ c κs. search rules) (λ c κs. search rules) (λ c κs. search rules) returns)

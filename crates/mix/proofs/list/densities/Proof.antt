@@ -15,79 +15,79 @@ use Rattle.mix.proofs.Laws.{Filled, filled_none, filled_more, filled_stop, fille
 use Rattle.mix.proofs.list.densities.Statement.{statement}
 use Rattle.mix.proofs.list.densities.Tie as tie
 
-abbrev invariant-loop : tie.invariant-loop
+abbrev invariant-loop : tie.invariant-loop-i
 invariant-loop background blocks root-links root-values upper-links upper-values lower-links lower-values leaf-values m points values₀ i₀ values i =
     let g = grid_of background blocks root-links root-values upper-links upper-values lower-links lower-values leaf-values in
     Filled (density_by (read_in g) (as_medium m)) points values (length values₀) i
 
-abbrev decreases-loop : tie.decreases-loop
+abbrev decreases-loop : tie.decreases-loop-i
 decreases-loop background blocks root-links root-values upper-links upper-values lower-links lower-values leaf-values m points values₀ i₀ values i =
     length values₀ - i
 
 -- ---- places on the way to a place, and the density at a point of the call's grid
-abbrev start : tie.After-slice-known invariant-loop decreases-loop → tie.Start invariant-loop decreases-loop
+abbrev start : tie.After-slice_known-1 invariant-loop decreases-loop → tie.Start invariant-loop decreases-loop
 start c = c.before.before.before.before.before.before.before.before.before
 
-abbrev at-loop : tie.After-density-at invariant-loop decreases-loop → tie.At-loop invariant-loop decreases-loop
+abbrev at-loop : tie.After-density_at-d invariant-loop decreases-loop → tie.At-loop-i invariant-loop decreases-loop
 at-loop c = c.before.before
 
 abbrev density : tie.Start invariant-loop decreases-loop → Point → Result Float
 density c =
     let a = c.args in
-    density_by (read_in (grid_of a.background a.blocks.now a.root-links.now a.root-values.now a.upper-links.now
-    a.upper-values.now a.lower-links.now a.lower-values.now a.leaf-values.now)) (as_medium a.m)
+    density_by (read_in (grid_of a.background a.blocks.now a.root_links.now a.root_values.now a.upper_links.now
+    a.upper_values.now a.lower_links.now a.lower_values.now a.leaf_values.now)) (as_medium a.m)
 
-loop-holds : tie.Need-loop-init invariant-loop decreases-loop
+loop-holds : tie.Need-loop-i-init invariant-loop decreases-loop
 loop-holds c = let s = start c in filled_none (density s) s.args.points.now s.args.values.now
 
-density-at-requires : tie.Need-density-at-requires invariant-loop decreases-loop
+density-at-requires : tie.Need-density_at-d-requires invariant-loop decreases-loop
 density-at-requires c κs =
     let p = (start c.before.before).requires in
-    (p.0, omega (arith, c.loop-test.true, c.before.loop.invariant.long, p.1))
+    (p.0, omega (arith, c.loop-i-test.true, c.before.loop-i.invariant.long, p.1))
 
 -- the place of the point lies in the list
-within : (c : tie.After-density-at invariant-loop decreases-loop) → (at-loop c).loop.i < length (start (at-loop c).before).args.values.now
-within c = omega (arith, c.before.loop-test.true, (at-loop c).loop.invariant.long)
+within : (c : tie.After-density_at-d invariant-loop decreases-loop) → (at-loop c).loop-i.i < length (start (at-loop c).before).args.values.now
+within c = omega (arith, c.before.loop-i-test.true, (at-loop c).loop-i.invariant.long)
 
 short : (c : tie.Start invariant-loop decreases-loop) → length c.args.values.now * 4 < 18446744073709551616
 short c = omega arith
 
-returns : tie.Need-returns invariant-loop decreases-loop
+returns : tie.Need-returns-then-d-ne0 invariant-loop decreases-loop
 returns c =
     let d = c.before.before in
     let p = at-loop d in
     let s = start p.before in
-    filled_stop (density s) s.args.points.now d.density-at.result.fault d.density-at.result.value
-    p.loop.invariant (within d) d.density-at.ensures c.if1.true
+    filled_stop (density s) s.args.points.now d.density_at-d.result.fault d.density_at-d.result.value
+    p.loop-i.invariant (within d) d.density_at-d.ensures c.if-d-ne0.true
 
-loop-again : tie.Need-loop-preserved invariant-loop decreases-loop
+loop-again : tie.Need-loop-i-preserved invariant-loop decreases-loop
 loop-again c =
     let d = c.before.before in
     let p = at-loop d in
     let s = start p.before in
-    filled_more (density s) s.args.points.now d.density-at.result.fault d.density-at.result.value
-    p.loop.invariant (within d) d.density-at.ensures c.if1.false
+    filled_more (density s) s.args.points.now d.density_at-d.result.fault d.density_at-d.result.value
+    p.loop-i.invariant (within d) d.density_at-d.ensures c.if-d-ne0.false
 
-returns-2 : tie.Need-returns-2 invariant-loop decreases-loop
+returns-2 : tie.Need-returns invariant-loop decreases-loop
 returns-2 c =
     let p = c.before in
     let s = start p.before in
-    filled_end (density s) s.args.points.now p.loop.invariant (omega (arith, p.loop.invariant.long, c.loop-test.false))
+    filled_end (density s) s.args.points.now p.loop-i.invariant (omega (arith, p.loop-i.invariant.long, c.loop-i-test.false))
 
-pub densities-spec : {M : Type 1} → statement M
-densities-spec =
+pub densities_spec : {M : Type 1} → statement M
+densities_spec =
     tie.close
     (tie.spec
     invariant-loop
     decreases-loop
     loop-holds
     density-at-requires
-    (λ c. (at-loop c.before.before).loop.invariant.long)
+    (λ c. (at-loop c.before.before).loop-i.invariant.long)
     returns
-    (λ c. let p = at-loop c.before.before in omega (arith, p.loop.invariant.long, short (start p.before), within c.before.before))
-    (λ c. let l = (at-loop c.before.before).loop.invariant.long in omega (arith, l, within c.before.before))
+    (λ c. let p = at-loop c.before.before in omega (arith, p.loop-i.invariant.long, short (start p.before), within c.before.before))
+    (λ c. let l = (at-loop c.before.before).loop-i.invariant.long in omega (arith, l, within c.before.before))
     (λ c. let p = at-loop c.before.before in omega (arith, short (start p.before), within c.before.before))
     (λ c. omega (arith, within c.before.before))
     loop-again
-    (λ c. c.before.loop.invariant.long)
+    (λ c. c.before.loop-i.invariant.long)
     returns-2)

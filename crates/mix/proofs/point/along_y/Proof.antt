@@ -10,17 +10,17 @@ use Rattle.mix.proofs.point.along_y.Statement.{statement}
 use Rattle.mix.proofs.point.along_y.Tie as tie
 
 -- places: the start, and the first of the two calls
-abbrev at-start : tie.After-struct-told → tie.Start
+abbrev at-start : tie.After-struct_told-1 → tie.Start
 at-start c = c.before.before.before.before.before.before.before.before
 
-abbrev at_first : tie.After-lerp → tie.After-along-z
+abbrev at_first : tie.After-lerp → tie.After-along_z-a
 at_first c = c.before.before.before
 
 abbrev grid : tie.Start → Grid
 grid c =
     let a = c.args in
-    grid_of a.background a.blocks.now a.root-links.now a.root-values.now a.upper-links.now a.upper-values.now
-    a.lower-links.now a.lower-values.now a.leaf-values.now
+    grid_of a.background a.blocks.now a.root_links.now a.root_values.now a.upper_links.now a.upper_values.now
+    a.lower_links.now a.lower_values.now a.leaf_values.now
 
 returns : tie.Need-returns
 returns c =
@@ -29,12 +29,12 @@ returns c =
     let s = at-start t in
     let a = s.args in
     let f = s.ranges in
-    let e = t.struct_told.given.1 in
+    let e = t.struct_told-1.given.1 in
     c.lerp.ensures
     ∙ (λ i. lerp
-    ((q.along_z_lem.ensures ∙ (λ j. on_z (read_in (grid s)) (seen a.x f.x.sfits j) (seen a.j.lo e.0.1 j) a.k)) i)
-    ((c.before.along-z2.ensures ∙ (λ j. on_z (read_in (grid s)) (seen a.x f.x.sfits j) (seen a.j.hi e.1.0.1 j) a.k)) i)
+    ((q.along_z-a.ensures ∙ (λ j. on_z (read_in (grid s)) (seen a.x f.x.sfits j) (seen a.j.lo e.0.1 j) a.k)) i)
+    ((c.before.along_z-b.ensures ∙ (λ j. on_z (read_in (grid s)) (seen a.x f.x.sfits j) (seen a.j.hi e.1.0.1 j) a.k)) i)
     a.j.t)
 
-pub along-y-spec : {M : Type 1} → statement M
-along-y-spec = tie.close (tie.spec (λ c κs. search rules) (λ c κs. search rules) (λ c κs. search rules) returns)
+pub along_y_spec : {M : Type 1} → statement M
+along_y_spec = tie.close (tie.spec (λ c κs. search rules) (λ c κs. search rules) (λ c κs. search rules) returns)

@@ -17,57 +17,57 @@ use Rattle.mix.proofs.point.along_z.Tie as tie
 abbrev at-start : tie.After-shares → tie.Start
 at-start c = c.before.before.before.before.before.before.before.before
 
-abbrev at-shared : tie.After-get-spot → tie.Then1
+abbrev at-shared : tie.After-get_spot-spot → tie.Then-shares
 at-shared c = c.before.before
 
-abbrev at_first : tie.After-lerp → tie.After-voxel
+abbrev at_first : tie.After-lerp → tie.After-voxel-a
 at_first c = c.before.before.before
 
-abbrev at-apart : tie.After-voxel → tie.After-shares
+abbrev at-apart : tie.After-voxel-a → tie.After-shares
 at-apart c = c.before.before.before
 
 abbrev grid : tie.Start → Grid
 grid c =
     let a = c.args in
-    grid_of a.background a.blocks.now a.root-links.now a.root-values.now a.upper-links.now a.upper-values.now
-    a.lower-links.now a.lower-values.now a.leaf-values.now
+    grid_of a.background a.blocks.now a.root_links.now a.root_values.now a.upper_links.now a.upper_values.now
+    a.lower_links.now a.lower_values.now a.leaf_values.now
 
 -- what is read from the spot on at an end in the cube of the low one
-from-spot : (c : tie.After-get-spot) (z : ℤ) → let s = at-start (at-shared c).before in let a = s.args in shr_z z 8 ≡ shr_z a.k.lo 8
-    → read_from (leaves_of a.leaf-values.now) c.get-spot.result (at (held a.x) (held a.y) z) ≡ read_in (grid s) (at a.x a.y z)
+from-spot : (c : tie.After-get_spot-spot) (z : ℤ) → let s = at-start (at-shared c).before in let a = s.args in shr_z z 8 ≡ shr_z a.k.lo 8
+    → read_from (leaves_of a.leaf_values.now) c.get_spot-spot.result (at (held a.x) (held a.y) z) ≡ read_in (grid s) (at a.x a.y z)
 from-spot c z same =
     let s = at-start (at-shared c).before in
     let a = s.args in
     let f = s.ranges in
-    let low = c.before.struct_told.given.1.0.1 in
+    let low = c.before.struct_told-1.given.1.0.1 in
     let d = at (held a.x) (held a.y) z in
-    as_looked_up (grid s) c.get-spot.result d (c.get-spot.ensures a.leaf-values.now d
+    as_looked_up (grid s) c.get_spot-spot.result d (c.get_spot-spot.ensures a.leaf_values.now d
     (record { x = refl; y = refl; z = same ∙ ap (λ (v : ℤ). shr_z v 8) (sym (seen a.k.lo low)) }))
     ∙ (λ i. read_in (grid s) (at (seen a.x f.x.sfits i) (seen a.y f.y.sfits i) z))
 
-returns : tie.Need-returns
+returns : tie.Need-returns-then-shares
 returns c =
     let q = c.before in
     let t = at-shared q in
     let k = (at-start t.before).args.k in
-    c.cube-z.ensures
-    ∙ (λ i. lerp (from-spot q k.lo refl i) (from-spot q k.hi (sym (t.before.shares.ensures t.if1.true)) i) k.t)
+    c.cube_z.ensures
+    ∙ (λ i. lerp (from-spot q k.lo refl i) (from-spot q k.hi (sym (t.before.shares.ensures t.if-shares.true)) i) k.t)
 
-returns-2 : tie.Need-returns-2
+returns-2 : tie.Need-returns
 returns-2 c =
     let q = at_first c in
     let s = at-start (at-apart q) in
     let a = s.args in
     let f = s.ranges in
-    let e = q.before.struct-told2.given.1 in
+    let e = q.before.struct_told-2-1.given.1 in
     c.lerp.ensures
     ∙ (λ i. lerp
-    ((q.voxel.ensures ∙ read_at_lem (read_in (grid s)) a.x a.y a.k.lo f.x.sfits f.y.sfits e.0.1) i)
-    ((c.before.voxel2.ensures ∙ read_at_lem (read_in (grid s)) a.x a.y a.k.hi f.x.sfits f.y.sfits e.1.0.1) i)
+    ((q.voxel-a.ensures ∙ read_at_lem (read_in (grid s)) a.x a.y a.k.lo f.x.sfits f.y.sfits e.0.1) i)
+    ((c.before.voxel-b.ensures ∙ read_at_lem (read_in (grid s)) a.x a.y a.k.hi f.x.sfits f.y.sfits e.1.0.1) i)
     a.k.t)
 
-pub along-z-spec : {M : Type 1} → statement M
-along-z-spec =
+pub along_z_spec : {M : Type 1} → statement M
+along_z_spec =
     tie.close
     (tie.spec
     (λ c κs. search rules) (λ c κs. search rules) (λ c κs. search rules)

@@ -18,30 +18,30 @@ use Rattle.mix.proofs.point.density.Statement.{statement}
 use Rattle.mix.proofs.point.density.Tie as tie
 
 -- ---- places: the start, the test of the box, the position, the three sides and their first fault
-abbrev at-start : tie.After-outside-fault → tie.Start
+abbrev at-start : tie.After-outside_fault-outside → tie.Start
 at-start c = c.before.before.before.before.before.before.before.before
 
-abbrev at-inside : tie.After-world-to-index-f → tie.Else1
+abbrev at-inside : tie.After-world_to_index_f → tie.Else-outside-ne0
 at-inside c = c.before
 
-abbrev at_position : tie.After-side-of → tie.After-world-to-index-f
+abbrev at_position : tie.After-side_of-i → tie.After-world_to_index_f
 at_position c = c.before.before
 
-abbrev at-sides : tie.After-first-fault2 → tie.After-side-of3
+abbrev at-sides : tie.After-first_fault-fault → tie.After-side_of-k
 at-sides c = c.before.before
 
-abbrev start : tie.After-world-to-index-f → tie.Start
+abbrev start : tie.After-world_to_index_f → tie.Start
 start c = at-start (at-inside c).before
 
-abbrev position : tie.After-first-fault2 → tie.After-world-to-index-f
+abbrev position : tie.After-first_fault-fault → tie.After-world_to_index_f
 position c = at_position (at-sides c).before.before
 
 -- ---- the grid, the medium and the point of the call
 abbrev grid : tie.Start → Grid
 grid c =
     let a = c.args in
-    grid_of a.background a.blocks.now a.root-links.now a.root-values.now a.upper-links.now a.upper-values.now
-    a.lower-links.now a.lower-values.now a.leaf-values.now
+    grid_of a.background a.blocks.now a.root_links.now a.root_values.now a.upper_links.now a.upper_values.now
+    a.lower_links.now a.lower_values.now a.leaf_values.now
 
 abbrev medium : tie.Start → Medium
 medium c = as_medium c.args.m
@@ -50,58 +50,58 @@ abbrev point : tie.Start → Point
 point c = record { x = c.args.x; y = c.args.y; z = c.args.z }
 
 -- ---- the three sides
-abbrev x_side : tie.After-first-fault2 → Side
-x_side c = (at-sides c).before.before.side-of.result
+abbrev x_side : tie.After-first_fault-fault → Side
+x_side c = (at-sides c).before.before.side_of-i.result
 
-abbrev y_side : tie.After-first-fault2 → Side
-y_side c = (at-sides c).before.side-of2.result
+abbrev y_side : tie.After-first_fault-fault → Side
+y_side c = (at-sides c).before.side_of-j.result
 
-abbrev z_side : tie.After-first-fault2 → Side
-z_side c = (at-sides c).side-of3.result
+abbrev z_side : tie.After-first_fault-fault → Side
+z_side c = (at-sides c).side_of-k.result
 
-bits : (c : tie.After-world-to-index-f) (i : ℕ)
-    → get_or c.world-to-index-f.result.bits i 0 ≡ get_or (three_bits (medium (start c)) (point (start c))) i 0
-bits c i = ap (λ (l : List ℕ). get_or l i 0) (bits_are (medium (start c)) (point (start c)) (start c).requires c.world-to-index-f.ensures)
+bits : (c : tie.After-world_to_index_f) (i : ℕ)
+    → get_or c.world_to_index_f.result.bits i 0 ≡ get_or (three_bits (medium (start c)) (point (start c))) i 0
+bits c i = ap (λ (l : List ℕ). get_or l i 0) (bits_are (medium (start c)) (point (start c)) (start c).requires c.world_to_index_f.ensures)
 
-x-stands : (c : tie.After-first-fault2) → Stands (medium (start (position c))) (point (start (position c))) x_axis (x_side c)
-x-stands c = let s = start (position c) in stands (medium s) (point s) x_axis (x_side c) (bits (position c) 0) (at-sides c).before.before.side-of.ensures
+x-stands : (c : tie.After-first_fault-fault) → Stands (medium (start (position c))) (point (start (position c))) x_axis (x_side c)
+x-stands c = let s = start (position c) in stands (medium s) (point s) x_axis (x_side c) (bits (position c) 0) (at-sides c).before.before.side_of-i.ensures
 
-y-stands : (c : tie.After-first-fault2) → Stands (medium (start (position c))) (point (start (position c))) y_axis (y_side c)
-y-stands c = let s = start (position c) in stands (medium s) (point s) y_axis (y_side c) (bits (position c) 1) (at-sides c).before.side-of2.ensures
+y-stands : (c : tie.After-first_fault-fault) → Stands (medium (start (position c))) (point (start (position c))) y_axis (y_side c)
+y-stands c = let s = start (position c) in stands (medium s) (point s) y_axis (y_side c) (bits (position c) 1) (at-sides c).before.side_of-j.ensures
 
-z-stands : (c : tie.After-first-fault2) → Stands (medium (start (position c))) (point (start (position c))) z_axis (z_side c)
-z-stands c = let s = start (position c) in stands (medium s) (point s) z_axis (z_side c) (bits (position c) 2) (at-sides c).side-of3.ensures
+z-stands : (c : tie.After-first_fault-fault) → Stands (medium (start (position c))) (point (start (position c))) z_axis (z_side c)
+z-stands c = let s = start (position c) in stands (medium s) (point s) z_axis (z_side c) (bits (position c) 2) (at-sides c).side_of-k.ensures
 
-faults : (c : tie.After-first-fault2) → c.first-fault2.result ≡ ((x_side c).fault then ((y_side c).fault then (z_side c).fault))
-faults c = c.first-fault2.ensures ∙ ap (λ (k : ℕ). (x_side c).fault then k) c.before.first-fault.ensures
+faults : (c : tie.After-first_fault-fault) → c.first_fault-fault.result ≡ ((x_side c).fault then ((y_side c).fault then (z_side c).fault))
+faults c = c.first_fault-fault.ensures ∙ ap (λ (k : ℕ). (x_side c).fault then k) c.before.first_fault.ensures
 
 -- ---- the ways out: outside, no voxel, the mix
-returns : tie.Need-returns
+returns : tie.Need-returns-then-outside-ne0
 returns c =
     let o = c.before.before in
     let s = at-start o in
     ap (λ (n : ℕ). passing n (ok c.refusal.result.value)) c.refusal.ensures
-    ∙ outside (read_in (grid s)) (medium s) (point s) c.refusal.result.value o.outside-fault.ensures c.before.if1.true
+    ∙ outside (read_in (grid s)) (medium s) (point s) c.refusal.result.value o.outside_fault-outside.ensures c.before.if-outside-ne0.true
 
-returns-2 : tie.Need-returns-2
+returns-2 : tie.Need-returns-then-fault-ne0
 returns-2 c =
     let q = c.before.before in
     let i = at-inside (position q) in
     let s = start (position q) in
-    ap (λ (n : ℕ). passing n (ok c.refusal2.result.value)) c.refusal2.ensures
+    ap (λ (n : ℕ). passing n (ok c.refusal-then-fault-ne0.result.value)) c.refusal-then-fault-ne0.ensures
     ∙ no_side (read_in (grid s)) (medium s) (point s) (x_side q) (y_side q) (z_side q) (x-stands q) (y-stands q) (z-stands q)
-    i.before.outside-fault.ensures i.if1.false (faults q) c.refusal2.result.value c.before.if2.true
+    i.before.outside_fault-outside.ensures i.if-outside-ne0.false (faults q) c.refusal-then-fault-ne0.result.value c.before.if-fault-ne0.true
 
-returns-3 : tie.Need-returns-3
+returns-3 : tie.Need-returns
 returns-3 c =
     let q = c.before.before in
     let i = at-inside (position q) in
     let s = start (position q) in
     mixed (read_in (grid s)) (medium s) (point s) (x_side q) (y_side q) (z_side q) (x-stands q) (y-stands q) (z-stands q)
-    i.before.outside-fault.ensures i.if1.false (faults q) c.before.if2.false c.mixed_at.ensures
+    i.before.outside_fault-outside.ensures i.if-outside-ne0.false (faults q) c.before.if-fault-ne0.false c.mixed_at-mixed.ensures
 
-pub density-spec : {M : Type 1} → statement M
-density-spec =
+pub density_spec : {M : Type 1} → statement M
+density_spec =
     tie.close
     (tie.spec
     (λ c κs. search rules) (λ c κs. search rules)

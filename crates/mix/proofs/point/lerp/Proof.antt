@@ -16,5 +16,5 @@ returns c =
     let a = c.args in
     λ i. add binary32 (mul binary32 (sub binary32 (one i) a.t) a.a) (mul binary32 a.t a.b)
 
-pub lerp-spec : {M : Type 1} → statement M
-lerp-spec = tie.close (tie.spec returns)
+pub lerp_spec : {M : Type 1} → statement M
+lerp_spec = tie.close (tie.spec returns)

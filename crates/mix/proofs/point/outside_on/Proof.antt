@@ -5,11 +5,11 @@ use Rattle.mix.proofs.Laws.{tested}
 use Rattle.mix.proofs.point.outside_on.Statement.{statement}
 use Rattle.mix.proofs.point.outside_on.Tie as tie
 
-returns : tie.Need-returns
-returns c = tested 24 c.before.both.ensures true c.if1.true
+returns : tie.Need-returns-then-both
+returns c = tested 24 c.before.both.ensures true c.if-both.true
 
-returns-2 : tie.Need-returns-2
-returns-2 c = tested 24 c.before.both.ensures false c.if1.false
+returns-2 : tie.Need-returns-else-both
+returns-2 c = tested 24 c.before.both.ensures false c.if-both.false
 
-pub outside-on-spec : {M : Type 1} → statement M
-outside-on-spec = tie.close (tie.spec (λ c κs. search rules) returns returns-2)
+pub outside_on_spec : {M : Type 1} → statement M
+outside_on_spec = tie.close (tie.spec (λ c κs. search rules) returns returns-2)

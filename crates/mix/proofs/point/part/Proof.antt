@@ -18,5 +18,5 @@ returns c =
     (c.narrow.ensures ∙ ap narrow (c.before.floor.ensures ∙ ap (floor binary64) w.widen.ensures)
     ∙ floor_by_64 p (yes w.before.well_formed.0.1))
 
-pub part-spec : {M : Type 1} → statement M
-part-spec = tie.close (tie.spec (λ c κs. search rules) (λ c κs. search rules) (λ c κs. search rules) returns)
+pub part_spec : {M : Type 1} → statement M
+part_spec = tie.close (tie.spec (λ c κs. search rules) (λ c κs. search rules) (λ c κs. search rules) returns)

@@ -7,11 +7,11 @@ use Rattle.rays.proofs.check.all_finite.Tie as tie
 returns : tie.Need-returns
 returns c =
     let two = c.before.before in
-    c.both2.ensures
-    ∙ and_same (two.both.ensures ∙ and_same two.before.before.is_finite.ensures two.before.is-finite2.ensures) c.before.is-finite3.ensures
+    c.both-2.ensures
+    ∙ and_same (two.both.ensures ∙ and_same two.before.before.is_finite.ensures two.before.is_finite-2.ensures) c.before.is_finite-3.ensures
 
-pub all-finite-spec : {M : Type 1} → statement M
-all-finite-spec =
+pub all_finite_spec : {M : Type 1} → statement M
+all_finite_spec =
     tie.close
     (tie.spec
     (λ c. search rules)

@@ -7,10 +7,10 @@ use Rattle.rays.proofs.check.all_zero.Tie as tie
 
 returns : tie.Need-returns
 unfolding of_bits
-returns c = c.both2.ensures ∙ and_same c.before.both.ensures refl
+returns c = c.both-2.ensures ∙ and_same c.before.both.ensures refl
 
-pub all-zero-spec : {M : Type 1} → statement M
-all-zero-spec =
+pub all_zero_spec : {M : Type 1} → statement M
+all_zero_spec =
     tie.close
     (tie.spec
     (λ c. search rules)

@@ -10,7 +10,7 @@ unfolding track_on
 returns c =
     let a = c.before.before.args in
     let offset = div binary32 (sub binary32 a.o a.low) (sub binary32 a.high a.low) in
-    c.track-from.ensures ∙ ap (λ (d : Float). track_from (add binary32 offset (mul binary32 a.t d)) d a.t a.n) c.before.along.ensures
+    c.track_from.ensures ∙ ap (λ (d : Float). track_from (add binary32 offset (mul binary32 a.t d)) d a.t a.n) c.before.along-a.ensures
 
-pub track-on-spec : {M : Type 1} → statement M
-track-on-spec = tie.close (tie.spec (λ c κs. search rules) (λ c κs. search rules) returns)
+pub track_on_spec : {M : Type 1} → statement M
+track_on_spec = tie.close (tie.spec (λ c κs. search rules) (λ c κs. search rules) returns)

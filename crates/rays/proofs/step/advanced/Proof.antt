@@ -7,27 +7,27 @@ use Rattle.rays.proofs.Signs.{seen, moved_fits}
 use Rattle.rays.proofs.step.advanced.Statement.{statement}
 use Rattle.rays.proofs.step.advanced.Tie as tie
 
-abbrev start : tie.After-struct-told → tie.Start
+abbrev start : tie.After-struct_told-1 → tie.Start
 start c = c.before.before.before
 
-cell-fits : (c : tie.After-struct-told) → SFits w32 (start c).args.t.cell
-cell-fits c = record { sfits = c.struct_told.given.1.1.1.0.1 }
+cell-fits : (c : tie.After-struct_told-1) → SFits w32 (start c).args.t.cell
+cell-fits c = record { sfits = c.struct_told-1.given.1.1.1.0.1 }
 
-step_fits : (c : tie.After-struct-told) → SFits w32 (start c).args.t.step
-step_fits c = record { sfits = c.struct_told.given.1.1.0.1 }
+step_fits : (c : tie.After-struct_told-1) → SFits w32 (start c).args.t.step
+step_fits c = record { sfits = c.struct_told-1.given.1.1.0.1 }
 
 -- the sum that the code makes is that of the definition
-moved-seen : (c : tie.After-struct-told)
+moved-seen : (c : tie.After-struct_told-1)
     → to_z w32 (of_z w32 (start c).args.t.cell) +ℤ to_z w32 (of_z w32 (start c).args.t.step) ≡ (start c).args.t.cell +ℤ (start c).args.t.step
 moved-seen c = λ i. seen (cell-fits c) i +ℤ seen (step_fits c) i
 
-moved-small : (c : tie.After-struct-told) → SFits w32 ((start c).args.t.cell +ℤ (start c).args.t.step)
+moved-small : (c : tie.After-struct_told-1) → SFits w32 ((start c).args.t.cell +ℤ (start c).args.t.step)
 moved-small c =
     let t = as_track (start c).args.t in
     let h = (start c).requires.fine in
     moved_fits t.cell t.step t.cells (sound_cell t h) (sound_step t h) (start c).requires.few
 
-add-t3 : tie.Need-overflow-add-t3
+add-t3 : tie.Need-overflow_add-result
 add-t3 c = subst (SFits w32) (sym (moved-seen c)) (moved-small c)
 
 returns : tie.Need-returns
@@ -36,5 +36,5 @@ returns c =
     let moved = seen (subst (SFits w32) (sym (moved-seen c.before)) (moved-small c.before)) ∙ moved-seen c.before in
     λ i. record { next = add binary32 t.next t.delta; delta = t.delta; step = seen (step_fits c.before) i; cell = moved i; cells = t.cells }
 
-pub advanced-spec : {M : Type 1} → statement M
-advanced-spec = tie.close (tie.spec add-t3 returns)
+pub advanced_spec : {M : Type 1} → statement M
+advanced_spec = tie.close (tie.spec add-t3 returns)

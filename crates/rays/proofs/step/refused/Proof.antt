@@ -12,7 +12,7 @@ with-state n s = record { number = n; some = false; from = +0; to = +0; figure =
 
 returns : tie.Need-returns
 unfolding of_bits
-returns c = ap (with-state c.before.args.n) c.zero-ray.ensures
+returns c = ap (with-state c.before.args.n) c.zero_ray.ensures
 
-pub refused-spec : {M : Type 1} → statement M
-refused-spec = tie.close (tie.spec (λ c κs. search rules) returns)
+pub refused_spec : {M : Type 1} → statement M
+refused_spec = tie.close (tie.spec (λ c κs. search rules) returns)
