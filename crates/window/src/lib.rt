@@ -1,6 +1,7 @@
 // A window over the last w tables of cells: for each cell the greatest of +0.0 and the figures of the tables in it.
 // The tables stand in lent memory, table k from k × X × Y × Z on, and the window says which places are held.
 #![tactic(auto)]
+
 ghost use Rattle.std.specs.Prelude.{◌≡◌, ◌+◌, ◌*◌, ◌<◌, ◌≤◌, length};
 ghost use Rattle.std.proofs.Math.Seq.{paste};
 ghost use Rattle.cells.specs.Cells.{cells};
@@ -16,7 +17,7 @@ use lent::zero_f32;
 use refusals::{TABLES, WINDOW, both};
 
 // w, the three numbers of the cells, the tables held, and the place that the next one takes.
-#[derive(Drop)]
+#[derive(Clone, Copy)]
 pub struct Window {
     pub w: u32,
     pub x: u32,
