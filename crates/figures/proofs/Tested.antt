@@ -1,6 +1,6 @@
 -- A list whose figures must all pass one test, gone through to its end: `sound` says whether those before place i pass. Assumes nothing.
 use mathlib.Core.Path.{◌≡◌, refl, sym, ap, ◌∙◌}
-use mathlib.Core.Bool.{Bool, true, false, not, ◌&&◌, not-not}
+use mathlib.Core.Bool.{Bool, true, false, ◌&&◌}
 use mathlib.Core.List.{List}
 use Prim.Native.Nat.{ℕ, suc, ◌+◌, ◌≤◌, ◌<◌}
 use native.Mathlib.Numerals.{add-one}
@@ -18,21 +18,21 @@ module _ {l : List Float} {p : Float → Bool} where
   pub begun : Tested l p true 0
   begun = record { inside = omega arith; whole = refl }
 
-  -- place i, whose figure passes where t is true; the program asks whether it does not
+  -- place i, whose figure passes where t is true
   module _ {i : ℕ} {s t : Bool} (tested : Tested l p s i) (within : i < length l) (here : t ≡ p (get_or l i nan)) where
-    next : (b : Bool) → not t ≡ b → (s && (not b && every p (drop (i + 1) l))) ≡ every p l
+    next : (b : Bool) → t ≡ b → (s && (b && every p (drop (i + 1) l))) ≡ every p l
     unfolding every
     next b e =
-        ap (λ (k : ℕ). s && (not b && every p (drop k l))) (add-one i)
-        ∙ ap (λ (u : Bool). s && (u && every p (drop (suc i) l))) (ap not (sym e) ∙ not-not t ∙ here)
+        ap (λ (k : ℕ). s && (b && every p (drop k l))) (add-one i)
+        ∙ ap (λ (u : Bool). s && (u && every p (drop (suc i) l))) (sym e ∙ here)
         ∙ ap (λ (k : List Float). s && every p k) (sym (drop-cons l i nan within))
         ∙ tested.whole
 
-    pub passed : {u : Bool} → not t ≡ false → u ≡ s → Tested l p u (i + 1)
-    passed e q = record { inside = omega arith; whole = ap (λ (b : Bool). b && every p (drop (i + 1) l)) q ∙ next false e }
+    pub passed : {u : Bool} → t ≡ true → u ≡ s → Tested l p u (i + 1)
+    passed e q = record { inside = omega arith; whole = ap (λ (b : Bool). b && every p (drop (i + 1) l)) q ∙ next true e }
 
-    pub failed : {u : Bool} → not t ≡ true → u ≡ false → Tested l p u (i + 1)
-    failed e q = record { inside = omega arith; whole = ap (λ (b : Bool). b && every p (drop (i + 1) l)) q ∙ none s ∙ next true e }
+    pub failed : {u : Bool} → t ≡ false → u ≡ false → Tested l p u (i + 1)
+    failed e q = record { inside = omega arith; whole = ap (λ (b : Bool). b && every p (drop (i + 1) l)) q ∙ none s ∙ next false e }
       where
         none : (b : Bool) → false ≡ (b && false)
         none true = refl

@@ -1,5 +1,6 @@
 // The figures of a table of cells: which of them pass, and the greater of two.
 #![tactic(auto)]
+
 ghost use Rattle.std.specs.Prelude.{◌≡◌, not};
 ghost use Rattle.std.specs.Float.Ieee.{lt};
 ghost use Rattle.std.specs.Float.Ieee.Scale.{finite};

@@ -1,6 +1,8 @@
 -- Worked examples of numbers as text, and of a page. Each is computed.
-use Rattle.std.specs.Prelude.{◌≡◌, refl, [], ◌∷◌, pos, negsuc}
+use Rattle.std.specs.Prelude.{◌≡◌, refl, List, [], ◌∷◌, ◌++◌, ℕ, suc, pos, negsuc}
+use Rattle.std.proofs.Common.{ap, ◌∙◌, arith}
 use Rattle.text.specs.Numerals.{decimal, signed_text, hex8, sixteens}
+use Rattle.text.specs.NumeralLaws.{decimal_more}
 use Rattle.text.specs.Page.{page, puts}
 
 -- `0`
@@ -23,10 +25,23 @@ minus_one_text : signed_text (negsuc 0) ≡ 45 ∷ 49 ∷ []
 unfolding signed_text
 minus_one_text = refl
 
--- `-524288`
-lowest_block_text : signed_text (negsuc 524287) ≡ 45 ∷ 53 ∷ 50 ∷ 52 ∷ 50 ∷ 56 ∷ 56 ∷ []
+minus_text : (n : ℕ) → signed_text (negsuc n) ≡ 45 ∷ decimal (suc n)
 unfolding signed_text
-lowest_block_text = refl
+minus_text n = refl
+
+front_text : decimal 524 ≡ 53 ∷ 50 ∷ 52 ∷ []
+unfolding decimal
+front_text = refl
+
+-- `-524288`, whose last three digits are split off one by one
+lowest_block_text : signed_text (negsuc 524287) ≡ 45 ∷ 53 ∷ 50 ∷ 52 ∷ 50 ∷ 56 ∷ 56 ∷ []
+lowest_block_text =
+    minus_text 524287
+    ∙ ap (λ (l : List ℕ). 45 ∷ l) (
+    decimal_more 524288 (omega arith)
+    ∙ ap (λ (l : List ℕ). l ++ (56 ∷ [])) (
+    decimal_more 52428 (omega arith)
+    ∙ ap (λ (l : List ℕ). l ++ (56 ∷ [])) (decimal_more 5242 (omega arith) ∙ ap (λ (l : List ℕ). l ++ (50 ∷ [])) front_text)))
 
 -- `7`
 seven_text : signed_text (pos 7) ≡ 55 ∷ []

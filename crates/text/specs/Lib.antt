@@ -1,4 +1,5 @@
 pub mod Numerals
+pub mod NumeralLaws
 pub mod Lengths
 pub mod Page
 pub mod PageLaws

@@ -1,5 +1,6 @@
 // Text into lent bytes: each function writes from the place `at` on and answers the place behind what it wrote. What has no room is dropped.
 #![tactic(auto)]
+
 ghost use Rattle.std.specs.Prelude.{◌≡◌, [], ◌∷◌, ◌<◌, pos, negsuc, ◌<ℤ◌, ◌≤ℤ◌};
 ghost use Rattle.text.specs.Numerals.{decimal, signed_text, sixteens, hex8, digit as digit_of};
 ghost use Rattle.text.specs.Page.{page, puts};

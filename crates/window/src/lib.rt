@@ -1,6 +1,7 @@
 // A window over the last w tables of cells: for each cell the greatest of +0.0 and the figures of the tables in it.
 // The tables stand in lent memory, table k from k × X × Y × Z on, and the window says which places are held.
 #![tactic(auto)]
+
 ghost use Rattle.std.specs.Prelude.{◌≡◌, ◌+◌, ◌*◌, ◌<◌, ◌≤◌, length};
 ghost use Rattle.std.proofs.Math.Seq.{paste};
 ghost use Rattle.cells.specs.Cells.{cells};
@@ -27,7 +28,7 @@ pub struct Window {
 }
 
 // The number of a refusal, or 0, and the window.
-#[derive(Clone, Copy)]
+#[derive(Drop)]
 pub struct Pushed {
     pub number: u32,
     pub window: Window,
