@@ -1,40 +1,80 @@
 // What the replay programs share: a list is read from standard input, in little-endian words of 32 bits, and counts are written.
-// No contract can say what standard input holds, so a read promises only what the library `io` does.
+// Standard input is read once, to its end. No contract can say what it holds; what is read from the list is what stands there.
 #![tactic(auto)]
-ghost use Rattle.std.specs.Prelude.{◌≡◌, ◌≤◌, min, length, take};
+
+ghost use Rattle.std.specs.Prelude.{◌≡◌, ◌≤◌, ◌++◌, min, length, take, drop};
+ghost use Rattle.layout.specs.Bytes.{u32_at, i32_at, f32_at};
+
+use std::alloc::Global;
+use std::io;
+use std::io::Read;
 
 // How many cases a list may have.
 const MOST: u32 = 4096;
 
+// What is left of a list.
+#[derive(Drop)]
+pub struct Listing<'a> {
+    pub rest: &'a [u8],
+}
+
+// The bytes of standard input, to its end.
+pub fn read_list(rt: &impl Input, alloc: Global) -> io::Result<Vec<u8>> {
+    let mut bytes = Vec::new(alloc);
+    rt.reader().read_to_end(&mut bytes)?;
+    Ok(bytes)
+}
+
 // ---- words
 
-// Fills lent bytes, and says how many there were: fewer than asked for where the list ends.
-pub fn read_bytes(bytes: &mut [u8]) -> usize
-    ensures { result ≤ length bytes.old }
+// Passes over n bytes, or over all that are left.
+fn pass(list: &mut Listing<'_>, n: usize)
+    ensures { list.new.rest.now ≡ drop n list.old.rest.now }
 {
-    io::read_full(libc::STDIN_FILENO, bytes)
+    let rest = list.rest;
+    list.rest = if n < rest.len() { &rest[n..] } else { &[] };
 }
 
-fn read_four() -> [u8; 4] {
-    let mut b = [0u8; 4];
-    read_bytes(&mut b);
-    b
+// Fills lent bytes, and says how many there were: fewer than asked for where the list ends.
+pub fn read_bytes(list: &mut Listing<'_>, bytes: &mut [u8]) -> usize
+    ensures within { result ≤ length bytes.old }
+    ensures count { result ≡ min (length list.old.rest.now) (length bytes.old) }
+    ensures filled { bytes.new ≡ take (length bytes.old) list.old.rest.now ++ drop result bytes.old }
+    ensures rest { list.new.rest.now ≡ drop result list.old.rest.now }
+{
+    let rest = list.rest;
+    let count = rest.len().min(bytes.len());
+    bytes[..count].copy_from_slice(&rest[..count]);
+    pass(list, count);
+    count
 }
 
-// The next word: without a sign, with one, and as a float.
-pub fn read_word() -> u32 {
-    let b = read_four();
-    layout::u32_at(&b, 0)
+// The next word: without a sign, with one, and as a float. Bytes past the end count as 0.
+pub fn read_word(list: &mut Listing<'_>) -> u32
+    ensures word { result ≡ u32_at list.old.rest.now 0 }
+    ensures rest { list.new.rest.now ≡ drop 4 list.old.rest.now }
+{
+    let word = layout::u32_at(list.rest, 0);
+    pass(list, 4);
+    word
 }
 
-pub fn read_number() -> i32 {
-    let b = read_four();
-    layout::i32_at(&b, 0)
+pub fn read_number(list: &mut Listing<'_>) -> i32
+    ensures number { result ≡ i32_at list.old.rest.now 0 }
+    ensures rest { list.new.rest.now ≡ drop 4 list.old.rest.now }
+{
+    let number = layout::i32_at(list.rest, 0);
+    pass(list, 4);
+    number
 }
 
-pub fn read_float() -> f32 {
-    let b = read_four();
-    layout::f32_at(&b, 0)
+pub fn read_float(list: &mut Listing<'_>) -> f32
+    ensures float { result ≡ f32_at list.old.rest.now 0 }
+    ensures rest { list.new.rest.now ≡ drop 4 list.old.rest.now }
+{
+    let float = layout::f32_at(list.rest, 0);
+    pass(list, 4);
+    float
 }
 
 // The lesser of two.
@@ -45,30 +85,37 @@ pub fn least(a: u32, b: u32) -> u32
 }
 
 // How many cases are replayed: the first word of the list, and no more than 4,096.
-pub fn read_cases() -> u32
-    ensures { result ≤ 4096 }
+pub fn read_cases(list: &mut Listing<'_>) -> u32
+    ensures bound { result ≤ 4096 }
+    ensures value { result ≡ min (u32_at list.old.rest.now 0) 4096 }
+    ensures rest { list.new.rest.now ≡ drop 4 list.old.rest.now }
 {
-    least(read_word(), MOST)
+    least(read_word(list), MOST)
 }
 
 // ---- tables
 
 // A place of a table and the word there, without and with a sign.
-#[derive(Drop)]
+#[derive(Clone, Copy)]
 pub struct Place {
     pub at: usize,
     pub word: u32,
     pub number: i32,
 }
 
-pub fn read_place() -> Place {
-    let mut b = [0u8; 8];
-    read_bytes(&mut b);
-    Place {
-        at: layout::u32_at(&b, 0) as usize,
-        word: layout::u32_at(&b, 4),
-        number: layout::i32_at(&b, 4),
-    }
+pub fn read_place(list: &mut Listing<'_>) -> Place
+    ensures at { result.at ≡ u32_at list.old.rest.now 0 }
+    ensures word { result.word ≡ u32_at list.old.rest.now 4 }
+    ensures number { result.number ≡ i32_at list.old.rest.now 4 }
+    ensures rest { list.new.rest.now ≡ drop 8 list.old.rest.now }
+{
+    let place = Place {
+        at: layout::u32_at(list.rest, 0) as usize,
+        word: layout::u32_at(list.rest, 4),
+        number: layout::i32_at(list.rest, 4),
+    };
+    pass(list, 8);
+    place
 }
 
 // A place past the end of a table is passed over.
@@ -97,39 +144,31 @@ fn put_value(values: &mut [f32], at: usize, value: f32) {
 }
 
 // The next n words of a table, each read with its place.
-pub fn fill_bytes(n: u32, bytes: &mut [u8]) {
-    let mut i: u32 = 0;
-    while i < n {
-        let place = read_place();
+pub fn fill_bytes(list: &mut Listing<'_>, n: u32, bytes: &mut [u8]) {
+    for _ in 0..n {
+        let place = read_place(list);
         put_byte(bytes, place.at, place.word);
-        i += 1;
     }
 }
 
-pub fn fill_numbers(n: u32, numbers: &mut [i32]) {
-    let mut i: u32 = 0;
-    while i < n {
-        let place = read_place();
+pub fn fill_numbers(list: &mut Listing<'_>, n: u32, numbers: &mut [i32]) {
+    for _ in 0..n {
+        let place = read_place(list);
         put_number(numbers, place.at, place.number);
-        i += 1;
     }
 }
 
-pub fn fill_links(n: u32, links: &mut [u32]) {
-    let mut i: u32 = 0;
-    while i < n {
-        let place = read_place();
+pub fn fill_links(list: &mut Listing<'_>, n: u32, links: &mut [u32]) {
+    for _ in 0..n {
+        let place = read_place(list);
         put_link(links, place.at, place.word);
-        i += 1;
     }
 }
 
-pub fn fill_values(n: u32, values: &mut [f32]) {
-    let mut i: u32 = 0;
-    while i < n {
-        let place = read_place();
+pub fn fill_values(list: &mut Listing<'_>, n: u32, values: &mut [f32]) {
+    for _ in 0..n {
+        let place = read_place(list);
         put_value(values, place.at, float::float_of(place.word));
-        i += 1;
     }
 }
 
@@ -170,7 +209,7 @@ pub fn first_values(values: &[f32], n: usize) -> &[f32]
 // ---- counts
 
 // Writes a number and what it counts.
-pub fn report(n: u32, what: &[u8]) {
-    io::print_decimal(libc::STDOUT_FILENO, n as u64);
-    io::write_all(libc::STDOUT_FILENO, what);
+pub fn report(rt: &impl Print, n: u32, what: &[u8]) -> io::Result<()> {
+    rt.print(n)?;
+    rt.write_all(what)
 }

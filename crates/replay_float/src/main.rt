@@ -2,7 +2,11 @@
 // there were and how many answers differ. tests/vectors/float.rs makes the list, which is read from
 // standard input, and says what a record holds.
 #![tactic(auto)]
+
 ghost use Rattle.std.specs.Prelude.{◌≤◌};
+
+use replay::{Listing, read_bytes, read_list};
+use std::io;
 
 // How many records each function has.
 const RECORDS: u32 = 2048;
@@ -38,18 +42,18 @@ fn agrees(f: u32, a: u64, b: u64) -> bool {
 }
 
 // How many records were read, and how many of their answers differ.
-#[derive(Drop)]
+#[derive(Clone, Copy)]
 struct Seen {
     read: u32,
     differ: u32,
 }
 
 // Reads a record and compares it. Past the end of the list nothing is read.
-fn step(f: u32) -> Seen
+fn step(list: &mut Listing<'_>, f: u32) -> Seen
     ensures { (result.read ≤ 1) × (result.differ ≤ 1) }
 {
     let mut b = [0u8; 16];
-    let n = replay::read_bytes(&mut b);
+    let n = read_bytes(list, &mut b);
     if n < 16 {
         Seen { read: 0, differ: 0 }
     } else if agrees(f, layout::u64_at(&b, 0), layout::u64_at(&b, 8)) {
@@ -60,34 +64,33 @@ fn step(f: u32) -> Seen
 }
 
 // Replays the records of the function numbered f.
-fn replay(f: u32) -> Seen {
+fn replay(list: &mut Listing<'_>, f: u32) -> Seen
+    ensures { (result.read ≤ 2048) × (result.differ ≤ 2048) }
+{
     let mut read: u32 = 0;
     let mut differ: u32 = 0;
-    let mut i: u32 = 0;
-    while i < RECORDS {
-        let seen = step(f);
+    for _ in 0..RECORDS {
+        let seen = step(list, f);
         read += seen.read;
         differ += seen.differ;
-        i += 1;
     }
-    Seen {
-        read: read,
-        differ: differ,
-    }
+    Seen { read, differ }
 }
 
 // Writes a function's line.
-fn report(name: &[u8], seen: Seen) {
-    io::write_all(libc::STDOUT_FILENO, name);
-    replay::report(seen.read, b", ");
-    replay::report(seen.differ, b" differ\n");
+fn report(rt: &impl Print, name: &[u8], seen: Seen) -> io::Result<()> {
+    rt.write_all(name)?;
+    replay::report(rt, seen.read, b", ")?;
+    replay::report(rt, seen.differ, b" differ\n")
 }
 
-fn main() {
-    report(b"widen ", replay(0));
-    report(b"narrow ", replay(1));
-    report(b"mul_add ", replay(2));
-    report(b"floor ", replay(3));
-    report(b"trunc ", replay(4));
-    report(b"checked_coordinate ", replay(5));
+fn main(rt: HostRuntime) -> io::Result<()> {
+    let bytes = read_list(&rt, rt.alloc())?;
+    let list = &mut Listing { rest: &bytes };
+    report(&rt, b"widen ", replay(list, 0))?;
+    report(&rt, b"narrow ", replay(list, 1))?;
+    report(&rt, b"mul_add ", replay(list, 2))?;
+    report(&rt, b"floor ", replay(list, 3))?;
+    report(&rt, b"trunc ", replay(list, 4))?;
+    report(&rt, b"checked_coordinate ", replay(list, 5))
 }

@@ -2,12 +2,14 @@
 // lookups there were and how many answers differ. tests/vectors/grid.rs makes the list, which is read from standard
 // input, and says what a case holds.
 #![tactic(auto)]
+
 ghost use Rattle.std.specs.Prelude.{◌≤◌};
 
 use replay::{
-    fill_links, fill_numbers, fill_values, first_links, first_numbers, first_values, least,
-    read_bytes, read_cases, report,
+    Listing, fill_links, fill_numbers, fill_values, first_links, first_numbers, first_values,
+    least, read_bytes, read_cases, read_list, report,
 };
+use std::io;
 
 // Whether a lookup gave this number and this pattern.
 fn answers(answer: sparse_grid::Answer, number: u32, bits: u32) -> bool {
@@ -19,6 +21,7 @@ fn answers(answer: sparse_grid::Answer, number: u32, bits: u32) -> bool {
 
 // Reads a lookup and makes it: 1 where the answer differs.
 fn lookup(
+    list: &mut Listing<'_>,
     background: f32,
     blocks: &[i32],
     root_links: &[u32],
@@ -32,7 +35,7 @@ fn lookup(
     ensures { result ≤ 1 }
 {
     let mut b = [0u8; 20];
-    read_bytes(&mut b);
+    read_bytes(list, &mut b);
     let answer = sparse_grid::get_value(
         background,
         blocks,
@@ -56,6 +59,7 @@ fn lookup(
 
 // How many of the next n lookups differ.
 fn lookups(
+    list: &mut Listing<'_>,
     n: u32,
     background: f32,
     blocks: &[i32],
@@ -70,9 +74,9 @@ fn lookups(
     ensures { result ≤ n }
 {
     let mut differ: u32 = 0;
-    let mut i: u32 = 0;
-    while i < n {
+    for _ in 0..n {
         differ += lookup(
+            list,
             background,
             blocks,
             root_links,
@@ -83,7 +87,6 @@ fn lookups(
             lower_values,
             leaf_values,
         );
-        i += 1;
     }
     differ
 }
@@ -135,7 +138,7 @@ fn checks(
 }
 
 // How many lookups were made, and how many answers differ.
-#[derive(Drop)]
+#[derive(Clone, Copy)]
 struct Seen {
     lookups: u32,
     differ: u32,
@@ -143,6 +146,7 @@ struct Seen {
 
 // How many checks and lookups of a case differ.
 fn judge(
+    list: &mut Listing<'_>,
     head: &[u8; 80],
     background: f32,
     blocks: &[i32],
@@ -169,6 +173,7 @@ fn judge(
         leaf_values,
     );
     let more = lookups(
+        list,
         asked(head),
         background,
         blocks,
@@ -198,14 +203,15 @@ fn asked(head: &[u8; 80]) -> u32
     least(head_word(head, 68), 65535)
 }
 
-fn read_head() -> [u8; 80] {
+fn read_head(list: &mut Listing<'_>) -> [u8; 80] {
     let mut head = [0u8; 80];
-    read_bytes(&mut head);
+    read_bytes(list, &mut head);
     head
 }
 
 // The parts of the tables that the head names, judged.
 fn judge_parts(
+    list: &mut Listing<'_>,
     head: &[u8; 80],
     blocks: &[i32; 24],
     root_links: &[u32; 8],
@@ -219,6 +225,7 @@ fn judge_parts(
     ensures { (result.lookups ≤ 65535) × (result.differ ≤ 65537) }
 {
     let differ = judge(
+        list,
         head,
         layout::f32_at(head, 64),
         first_numbers(blocks, head_count(head, 0)),
@@ -232,12 +239,12 @@ fn judge_parts(
     );
     Seen {
         lookups: asked(head),
-        differ: differ,
+        differ,
     }
 }
 
 // Reads a case into tables of zeros and judges it.
-fn replay() -> Seen
+fn replay(list: &mut Listing<'_>) -> Seen
     ensures { (result.lookups ≤ 65535) × (result.differ ≤ 65537) }
 {
     let mut blocks = [0i32; 24];
@@ -248,16 +255,17 @@ fn replay() -> Seen
     let mut lower_links = [0u32; 8192];
     let mut lower_values = [0.0f32; 8192];
     let mut leaf_values = [0.0f32; 1024];
-    let head = read_head();
-    fill_numbers(head_word(&head, 32), &mut blocks);
-    fill_links(head_word(&head, 36), &mut root_links);
-    fill_values(head_word(&head, 40), &mut root_values);
-    fill_links(head_word(&head, 44), &mut upper_links);
-    fill_values(head_word(&head, 48), &mut upper_values);
-    fill_links(head_word(&head, 52), &mut lower_links);
-    fill_values(head_word(&head, 56), &mut lower_values);
-    fill_values(head_word(&head, 60), &mut leaf_values);
+    let head = read_head(list);
+    fill_numbers(list, head_word(&head, 32), &mut blocks);
+    fill_links(list, head_word(&head, 36), &mut root_links);
+    fill_values(list, head_word(&head, 40), &mut root_values);
+    fill_links(list, head_word(&head, 44), &mut upper_links);
+    fill_values(list, head_word(&head, 48), &mut upper_values);
+    fill_links(list, head_word(&head, 52), &mut lower_links);
+    fill_values(list, head_word(&head, 56), &mut lower_values);
+    fill_values(list, head_word(&head, 60), &mut leaf_values);
     judge_parts(
+        list,
         &head,
         &blocks,
         &root_links,
@@ -271,34 +279,33 @@ fn replay() -> Seen
 }
 
 // How many cases were replayed, and what was seen in them.
-#[derive(Drop)]
+#[derive(Clone, Copy)]
 struct Replayed {
     cases: u32,
     lookups: u32,
     differ: u32,
 }
 
-fn replay_all() -> Replayed {
-    let cases = read_cases();
-    let mut made: u32 = 0;
+fn replay_all(list: &mut Listing<'_>) -> Replayed {
+    let cases = read_cases(list);
+    let mut lookups: u32 = 0;
     let mut differ: u32 = 0;
-    let mut i: u32 = 0;
-    while i < cases {
-        let seen = replay();
-        made += seen.lookups;
+    for _ in 0..cases {
+        let seen = replay(list);
+        lookups += seen.lookups;
         differ += seen.differ;
-        i += 1;
     }
     Replayed {
-        cases: cases,
-        lookups: made,
-        differ: differ,
+        cases,
+        lookups,
+        differ,
     }
 }
 
-fn main() {
-    let all = replay_all();
-    report(all.cases, b" cases, ");
-    report(all.lookups, b" lookups, ");
-    report(all.differ, b" differ\n");
+fn main(rt: HostRuntime) -> io::Result<()> {
+    let bytes = read_list(&rt, rt.alloc())?;
+    let all = replay_all(&mut Listing { rest: &bytes });
+    report(&rt, all.cases, b" cases, ")?;
+    report(&rt, all.lookups, b" lookups, ")?;
+    report(&rt, all.differ, b" differ\n")
 }

@@ -2,19 +2,20 @@
 // no bytes, one byte short, just enough, one byte more, and places near 2^64, where place and width pass 2^64.
 // A field past the end counts its missing bytes as 0; a read of one is refused with 5.
 #![tactic(auto)]
+
 use layout::{ReadF32, ReadF64, ReadI32, ReadI64, ReadU32, ReadU64};
 use replay::{first_bytes, report};
-use std::num::wrapping_add_u32;
+use std::io;
 
 // How many answers were compared, and how many of them were not as listed.
-#[derive(Drop)]
+#[derive(Clone, Copy)]
 struct Tally {
     reads: u32,
     differ: u32,
 }
 
 fn count(t: Tally, same: bool) -> Tally {
-    let reads = wrapping_add_u32(t.reads, 1);
+    let reads = t.reads.wrapping_add(1);
     if same {
         return Tally {
             reads,
@@ -23,7 +24,7 @@ fn count(t: Tally, same: bool) -> Tally {
     }
     Tally {
         reads,
-        differ: wrapping_add_u32(t.differ, 1),
+        differ: t.differ.wrapping_add(1),
     }
 }
 
@@ -270,10 +271,10 @@ fn bits_past(t: Tally, s: &[u8]) -> Tally {
 
 // What needs no run: these follow from the contracts alone.
 fn proved() {
-    check::expect(layout::u32_at(b"\x01\x02\x03\x84", 0) == 2214789633);
-    check::expect(layout::u32_at(b"\x01\x02\x03\x84", 2) == 33795);
-    check::expect(layout::u64_at(b"\x01\x02\x03\x84", 18446744073709551615) == 0);
-    check::expect(layout::mask_bit(b"\x81", 0, 7) == 1);
+    prove!(layout::u32_at(b"\x01\x02\x03\x84", 0) == 2214789633);
+    prove!(layout::u32_at(b"\x01\x02\x03\x84", 2) == 33795);
+    prove!(layout::u64_at(b"\x01\x02\x03\x84", 18446744073709551615) == 0);
+    prove!(layout::mask_bit(b"\x81", 0, 7) == 1);
 }
 
 fn boundaries(t: Tally) -> Tally {
@@ -314,13 +315,13 @@ fn mask_bits(t: Tally) -> Tally {
     bits_past(bits_inside(t, s), s)
 }
 
-fn main() {
+fn main(rt: HostRuntime) -> io::Result<()> {
     proved();
     let t = Tally {
         reads: 0,
         differ: 0,
     };
     let t = mask_bits(signs(kinds(boundaries(t))));
-    report(t.reads, b" reads, ");
-    report(t.differ, b" differ\n");
+    report(&rt, t.reads, b" reads, ")?;
+    report(&rt, t.differ, b" differ\n")
 }

@@ -1,0 +1,6 @@
+-- at most one record is read, and at most one answer differs, at each turn
+use Rattle.std.proofs.Common.{◌≤◌}
+use Rattle.replay_float.proofs.replay.Given as goal
+
+abbrev pub invariant-loop : goal.invariant-loop
+invariant-loop l = (l.read ≤ l.counter) × (l.differ ≤ l.counter)
