@@ -41,7 +41,7 @@ tested c = record { fault = c.build_fault-before.ensures }
 
 -- the table as the cells leave it, as long as before
 abbrev left : tie.After-cells-number → List Float
-left c = c.cells-number.new.1.1.1.1.1.1.1.1.1.1.1.1.1.0
+left c = c.cells-number.new.majorants
 
 kept : (c : tie.After-cells-number) → length (left c) ≡ length (start (at_test c)).args.majorants.now
 kept c = c.cells.auto.1.1.1.1.1.1.1.1.1.1.1.1.1.0
@@ -76,14 +76,14 @@ build_majorant_spec =
     (tie.spec
     (λ c κs. search rules)
     (λ c κs. search rules)
-    (λ c. c.before.before.zero_f32.auto.0)
+    (λ c. c.before.before.zero_f32.auto.values)
     returns
     (λ c. search rules)
     (λ c. search rules)
     (λ c. search rules)
     cells-requires
     (λ c κs. search rules)
-    (λ c. c.before.before.zero_f32-then-number-ne0.auto.0 ∙ kept (at_cells (zeroed c)))
+    (λ c. c.before.before.zero_f32-then-number-ne0.auto.values ∙ kept (at_cells (zeroed c)))
     returns-2
     (λ c. kept c.before.before.before)
     returns-3)

@@ -45,10 +45,10 @@ fault c =
 
 -- the counts as they are left
 abbrev left : tie.After-box_classes → List ℕ
-left c = c.box_classes.new.1.1.1.1.1.1.1.1.1.1.1.1.1.1.1.1.0
+left c = c.box_classes.new.counts
 
 kept : (c : tie.After-box_classes) → length (left c) ≡ 17
-kept c = c.box_classes.auto.1.1.1.1.1.1.1.1.1.1.1.1.1.1.1.1.0
+kept c = c.box_classes.auto.counts
 
 returns : tie.Need-returns-then-number-eq0
 returns c =

@@ -37,7 +37,7 @@ abbrev left : tie.After-densities-number → List Float
 left c = c.densities-number.new.values
 
 kept : (c : tie.After-densities-number) → length (left c) ≡ length (start (at-points c).before).args.values.now
-kept c = c.densities.auto.1.1.1.1.1.1.1.1.1.1.1.0
+kept c = c.densities-number.auto.values
 
 returns : tie.Need-returns-then-before-ne0
 returns c =
@@ -81,7 +81,7 @@ mix_list_spec =
     returns
     densities-requires
     (λ c κs. search rules)
-    (λ c. c.before.before.zero_f32-then-number-ne0.auto.0 ∙ kept (at-refused c).before.before.before)
+    (λ c. c.before.before.zero_f32-then-number-ne0.auto.values ∙ kept (at-refused c).before.before.before)
     returns-2
     (λ c. kept c.before.before.before)
     returns-3)

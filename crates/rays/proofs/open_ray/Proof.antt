@@ -19,10 +19,10 @@ abbrev start : tie.After-first_fault-fault → tie.Start
 start c = c.before.before.before.before.before.before.before
 
 abbrev medium : tie.After-first_fault-fault → Medium
-medium c = as_medium (start c).args.t1
+medium c = as_medium (start c).args.m
 
 abbrev beam : tie.After-first_fault-fault → Beam
-beam c = beam_of (start c).args.t2 (start c).args.t3 (start c).args.t_min (start c).args.t_max
+beam c = beam_of (start c).args.origin (start c).args.direction (start c).args.t_min (start c).args.t_max
 
 abbrev size : tie.After-first_fault-fault → ℕ
 size c = length (start c).args.majorants.now

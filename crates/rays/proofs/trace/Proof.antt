@@ -33,10 +33,10 @@ E o = length (start o).args.ends.now
 abbrev F : tie.After-open_ray-o → ℕ
 F o = length (start o).args.figures.now
 
-cleared-ends : (o : tie.After-open_ray-o) → (first o).zero_f32.new.0 ≡ replicate (E o) +0
+cleared-ends : (o : tie.After-open_ray-o) → (first o).zero_f32.new.values ≡ replicate (E o) +0
 cleared-ends o = (first o).zero_f32.ensures
 
-cleared-figures : (o : tie.After-open_ray-o) → (second o).zero_f32-2.new.0 ≡ replicate (F o) +0
+cleared-figures : (o : tie.After-open_ray-o) → (second o).zero_f32-2.new.values ≡ replicate (F o) +0
 cleared-figures o = (second o).zero_f32-2.ensures
 
 abbrev table : tie.After-open_ray-o → List Float
@@ -78,7 +78,7 @@ whole w =
 
 -- and what the loop left of them
 followed : (w : tie.After-pieces_into-t) → Followed (pieces (most (M (at w)).cells) (begun w) (table (at w))) (E (at w)) (F (at w))
-    w.pieces_into-t.result.number w.pieces_into-t.result.count w.pieces_into-t.new.1.1.1.0 w.pieces_into-t.new.1.1.1.1.0
+    w.pieces_into-t.result.number w.pieces_into-t.result.count w.pieces_into-t.new.ends w.pieces_into-t.new.figures
 followed w =
     let o = at w in
     let state = ap (λ (x : Opened). x.state) o.open_ray-o.ensures in
@@ -96,10 +96,10 @@ kept c = c.before.before.before.before.before.before
 abbrev at-ends : tie.Then-t-ne0 → tie.After-ends-2-1
 at-ends t = t.before.before.before.before.before
 
-ends-len : (t : tie.Then-t-ne0) → length (filled t).pieces_into-t.new.1.1.1.0 ≡ E (at (filled t))
+ends-len : (t : tie.Then-t-ne0) → length (filled t).pieces_into-t.new.ends ≡ E (at (filled t))
 ends-len t = (at-ends t).ends-2-1.given ∙ zeros_length _ (E (at (filled t))) (cleared-ends (at (filled t)))
 
-figures-len : (t : tie.Then-t-ne0) → length (filled t).pieces_into-t.new.1.1.1.1.0 ≡ F (at (filled t))
+figures-len : (t : tie.Then-t-ne0) → length (filled t).pieces_into-t.new.figures ≡ F (at (filled t))
 figures-len t = t.before.before.before.figures-2-1.given ∙ zeros_length _ (F (at (filled t))) (cleared-figures (at (filled t)))
 
 -- and cleared again
@@ -109,10 +109,10 @@ cleared z = z.before.before.before.before
 abbrev was-full : tie.After-zero_f32-then-t-ne0 → tie.Then-t-ne0
 was-full z = z.before.before
 
-ends-again : (z : tie.After-zero_f32-then-t-ne0) → z.zero_f32-then-t-ne0.new.0 ≡ replicate (E (at (filled (was-full z)))) +0
+ends-again : (z : tie.After-zero_f32-then-t-ne0) → z.zero_f32-then-t-ne0.new.values ≡ replicate (E (at (filled (was-full z)))) +0
 ends-again z = z.zero_f32-then-t-ne0.ensures ∙ ap (λ (n : ℕ). replicate n +0) (ends-len (was-full z))
 
-figures-again : (z : tie.After-zero_f32-then-t-ne0-2) → z.zero_f32-then-t-ne0-2.new.0 ≡ replicate (F (at (filled (was-full (cleared z))))) +0
+figures-again : (z : tie.After-zero_f32-then-t-ne0-2) → z.zero_f32-then-t-ne0-2.new.values ≡ replicate (F (at (filled (was-full (cleared z))))) +0
 figures-again z = z.zero_f32-then-t-ne0-2.ensures ∙ ap (λ (n : ℕ). replicate n +0) (figures-len (was-full (cleared z)))
 
 returns : tie.Need-returns-then-o-ne0

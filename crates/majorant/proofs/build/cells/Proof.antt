@@ -69,5 +69,5 @@ cells_spec =
     (λ c κs. search rules)
     (λ c κs. (begin (at-slices c)).requires.4)
     volume-requires
-    (λ c. c.before.before.volume.auto.1.1.1.1.1.1.1.1.1.1.1.1.1.1.1.0)
+    (λ c. c.before.before.volume.auto.majorants)
     returns)

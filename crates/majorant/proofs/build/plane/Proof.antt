@@ -45,7 +45,7 @@ grid c =
 
 -- the table as the row leaves it, as long as before
 abbrev left : tie.After-row-fault invariant-loop decreases-loop → List Float
-left c = c.row-fault.new.1.1.1.1.1.1.1.1.1.1.1.1.1.1.0
+left c = c.row-fault.new.majorants
 
 kept : (c : tie.After-row-fault invariant-loop decreases-loop) → length (left c) ≡ length (at_test c).before.loop-j.majorants
 kept c = c.row.auto.1.1.1.1.1.1.1.1.1.1.1.1.1.1.0

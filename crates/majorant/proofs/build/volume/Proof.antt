@@ -44,7 +44,7 @@ grid c =
 
 -- the table as the plane leaves it, as long as before
 abbrev left : tie.After-plane-fault invariant-loop decreases-loop → List Float
-left c = c.plane-fault.new.1.1.1.1.1.1.1.1.1.1.1.1.1.1.1.0
+left c = c.plane-fault.new.majorants
 
 kept : (c : tie.After-plane-fault invariant-loop decreases-loop) → length (left c) ≡ length (at_test c).before.loop-k.majorants
 kept c = c.plane.auto.1.1.1.1.1.1.1.1.1.1.1.1.1.1.1.0

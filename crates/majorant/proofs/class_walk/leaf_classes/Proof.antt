@@ -45,7 +45,7 @@ loop-again c =
     let w = t.before.loop-at in (
       omega arith,
       omega arith,
-      d.leaf_plane.auto.1.1.1.1.1.1.0 ∙ w.inv.2,
+      d.leaf_plane.auto.counts ∙ w.inv.2,
       add_x (part (start t)) w.inv.0 (omega arith) w.inv.3 d.leaf_plane.ensures,
     )
 

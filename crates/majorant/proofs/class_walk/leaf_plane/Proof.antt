@@ -44,7 +44,7 @@ loop-again c =
     let w = t.before.loop-at in (
       omega arith,
       omega arith,
-      d.leaf_row.auto.1.1.1.1.1.1.0 ∙ w.inv.2,
+      d.leaf_row.auto.counts ∙ w.inv.2,
       add_y (part (start t)) w.inv.0 (omega arith) w.inv.3 d.leaf_row.ensures,
     )
 

@@ -109,7 +109,7 @@ lower_cell_spec =
     (λ c. search rules)
     (λ c κs. let b = start (at-tile c) in (b.requires.2, sides b))
     (λ c κs. let s = c.before in ready_value s.part_size.result (start (at-tile s.before)).requires.0 s.part_size.ensures)
-    (λ c. c.before.before.leaf_classes.auto.1.1.1.1.1.1.0)
+    (λ c. c.before.before.leaf_classes.auto.counts)
     returns
-    (λ c. c.before.before.add_value.auto.1.1.1.0)
+    (λ c. c.before.before.add_value.auto.counts)
     returns-2)

@@ -50,7 +50,7 @@ loop-again c =
     let w = e.before.before.loop-at in (
       omega (arith, k.more),
       k.within,
-      d.lower_row.auto.1.1.1.1.1.1.1.1.0 ∙ w.inv.2,
+      d.lower_row.auto.counts ∙ w.inv.2,
       add_y (part (start e.before)) w.inv.0 (omega (arith, k.more)) w.inv.3 d.lower_row.ensures,
     )
 

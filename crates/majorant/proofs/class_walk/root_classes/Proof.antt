@@ -55,7 +55,7 @@ root_classes_spec =
     (λ c. search rules)
     (λ c κs. let p = (at-tile c).requires in (p.3, p.4))
     (λ c κs. let s = c.before in ready_value s.part_size.result (at-tile s.before).requires.0 s.part_size.ensures)
-    (λ c. c.before.before.upper_classes.auto.1.1.1.1.1.1.1.1.1.1.0)
+    (λ c. c.before.before.upper_classes.auto.counts)
     returns
-    (λ c. c.before.before.add_value.auto.1.1.1.0)
+    (λ c. c.before.before.add_value.auto.counts)
     returns-2)

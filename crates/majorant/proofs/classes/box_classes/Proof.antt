@@ -77,5 +77,5 @@ box_classes_spec =
     (λ c κs. search rules)
     returns
     roots-classes-requires
-    (λ c. c.before.before.roots_classes.auto.1.1.1.1.1.1.1.1.1.1.1.1.1.0)
+    (λ c. c.before.before.roots_classes.auto.counts)
     returns-2)

@@ -152,5 +152,5 @@ cover_classes_spec =
     root-classes-requires
     part-size-requires
     add-result
-    (λ c. c.before.before.before.root_classes.auto.1.1.1.1.1.1.1.1.1.1.0)
+    (λ c. c.before.before.before.root_classes.auto.counts)
     returns-4)

@@ -64,7 +64,7 @@ loop-again : tie.Need-loop-i-preserved invariant-loop decreases-loop
 loop-again c =
     let d = c.before.before in
     let w = (at_test d).before.loop-i in
-    (omega (arith, (at_test d).loop-i-test.true), d.cover_classes-covered.auto.1.1.1.1.1.1.1.1.1.1.1.1.1.1.1.0 ∙ w.inv.1, d.cover_classes-covered.ensures)
+    (omega (arith, (at_test d).loop-i-test.true), d.cover_classes-covered.auto.counts ∙ w.inv.1, d.cover_classes-covered.ensures)
 
 add-value-requires : tie.Need-add_value-requires invariant-loop decreases-loop
 add-value-requires c κs =
@@ -79,7 +79,7 @@ returns c =
     let s = at_end d in
     let l = s.before in
     let p = (ended l).requires in
-    gone_all p.0 p.2 (gone l) d.add_value.new.1.1.1.0 s.part_size-all.result s.part_size-all.ensures d.add_value.ensures
+    gone_all p.0 p.2 (gone l) d.add_value.new.counts s.part_size-all.result s.part_size-all.ensures d.add_value.ensures
 
 pub roots_classes_spec : {M : Type 1} → statement M
 roots_classes_spec =
@@ -97,5 +97,5 @@ roots_classes_spec =
     (λ c κs. let p = (ended c).requires in (p.1, p.2))
     (λ c. let l = c.before in let p = (ended l).requires in rest_fits p.0 p.2 (gone l) c.part_size-all.result c.part_size-all.ensures)
     add-value-requires
-    (λ c. let d = c.before.before in d.add_value.auto.1.1.1.0 ∙ (at_end d).before.before.loop-i.invariant.1)
+    (λ c. let d = c.before.before in d.add_value.auto.counts ∙ (at_end d).before.before.loop-i.invariant.1)
     returns)

@@ -28,14 +28,13 @@ same c =
 
 returns : tie.Need-returns-in-Value
 returns c =
-    let v = c.before in
-    let q = v.before.before in
-    value_read (given (at-start q)) q.read_spot.ensures v.v-1.given.1 ∙ same (at-start q)
+    let q = c.before in
+    value_read (given (at-start q)) q.read_spot.ensures c.in-Value.is ∙ same (at-start q)
 
 returns-2 : tie.Need-returns-in-Refused
 returns-2 c =
-    let q = c.before.before in
-    nought binary32 ∙ value_read (given (at-start q)) q.read_spot.ensures c.enum_told-1.given.1 ∙ same (at-start q)
+    let q = c.before in
+    nought binary32 ∙ value_read (given (at-start q)) q.read_spot.ensures c.in-Refused.is ∙ same (at-start q)
 
 pub read_spec : {M : Type 1} → statement M
 read_spec = tie.close (tie.spec (λ c κs. search rules) (λ c. search rules) (λ c. search rules) returns returns-2)

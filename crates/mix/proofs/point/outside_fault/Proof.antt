@@ -12,7 +12,7 @@ returns c =
     let y = z.before.before.before in
     let x = y.before.before.before in
     let a = x.before.before.before.args in
-    each_is (outside_fault (as_medium a.t1) (record { x = a.x; y = a.y; z = a.z })) x.outside_on-a.ensures y.outside_on-b.ensures
+    each_is (outside_fault (as_medium a.m) (record { x = a.x; y = a.y; z = a.z })) x.outside_on-a.ensures y.outside_on-b.ensures
     z.outside_on-c.ensures c.before.first_fault.ensures c.first_fault-2.ensures
 
 pub outside_fault_spec : {M : Type 1} → statement M

@@ -38,7 +38,7 @@ full_at : (t : tie.Then-s invariant-loop decreases-loop)
     → Followed (pieces (start (head t)).args.most (as_state (start (head t)).args.ray) (start (head t)).args.majorants.now)
     (length (start (head t)).args.ends.now) (length (start (head t)).args.figures.now) 9 0 (head t).loop-i.ends (head t).loop-i.figures
 full_at t o =
-    let r = t.before.next_piece in
+    let r = t.before.next_piece-s in
     full _ _ _ _ _ _ _ _ _ (head t).loop-i.invariant (as_answer r.result) r.ensures t.if-s.true t.before.before.loop-i-test.true o
 
 loop-holds : tie.Need-loop-i-init invariant-loop decreases-loop
@@ -66,13 +66,13 @@ returns-2 : tie.Need-returns-then-i-figures invariant-loop decreases-loop
 returns-2 c = full_at c.before.before (inr (omega (arith, figures-len (head c.before.before), c.if-i-figures.true)))
 
 mul-ends : tie.Need-offset_bounds-ends-i invariant-loop decreases-loop
-mul-ends c = let m = head c.before.before in omega (arith, (start m).good, c.before.if-i-ends.false, ends-len m)
+mul-ends c = let m = head c.before.before in omega (arith, (start m).well_formed, c.before.if-i-ends.false, ends-len m)
 
 slice-write-ends : tie.Need-bounds-ends-i invariant-loop decreases-loop
 slice-write-ends c = c.before.if-i-ends.false
 
 mul-figures : tie.Need-offset_bounds-figures-i invariant-loop decreases-loop
-mul-figures c = let m = head c.before.before in omega (arith, (start m).good, c.if-i-figures.false, figures-len m)
+mul-figures c = let m = head c.before.before in omega (arith, (start m).well_formed, c.if-i-figures.false, figures-len m)
 
 slice-write-figures : tie.Need-bounds-figures-i invariant-loop decreases-loop
 slice-write-figures c = c.if-i-figures.false
@@ -87,7 +87,7 @@ loop-again : tie.Need-loop-i-preserved invariant-loop decreases-loop
 loop-again c =
     let t = piece-at c in
     let m = head t in
-    let r = t.before.next_piece in
+    let r = t.before.next_piece-s in
     go_on _ _ _ _ _ _ _ _ _ m.loop-i.invariant (as_answer r.result) r.ensures t.if-s.true t.before.before.loop-i-test.true
     (omega (arith, ends-len m, c.before.before.if-i-ends.false)) (omega (arith, figures-len m, c.before.if-i-figures.false))
 
