@@ -3,7 +3,7 @@
 use Rattle.std.specs.Prelude.{◌≡◌, refl, Bool, true, false, not, cond, ◌⊎◌, List, [], ◌∷◌, ℕ, zero, suc, ◌+◌, ◌*◌, ◌/◌, ◌^◌, ◌≤◌, ◌<◌, pos, T, ltb, length, get_or, Float}
 use Rattle.std.proofs.Common.{sym, ap, ◌∙◌, true≢false, inl, inr, le_trans, le_of_eq, not-suc-le-zero, le_of_suc-le-suc, mul-le-mul_right, le_of_mul-le-mul_right, mul_right_comm, mul-one, zero-mul, div-mul-le_self, le-div_iff_mul-le, arith, ltb-false}
 use Rattle.std.proofs.Math.Nat.{zero-div}
-use Rattle.std.specs.Float.{fin}
+use Rattle.std.specs.Float.{nan, inf, fin}
 use Rattle.std.specs.Float.Ieee.{up, down, lt}
 use Rattle.std.specs.Float.Ieee.Fits.{down_pos}
 use Rattle.std.specs.Float.Ieee.Scale.{finite}
@@ -12,7 +12,7 @@ use Rattle.std.specs.Float.Ieee.Bits.{is_true}
 use Rattle.float.specs.Zero.{+0}
 use Rattle.float.specs.Tests.{yes}
 use Rattle.float.specs.Ordered.{not_lt_through, lt_turned, same_not_lt}
-use Rattle.float.specs.Plain.{Plain, at, plain_number, above_plain, not_below_zero}
+use Rattle.float.specs.Plain.{Plain, top, at, plain_number, above_plain, not_below_zero}
 use Rattle.figures.specs.Figures.{figures_fault, greater}
 use Rattle.figures.specs.FigureLaws.{every_at, sound}
 use Rattle.sheet.specs.Grades.{units_of, grade}
@@ -94,6 +94,10 @@ none_below m u d e = omega (arith, ltb-false 0 (m * u * 1 + 0 * 1 * d) e, mul-on
 
 pub units_le : (v : Float) {g : Float} → T (finite v) → Plain g → T (finite g) → lt v +0 ≡ false → lt g v ≡ false → units_of v ≤ units_of g
 unfolding lt
+units_le nan {g = g} p _ q z h = elim p [ ]
+units_le (inf _) {g = g} p _ q z h = elim p [ ]
+units_le (fin false m e) p top q z h = elim q [ ]
+units_le (fin true m e) p top q z h = elim q [ ]
 units_le (fin false m e) p (at n d) q z h =
     parts (m * up e) (down e) (n * up d) (down d) (2 ^ 149) (down_pos e) (down_pos d) (ltb-false (n * up d * down e) (m * up e * down d) h)
 units_le (fin true m e) p (at n d) q z h =

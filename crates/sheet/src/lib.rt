@@ -1,5 +1,6 @@
 // A layer of a table of cells on paper: a heading, and a line for each y from the highest down, with a character for each x.
 #![tactic(auto)]
+
 ghost use Rattle.std.specs.Prelude.{◌≡◌, true, [], ◌+◌, ◌*◌, ◌≤◌, length};
 ghost use Rattle.std.specs.Float.Ieee.Scale.{finite};
 ghost use Rattle.refusals.specs.Results.{number_of, value_or};
@@ -18,7 +19,7 @@ use figures::{figures_fault, greater};
 use refusals::{LAYER, NO_PLACE};
 
 // The number of a refusal, or 0, and how many bytes were written.
-#[derive(Clone, Copy)]
+#[derive(Drop)]
 pub struct Printed {
     pub number: u32,
     pub written: u64,
