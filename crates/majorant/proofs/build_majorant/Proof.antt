@@ -44,7 +44,7 @@ abbrev left : tie.After-cells-number → List Float
 left c = c.cells-number.new.majorants
 
 kept : (c : tie.After-cells-number) → length (left c) ≡ length (start (at_test c)).args.majorants.now
-kept c = c.cells.auto.1.1.1.1.1.1.1.1.1.1.1.1.1.0
+kept c = c.cells-number.auto.majorants
 
 returns : tie.Need-returns-then-before-ne0
 returns c = let z = zeroed_first c in stopped (tested z.before) z.if-before-ne0.true c.before.before.zero_f32.ensures

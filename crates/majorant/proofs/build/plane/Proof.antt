@@ -48,7 +48,7 @@ abbrev left : tie.After-row-fault invariant-loop decreases-loop → List Float
 left c = c.row-fault.new.majorants
 
 kept : (c : tie.After-row-fault invariant-loop decreases-loop) → length (left c) ≡ length (at_test c).before.loop-j.majorants
-kept c = c.row.auto.1.1.1.1.1.1.1.1.1.1.1.1.1.1.0
+kept c = c.row-fault.auto.majorants
 
 -- the row's places lie in the table
 places : (c : tie.In-loop-j invariant-loop decreases-loop) → c.before.loop-j.at + (start c).args.nx ≤ length (start c).args.majorants.now

@@ -47,7 +47,7 @@ abbrev left : tie.After-plane-fault invariant-loop decreases-loop → List Float
 left c = c.plane-fault.new.majorants
 
 kept : (c : tie.After-plane-fault invariant-loop decreases-loop) → length (left c) ≡ length (at_test c).before.loop-k.majorants
-kept c = c.plane.auto.1.1.1.1.1.1.1.1.1.1.1.1.1.1.1.0
+kept c = c.plane-fault.auto.majorants
 
 -- the plane's places lie in the table
 abbrev size : tie.In-loop-k invariant-loop decreases-loop → ℕ

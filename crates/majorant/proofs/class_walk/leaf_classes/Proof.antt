@@ -45,8 +45,8 @@ loop-again c =
     let w = t.before.loop-at in (
       omega arith,
       omega arith,
-      d.leaf_plane.auto.counts ∙ w.inv.2,
-      add_x (part (start t)) w.inv.0 (omega arith) w.inv.3 d.leaf_plane.ensures,
+      d.leaf_plane.auto.counts ∙ w.invariant.2,
+      add_x (part (start t)) w.invariant.0 (omega arith) w.invariant.3 d.leaf_plane.ensures,
     )
 
 returns : tie.Need-returns invariant-loop decreases-loop

@@ -44,8 +44,8 @@ loop-again c =
     let w = t.before.loop-at in (
       omega arith,
       omega arith,
-      d.leaf_row.auto.counts ∙ w.inv.2,
-      add_y (part (start t)) w.inv.0 (omega arith) w.inv.3 d.leaf_row.ensures,
+      d.leaf_row.auto.counts ∙ w.invariant.2,
+      add_y (part (start t)) w.invariant.0 (omega arith) w.invariant.3 d.leaf_row.ensures,
     )
 
 returns : tie.Need-returns invariant-loop decreases-loop

@@ -72,8 +72,8 @@ loop-again c =
     let v = one_place a.x a.y h (get_or a.leaf_values.now w.i nan) (reads t) d.add_value.ensures in (
       omega arith,
       omega arith,
-      d.add_value.auto.counts ∙ w.inv.2,
-      till_z (row (start t)) n (add_z (row (start t)) (omega arith) (omega arith) w.inv.3 v),
+      d.add_value.auto.counts ∙ w.invariant.2,
+      till_z (row (start t)) n (add_z (row (start t)) (omega arith) (omega arith) w.invariant.3 v),
     )
 
 returns : tie.Need-returns invariant-loop decreases-loop

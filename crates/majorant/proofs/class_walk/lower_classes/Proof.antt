@@ -50,8 +50,8 @@ loop-again c =
     let w = e.before.before.loop-at in (
       omega (arith, k.more),
       k.within,
-      d.lower_plane.auto.counts ∙ w.inv.2,
-      add_x (part (start e.before)) w.inv.0 (omega (arith, k.more)) w.inv.3 d.lower_plane.ensures,
+      d.lower_plane.auto.counts ∙ w.invariant.2,
+      add_x (part (start e.before)) w.invariant.0 (omega (arith, k.more)) w.invariant.3 d.lower_plane.ensures,
     )
 
 returns : tie.Need-returns invariant-loop decreases-loop

@@ -13,10 +13,10 @@ abbrev begin : tie.After-slice_known-1 → tie.Start
 begin c = c.before.before.before.before.before.before.before
 
 abbrev at-child : tie.In-Child → tie.Start
-at-child c = begin c.before.before.before
+at-child c = begin c.before
 
 abbrev at-tile : tie.In-Tile → tie.Start
-at-tile c = begin c.before.before.before
+at-tile c = begin c.before
 
 -- what is read below the entry
 abbrev below : tie.Start → ℕ → ℕ → ℕ → ℕ → Float
@@ -27,14 +27,14 @@ below c =
 upper-classes-requires : tie.Need-upper_classes-requires
 upper-classes-requires c κs =
     let p = (at-child c.before).requires in
-    (p.0, record { room = child_room c.before.before.entry-1.given.1 p.1; tables = p.2 }, p.3)
+    (p.0, record { room = child_room c.before.in-Child.is p.1; tables = p.2 }, p.3)
 
 returns : tie.Need-returns-in-Child
 returns c =
     let d = c.before.before in
     let m = d.before.before in
     let a = (at-child m).args in
-    cell_child (below (at-child m)) (zone_in a.x a.y a.z) (λ x y z s. refl) m.before.entry-1.given.1 d.upper_classes.ensures
+    cell_child (below (at-child m)) (zone_in a.x a.y a.z) (λ x y z s. refl) m.in-Child.is d.upper_classes.ensures
 
 returns-2 : tie.Need-returns-in-Tile
 returns-2 c =
@@ -43,7 +43,7 @@ returns-2 c =
     let m = s.before in
     let a = (at-tile m).args in
     cell_tile (below (at-tile m)) (zone_in a.x a.y a.z) (λ x y z s. refl) s.part_size.result
-    m.before.entry-in-Tile-1.given.1 s.part_size.ensures d.add_value.ensures
+    m.in-Tile.is s.part_size.ensures d.add_value.ensures
 
 pub root_classes_spec : {M : Type 1} → statement M
 root_classes_spec =

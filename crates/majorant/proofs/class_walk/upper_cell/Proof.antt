@@ -22,10 +22,10 @@ abbrev start : tie.After-entry_of → tie.Start
 start c = begin (at-index c)
 
 abbrev at-child : tie.In-Child → tie.After-entry_of
-at-child c = c.before.before.before
+at-child c = c.before
 
 abbrev at-tile : tie.In-Tile → tie.After-entry_of
-at-tile c = c.before.before.before
+at-tile c = c.before
 
 -- the node's two tables, the slot of the first place, and what is read below
 abbrev links : tie.Start → List ℕ
@@ -72,7 +72,7 @@ lower-classes-requires c κs =
     let d = at-child c.before in
     let b = start d in
     let p = b.requires in
-    let l = child_link (links b) (values b) (slot b) (entry d ∙ c.before.before.j-1.given.1) in
+    let l = child_link (links b) (values b) (slot b) (entry d ∙ c.before.in-Child.is) in
     let h = p.1.tables.upper_linked (slot b) in
     (p.0, record { room = omega arith; pair = p.1.tables.lower; linked = p.1.tables.lower_linked }, p.2)
 
@@ -81,7 +81,7 @@ returns c =
     let d = c.before.before in
     let m = d.before.before in
     let b = start (at-child m) in
-    cell_child (below b) (zone_in b.args.x b.args.y b.args.z) (same b) (entry (at-child m) ∙ m.before.j-1.given.1) d.lower_classes.ensures
+    cell_child (below b) (zone_in b.args.x b.args.y b.args.z) (same b) (entry (at-child m) ∙ m.in-Child.is) d.lower_classes.ensures
 
 returns-2 : tie.Need-returns-in-Tile
 returns-2 c =
@@ -90,7 +90,7 @@ returns-2 c =
     let m = s.before in
     let b = start (at-tile m) in
     cell_tile (below b) (zone_in b.args.x b.args.y b.args.z) (same b) s.part_size.result
-    (entry (at-tile m) ∙ m.before.v-1.given.1) s.part_size.ensures d.add_value.ensures
+    (entry (at-tile m) ∙ m.in-Tile.is) s.part_size.ensures d.add_value.ensures
 
 pub upper_cell_spec : {M : Type 1} → statement M
 upper_cell_spec =

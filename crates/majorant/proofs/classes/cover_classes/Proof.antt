@@ -144,9 +144,9 @@ cover_classes_spec =
     (λ c κs. search rules)
     (λ c κs. search rules)
     (λ c κs. search rules)
-    (λ c. let s = start-4 c in omega (arith, s.requires.1, s.good))
+    (λ c. let s = start-4 c in omega (arith, s.requires.1, s.well_formed))
     (λ c. (start-4 c.before).requires.1)
-    (λ c. let s = start-4 c.before in omega (arith, s.requires.1, s.good))
+    (λ c. let s = start-4 c.before in omega (arith, s.requires.1, s.well_formed))
     (λ c. value_in_lem (rooted (start-4 c.before.before)))
     (λ c κs. search rules)
     root-classes-requires

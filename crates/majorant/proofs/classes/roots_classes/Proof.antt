@@ -64,7 +64,7 @@ loop-again : tie.Need-loop-i-preserved invariant-loop decreases-loop
 loop-again c =
     let d = c.before.before in
     let w = (at_test d).before.loop-i in
-    (omega (arith, (at_test d).loop-i-test.true), d.cover_classes-covered.auto.counts ∙ w.inv.1, d.cover_classes-covered.ensures)
+    (omega (arith, (at_test d).loop-i-test.true), d.cover_classes-covered.auto.counts ∙ w.invariant.1, d.cover_classes-covered.ensures)
 
 add-value-requires : tie.Need-add_value-requires invariant-loop decreases-loop
 add-value-requires c κs =

@@ -26,12 +26,12 @@ join-row-requires c κs = let l = c.before in let p = (start l).requires in (p.0
 returns : tie.Need-returns-then-at-end invariant-loop decreases-loop
 returns c =
     let w = (at-loop c.before).loop-at in
-    till_y (more_y w.inv.0 (omega arith) w.inv.2 c.before.join_row.ensures) (omega arith)
+    till_y (more_y w.invariant.0 (omega arith) w.invariant.2 c.before.join_row.ensures) (omega arith)
 
 loop-again : tie.Need-loop-at-preserved invariant-loop decreases-loop
 loop-again c =
     let w = (at-loop c.before).loop-at in
-    (omega arith, omega arith, more_y w.inv.0 (omega arith) w.inv.2 c.before.join_row.ensures)
+    (omega arith, omega arith, more_y w.invariant.0 (omega arith) w.invariant.2 c.before.join_row.ensures)
 
 pub join_plane_spec : {M : Type 1} → statement M
 join_plane_spec =

@@ -26,12 +26,12 @@ join-plane-requires c κs = let l = c.before in let p = (start l).requires in (p
 returns : tie.Need-returns-then-at-end invariant-loop decreases-loop
 returns c =
     let w = (at-loop c.before).loop-at in
-    till_x (more_x w.inv.0 (omega arith) w.inv.2 c.before.join_plane.ensures) (omega arith)
+    till_x (more_x w.invariant.0 (omega arith) w.invariant.2 c.before.join_plane.ensures) (omega arith)
 
 loop-again : tie.Need-loop-at-preserved invariant-loop decreases-loop
 loop-again c =
     let w = (at-loop c.before).loop-at in
-    (omega arith, omega arith, more_x w.inv.0 (omega arith) w.inv.2 c.before.join_plane.ensures)
+    (omega arith, omega arith, more_x w.invariant.0 (omega arith) w.invariant.2 c.before.join_plane.ensures)
 
 pub join_planes_spec : {M : Type 1} → statement M
 join_planes_spec =

@@ -60,9 +60,9 @@ loop-again c =
     let w = l.before.loop-i in
     let values = (begin (at_first l)).args.leaf_values.now in
     let n = 512 * (begin (at_first l)).args.k + (at_first l).table_index.result + w.i in
-    next w.inv (omega arith)
+    next w.invariant (omega arith)
     (c.greater.ensures
-    ∙ λ j. greater (get_d_any w.maxima w.i nan +0 (omega (arith, w.inv.eight)) j)
+    ∙ λ j. greater (get_d_any w.maxima w.i nan +0 (omega (arith, w.invariant.eight)) j)
     (get_d_any values n nan +0 (omega (arith, (at_first l).table_index.ensures)) j))
 
 returns : tie.Need-returns invariant-loop decreases-loop

@@ -51,7 +51,7 @@ more : (c : tie.After-greater-held invariant-loop decreases-loop) →
 more c x0 x1 y0 y1 h =
     let e = at-columns (at-loop c) in
     let w = (at-loop c).loop-at in
-    more_z h (begin e).requires.2 w.inv.0 (w.inv.2 x0 x1 y0 y1 h)
+    more_z h (begin e).requires.2 w.invariant.0 (w.invariant.2 x0 x1 y0 y1 h)
     (c.greater-held.ensures ∙ ap (greater w.held) (get_d_any (maxima e) (w.at % 8) nan +0 (omega (arith, (still_eight zeros_eight h).eight))))
 
 returns : tie.Need-returns-then-at-end invariant-loop decreases-loop

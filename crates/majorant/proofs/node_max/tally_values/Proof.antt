@@ -13,7 +13,7 @@ abbrev begin : tie.After-struct_known-then-counting-2-1 → tie.Start
 begin c = c.before.before.before.before
 
 abbrev start : tie.After-wrapping_add_u64-low → tie.Start
-start c = begin c.before.before
+start c = begin c.before.before.before
 
 abbrev along : Span → ℕ
 along s = s.hi - s.lo
@@ -29,14 +29,15 @@ size c = mul-le-mul (flat c) (short c.args.z c.requires.0.z_some c.requires.1.2)
 
 returns : tie.Need-returns-after-low-size
 returns c q =
-    let a = c.before in
+    let a = c.before.before in
     let t = (start a).args.counts.now in
     let h = size (start a) in
     let n = along (start a).args.x * along (start a).args.y * along (start a).args.z in
     let to : List ℕ → Type 0 = λ u. More t (set u 4 a.wrapping_add_u64-low.result) 0 0 0 n in
     elim c.if-low-size.branch [
-      | then-low-size w ↦ subst to (sym w.3) (values_carry t n (omega arith) a.wrapping_add_u64-low.ensures w.if-low-size.true w.2.ensures)
-      | else-low-size w ↦ subst to (sym w.1@IS) (values_more t n (omega arith) a.wrapping_add_u64-low.ensures w.if-low-size.false)
+      | then-low-size w ↦ subst to (sym w.counts-is)
+          (values_carry t n (omega arith) a.wrapping_add_u64-low.ensures w.if-low-size.true w.wrapping_add_u64.ensures)
+      | else-low-size w ↦ subst to (sym w.counts-is) (values_more t n (omega arith) a.wrapping_add_u64-low.ensures w.if-low-size.false)
     ]
 
 pub tally_values_spec : {M : Type 1} → statement M

@@ -7,6 +7,7 @@ use Rattle.majorant.proofs.RootStep.{Rooted, Touched, IsEntry, value_in_lem, chi
 use Rattle.majorant.proofs.RootStep.{clipped, misses, meets_tile, meets_child, step_as}
 use Rattle.majorant.proofs.range_max.cover.Statement.{statement}
 use Rattle.majorant.proofs.range_max.cover.Tie as tie
+use Rattle.majorant.proofs.range_max.cover.Lts.{in-Child, in-Tile}
 
 -- places: the start, the three tests, the entry, a child's three clips
 abbrev begin : tie.After-shared_slice_known-7-1 → tie.Start
@@ -40,7 +41,7 @@ abbrev at-child : tie.After-upper_max-arg-1 → tie.In-Child
 at-child c = c.before.before.before.before
 
 abbrev at_entry : tie.In-Child → tie.After-entry_of
-at_entry c = c.before.before.before
+at_entry c = c.before
 
 -- the grid, and the root
 abbrev grid : tie.Start → Grid
@@ -92,7 +93,7 @@ upper-max-requires c κs =
     let p = clipped (touched (at-tests e)) c.before.before.before.intersect_bounds.ensures
     c.before.before.intersect_bounds-in-Child.ensures c.before.intersect_bounds-in-Child-2.ensures in (
       record {
-        room = child_in_lem (rooted b) (sym k.before.k-1.given.1 ∙ entry-is e);
+        room = child_in_lem (rooted b) (sym k.in-Child.is ∙ entry-is e);
         tables = record { upper = s.upper; lower = s.lower; upper_linked = s.upper_linked; lower_linked = s.lower_linked };
       },
       part b.requires.2 p,
@@ -108,12 +109,13 @@ returns-4 c =
     let r = rooted b in
     let f = b.requires.2 in
     let v = b.requires.3 in
-    ⊎_elim
-    (λ w. step_as r f v w.9 w.8
-    (meets_child r f v (sym w.1.given.1 ∙ entry-is e) (clipped t w.3.ensures w.4.ensures w.5.ensures)
-    w.7.ensures.0 w.7.ensures.1))
-    (λ w. step_as r f v w.5 w.4 (meets_tile r f v (sym w.1.given.1 ∙ entry-is e) t w.3.ensures))
-    c.before.in-Child.branch
+    elim c.match-entry_of.branch [
+      | in-Child w ↦ step_as r f v w.maximum-is w.counts-is
+          (meets_child r f v (sym w.in-Child.is ∙ entry-is e)
+          (clipped t w.intersect_bounds.ensures w.intersect_bounds-in-Child.ensures w.intersect_bounds-in-Child-2.ensures)
+          w.upper_max-maximum.ensures.0 w.upper_max-maximum.ensures.1)
+      | in-Tile w ↦ step_as r f v w.maximum-is w.counts-is (meets_tile r f v (sym w.in-Tile.is ∙ entry-is e) t w.greater-maximum.ensures)
+    ]
 
 pub cover_spec : {M : Type 1} → statement M
 cover_spec =
@@ -138,7 +140,7 @@ cover_spec =
     returns-3
     (λ c. omega arith)
     (λ c. (start-4 c.before).requires.1)
-    (λ c. let s = start-4 c.before in omega (arith, s.requires.1, s.good))
+    (λ c. let s = start-4 c.before in omega (arith, s.requires.1, s.well_formed))
     (λ c. value_in_lem (rooted (start-4 c.before.before)))
     (λ c κs. search rules)
     (λ c. search rules)
@@ -149,5 +151,5 @@ cover_spec =
     upper-max-requires
     (λ c. search rules)
     (λ c κs. search rules)
-    (λ c. let b = start-5 c.before.before in omega (arith, b.requires.3.small, b.requires.1, b.good))
+    (λ c. let b = start-5 c.before.before in omega (arith, b.requires.3.small, b.requires.1, b.well_formed))
     returns-4)
