@@ -18,13 +18,13 @@ at-start c = c.before.before.before.before.before.before.before.before.before.be
 abbrev lent : tie.Start → Tables
 lent c =
     let a = c.args in
-    tables a.blocks.now a.root_links-1.now a.root_values-1.now a.upper_links-1.now a.upper_values-1.now a.lower_links-1.now
-    a.lower_values-1.now a.leaf_values-1.now a.work.now
+    tables a.blocks.now a.root_links.now a.root_values.now a.upper_links.now a.upper_values.now a.lower_links.now
+    a.lower_values.now a.leaf_values.now a.work.now
 
 abbrev cleared : tie.After-clear_nodes → Tables
 cleared c =
-    let (blocks, (rl, (rv, (ul, (uv, (ll, (lv, (work, _)))))))) = c.clear_nodes.new in
-    tables blocks rl rv ul uv ll lv [] work
+    let n = c.clear_nodes.new in
+    tables n.blocks n.root_links n.root_values n.upper_links n.upper_values n.lower_links n.lower_values [] n.work
 
 zeros-are : (c : tie.After-clear_nodes) → cleared c ≡ zeros (lengths (leafless (lent (at-start c))))
 zeros-are c = c.clear_nodes.ensures

@@ -1,6 +1,5 @@
 -- `decode::decode` meets its contract: tables of zeros, the reader, and what it leaves. Assumes nothing.
 use mathlib.Core.Path.{◌≡◌, refl}
-use lib.ListN.{length}
 use borrow.Author.Rules.{rules}
 use Rattle.nanovdb.specs.Lent.{Tables, tables, lengths, zeros}
 use Rattle.nanovdb.specs.Kept.{Kept, kept_on, same}
@@ -29,23 +28,23 @@ start c = at-start (at_clear c.before)
 abbrev lent : tie.Start → Tables
 lent c =
     let a = c.args in
-    tables a.blocks.now a.root_links-1.now a.root_values-1.now a.upper_links-1.now a.upper_values-1.now a.lower_links-1.now
-    a.lower_values-1.now a.leaf_values-1.now a.work.now
+    tables a.blocks.now a.root_links.now a.root_values.now a.upper_links.now a.upper_values.now a.lower_links.now
+    a.lower_values.now a.leaf_values.now a.work.now
 
 abbrev cleared : tie.After-clear_nodes → Tables
 cleared c =
-    let (blocks, (rl, (rv, (ul, (uv, (ll, (lv, (work, _)))))))) = c.clear_nodes.new in
-    tables blocks rl rv ul uv ll lv (at-start c).args.leaf_values.now work
+    let n = c.clear_nodes.new in
+    tables n.blocks n.root_links n.root_values n.upper_links n.upper_values n.lower_links n.lower_values (at-start c).args.leaf_values.now n.work
 
 abbrev filled : tie.After-read_grid-read → Tables
 filled c =
-    let (_, (_, (blocks, (rl, (rv, (ul, (uv, (ll, (lv, (leaves, (work, _))))))))))) = c.read_grid-read.new in
-    tables blocks rl rv ul uv ll lv leaves work
+    let n = c.read_grid-read.new in
+    tables n.blocks n.rl n.rv n.ul n.uv n.ll n.lv n.leaves n.work
 
 abbrev left : tie.After-leave → Tables
 left c =
-    let (_, (blocks, (rl, (rv, (ul, (uv, (ll, (lv, (leaves, (work, _)))))))))) = c.leave.new in
-    tables blocks rl rv ul uv ll lv leaves work
+    let n = c.leave.new in
+    tables n.blocks n.root_links n.root_values n.upper_links n.upper_values n.lower_links n.lower_values n.leaf_values n.work
 
 -- ---- what is known there
 zeros-are : (c : tie.After-clear_nodes) → leafless (cleared c) ≡ zeros (lengths (leafless (lent (at-start c))))
@@ -53,42 +52,53 @@ zeros-are c = c.clear_nodes.ensures
 
 clear-keeps : (c : tie.After-clear_nodes) → Kept (lent (at-start c)) (cleared c)
 clear-keeps c =
-    let (blocks, (rl, (rv, (ul, (uv, (ll, (lv, (work, _)))))))) = c.clear_nodes.auto in
+    let n = c.clear_nodes.auto in
     record {
-      blocks = blocks;
-      root_links = rl;
-      root_values = rv;
-      upper_links = ul;
-      upper_values = uv;
-      lower_links = ll;
-      lower_values = lv;
+      blocks = n.blocks;
+      root_links = n.root_links;
+      root_values = n.root_values;
+      upper_links = n.upper_links;
+      upper_values = n.upper_values;
+      lower_links = n.lower_links;
+      lower_values = n.lower_values;
       leaf_values = refl;
-      work = work;
+      work = n.work;
     }
 
--- each call hands on the lengths of the nine tables in this order
-nine : {t u : Tables} {rest : Type 0}
-    → (length u.blocks ≡ length t.blocks) × ((length u.root_links ≡ length t.root_links) × ((length u.root_values ≡ length t.root_values)
-    × ((length u.upper_links ≡ length t.upper_links) × ((length u.upper_values ≡ length t.upper_values)
-    × ((length u.lower_links ≡ length t.lower_links) × ((length u.lower_values ≡ length t.lower_values)
-    × ((length u.leaf_values ≡ length t.leaf_values) × ((length u.work ≡ length t.work) × rest))))))))
-    → Kept t u
-nine (blocks, (rl, (rv, (ul, (uv, (ll, (lv, (leaves, (work, _))))))))) = record {
-  blocks = blocks;
-  root_links = rl;
-  root_values = rv;
-  upper_links = ul;
-  upper_values = uv;
-  lower_links = ll;
-  lower_values = lv;
-  leaf_values = leaves;
-  work = work;
-}
+read-keeps : (c : tie.After-read_grid-read) → Kept (cleared (at_clear c.before)) (filled c)
+read-keeps c =
+    let n = c.read_grid-read.auto in
+    record {
+      blocks = n.blocks;
+      root_links = n.rl;
+      root_values = n.rv;
+      upper_links = n.ul;
+      upper_values = n.uv;
+      lower_links = n.ll;
+      lower_values = n.lv;
+      leaf_values = n.leaves;
+      work = n.work;
+    }
+
+leave-keeps : (c : tie.After-leave) → Kept (filled (at_read c)) (left c)
+leave-keeps c =
+    let n = c.leave.auto in
+    record {
+      blocks = n.blocks;
+      root_links = n.root_links;
+      root_values = n.root_values;
+      upper_links = n.upper_links;
+      upper_values = n.upper_values;
+      lower_links = n.lower_links;
+      lower_values = n.lower_values;
+      leaf_values = n.leaf_values;
+      work = n.work;
+    }
 
 keeps : (c : tie.After-leave) → Kept (lent (start (at_read c))) (left c)
 keeps c =
     let r = at_read c in let z = at_clear r.before in
-    kept_on {u = cleared z} (clear-keeps z) (kept_on {u = filled r} (nine r.read_grid-read.kept.1.1) (nine c.leave.auto.1))
+    kept_on {u = cleared z} (clear-keeps z) (kept_on {u = filled r} (read-keeps r) (leave-keeps c))
 
 -- ---- the calls, and the way out
 read-grid-requires : tie.Need-read_grid-read-requires

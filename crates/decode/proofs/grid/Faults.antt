@@ -43,7 +43,7 @@ tested t {m = m} {k = k} {i} is are valid map index later all =
     let framed : Coord → Coord → List Float → Point → Medium = λ l h p q. make_medium m.low m.high l h p q m.cells in
     let mapped : k ≡ map_fault t.medium = map ∙ λ j. map_fault (framed m.index_low m.index_high (are.map j) (are.translation j)) in
     let indexed : i ≡ each (index_fault t.medium) =
-    index ∙ λ j. each (index_fault (framed (are.index_low_lem j) (are.index_high_lem j) m.map m.translation)) in
+    index ∙ λ j. each (index_fault (framed (are.index_low j) (are.index_high j) m.map m.translation)) in
     all ∙ (λ j. (valid ∙ ap (λ (x : Float). validate (over t x)) is) j then (later ∙ (λ j. mapped j then indexed j)) j)
 
 pub scalar : (density : Bool) (t : Accepted) {f : ℕ} → f ≡ tree_fault t → not density ≡ true → f ≡ grid_fault density t

@@ -89,7 +89,7 @@ module _ (b : List ℕ) (x : Tree.Tree) (u : Tabs) (v : RootTabs) (r : Roots) (h
       (length u.lower_links) (length u.lower_values) (length u.leaf_values)
   used = record {
     place = inside;
-    blocks_in_lem = fits v.blocks (pos 0) (blocks_of r.roots) (3 * x.roots) roots.blocks blocks_size;
+    blocks_in = fits v.blocks (pos 0) (blocks_of r.roots) (3 * x.roots) roots.blocks blocks_size;
     root_links_in = fits v.links 0 (map link_in r.roots) x.roots roots.links (root_size link_in);
     root_values_in = fits v.values +0 (map value_in r.roots) x.roots roots.values (root_size value_in);
     upper_links_in = fits u.upper_links 0 (map link_of r.state.upper) (32768 * x.nodes.uppers) upper_links (upper_size link_of);

@@ -38,8 +38,8 @@ module _ (b : List ℕ) where
       → SameFrame m (medium_at b root)
   unfolding medium_at
   frame_is root made i₀ i₁ i₂ j₀ j₁ j₂ m₀ m₁ m₂ m₃ m₄ m₅ m₆ m₇ m₈ t₀ t₁ t₂ = record {
-    index_low_lem = ap (λ (m : Medium). m.index_low) made ∙ λ k. record { x = i₀ k; y = i₁ k; z = i₂ k };
-    index_high_lem = ap (λ (m : Medium). m.index_high) made ∙ λ k. record { x = j₀ k; y = j₁ k; z = j₂ k };
+    index_low = ap (λ (m : Medium). m.index_low) made ∙ λ k. record { x = i₀ k; y = i₁ k; z = i₂ k };
+    index_high = ap (λ (m : Medium). m.index_high) made ∙ λ k. record { x = j₀ k; y = j₁ k; z = j₂ k };
     map = ap (λ (m : Medium). m.map) made ∙ λ k. m₀ k ∷ m₁ k ∷ m₂ k ∷ m₃ k ∷ m₄ k ∷ m₅ k ∷ m₆ k ∷ m₇ k ∷ m₈ k ∷ [];
     translation = ap (λ (m : Medium). m.translation) made ∙ λ k. record { x = t₀ k; y = t₁ k; z = t₂ k };
   }
@@ -50,7 +50,7 @@ module _ (b : List ℕ) where
       → SameWorld w (medium_at b root) → SameFrame f (medium_at b root) → m ≡ medium_at b root
   unfolding medium_at
   halves root made w f =
-      made ∙ λ k. make_medium (w.low k) (w.high k) (f.index_low_lem k) (f.index_high_lem k) (f.map k) (f.translation k) cells64
+      made ∙ λ k. make_medium (w.low k) (w.high k) (f.index_low k) (f.index_high k) (f.map k) (f.translation k) cells64
 
 module _ (b : List ℕ) where
   pub fault_long : 4294967295 < length b → 1 ≡ bytes_fault b

@@ -10,20 +10,20 @@ use Rattle.decode.proofs.leave.Statement.{statement}
 use Rattle.decode.proofs.leave.Tie as tie
 
 -- ---- places on the way to a place: the two arms, and `clear`
-abbrev at-start : tie.In-Read-2 → tie.Start
-at-start c = c.before.before.before.before.before.before.before.before.before.before
+abbrev at-start : tie.In-Read → tie.Start
+at-start c = c.before.before.before.before.before.before.before.before.before
 
-abbrev at-start₂ : tie.In-Refused-2 → tie.Start
-at-start₂ c = c.before.before.before.before.before.before.before.before.before.before
+abbrev at-start₂ : tie.In-Refused → tie.Start
+at-start₂ c = c.before.before.before.before.before.before.before.before.before
 
 abbrev at-leaves : tie.After-zero_u64 → tie.After-zero_behind
 at-leaves c = c.before.before.before.before
 
-abbrev at_read : tie.After-zero_behind → tie.In-Read-2
-at_read c = c.before.before.before.before
+abbrev at_read : tie.After-zero_behind → tie.In-Read
+at_read c = c.before.before.before
 
-abbrev at-refusal : tie.After-clear → tie.In-Refused-2
-at-refusal c = c.before.before.before.before.before.before.before.before.before.before.before
+abbrev at-refusal : tie.After-clear → tie.In-Refused
+at-refusal c = c.before.before.before.before.before.before.before.before.before.before
 
 abbrev at_clear : tie.After-slice_known-in-Refused-8-1 → tie.After-clear
 at_clear c = c.before.before.before.before.before.before.before.before.before.before.before.before.before.before.before.before.before
@@ -32,16 +32,16 @@ at_clear c = c.before.before.before.before.before.before.before.before.before.be
 abbrev lent : tie.Start → List Float → List ℕ → Tables
 lent c leaves work =
     let a = c.args in
-    tables a.blocks.now a.root_links-1.now a.root_values-1.now a.upper_links-1.now a.upper_values-1.now a.lower_links-1.now
-    a.lower_values-1.now leaves work
+    tables a.blocks.now a.root_links.now a.root_values.now a.upper_links.now a.upper_values.now a.lower_links.now
+    a.lower_values.now leaves work
 
 abbrev before : tie.Start → Tables
 before c = lent c c.args.leaf_values.now c.args.work.now
 
 abbrev cleared : tie.After-clear → Tables
 cleared c =
-    let (blocks, (rl, (rv, (ul, (uv, (ll, (lv, (leaves, (work, _))))))))) = c.clear.new in
-    tables blocks rl rv ul uv ll lv leaves work
+    let n = c.clear.new in
+    tables n.blocks n.root_links n.root_values n.upper_links n.upper_values n.lower_links n.lower_values n.leaf_values n.work
 
 zeros-are : (c : tie.After-clear) → let s = at-start₂ (at-refusal c) in cleared c ≡ zeros (lengths (before s))
 zeros-are c = c.clear.ensures
@@ -50,12 +50,12 @@ zeros-are c = c.clear.ensures
 returns : tie.Need-returns-in-Read
 returns c =
     let z = c.before.before in let l = at-leaves z in let r = at_read l in let s = at-start r in
-    (λ i. lent s (l.zero_behind.ensures i) (z.zero_u64.ensures i)) ∙ ap (left_in (before s)) (sym r.read-1.given.1)
+    (λ i. lent s (l.zero_behind.ensures i) (z.zero_u64.ensures i)) ∙ ap (left_in (before s)) (sym r.in-Read.is)
 
 returns-2 : tie.Need-returns-in-Refused
 returns-2 c =
     let z = at_clear c in let r = at-refusal z in let s = at-start₂ r in
-    zeros-are z ∙ ap (left_in (before s)) (sym r.read-in-Refused-1.given.1)
+    zeros-are z ∙ ap (left_in (before s)) (sym r.in-Refused.is)
 
 pub leave_spec : {M : Type 1} → statement M
 leave_spec =

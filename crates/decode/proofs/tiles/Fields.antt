@@ -39,7 +39,7 @@ field_high bits s h =
 
 -- an i32 that a local holds as bits
 pub i32_seen : (z v : ℤ) → mag z < 2 ^ 31 → z ≡ v → to_z w32 (of_z w32 z) ≡ v
-i32_seen z v h e = to_z-of_z (record { sfits = h }) ∙ e
+i32_seen z v h e = to_z-of_z {w = w32} (record { sfits = h }) ∙ e
 
 -- the tests of a key
 module _ (key : ℕ) where

@@ -55,7 +55,7 @@ used_in b x blocks root_links root_values upper_links upper_values lower_links l
 -- the used parts lie in their tables, and the root in the bytes
 pub record Used (len : ℕ) (x : Tree.Tree) (blocks root_links root_values upper_links upper_values lower_links lower_values leaf_values : ℕ) : Type 0 where
   pub place : x.root + 28 ≤ len
-  pub blocks_in_lem : 3 * x.roots ≤ blocks
+  pub blocks_in : 3 * x.roots ≤ blocks
   pub root_links_in : x.roots ≤ root_links
   pub root_values_in : x.roots ≤ root_values
   pub upper_links_in : 32768 * x.nodes.uppers ≤ upper_links

@@ -7,7 +7,7 @@ pub record SameWorld (m n : Medium) : Type 0 where
   pub high : m.high ≡ n.high
 
 pub record SameFrame (m n : Medium) : Type 0 where
-  pub index_low_lem : m.index_low ≡ n.index_low
-  pub index_high_lem : m.index_high ≡ n.index_high
+  pub index_low : m.index_low ≡ n.index_low
+  pub index_high : m.index_high ≡ n.index_high
   pub map : m.map ≡ n.map
   pub translation : m.translation ≡ n.translation

@@ -1,6 +1,7 @@
 -- `decode::grid::grid_fault` meets its contract: the tests of the used parts, joined. Assumes nothing.
 use native.Mathlib.Omega.{arith}
-use mathlib.Core.Path.{◌≡◌, sym}
+use mathlib.Core.Bool.{not}
+use mathlib.Core.Path.{◌≡◌, sym, ap}
 use lib.Seq.{length-take-le}
 use borrow.Author.Rules.{rules}
 use Rattle.nanovdb.specs.Decode.{Accepted, tree_fault}
@@ -9,7 +10,7 @@ use Rattle.decode.proofs.grid.Faults.{tested, scalar, dense}
 use Rattle.decode.proofs.grid.grid_fault.Statement.{statement}
 use Rattle.decode.proofs.grid.grid_fault.Tie as tie
 
--- ---- the start, from the lengths of the used parts, the medium, and the arguments of `validate` and `density_fault`
+-- ---- the start, from the lengths of the used parts, the medium, and the tests
 abbrev from-upper : tie.After-struct_known-1 → tie.Start
 from-upper c = c.before.before.before.before.before.before.before.before.before.before
 
@@ -25,53 +26,17 @@ from_place c = from-leaf c.before
 abbrev start : tie.After-frame_at-m → tie.Start
 start c = from_place c.before.before
 
-abbrev from-arg : tie.After-validate-arg → tie.Start
-from-arg c = start c.before
-
-abbrev from-arg2 : tie.After-validate-arg2 → tie.Start
-from-arg2 c = from-arg c.before
-
-abbrev from-arg3 : tie.After-validate-arg3 → tie.Start
-from-arg3 c = from-arg2 c.before
-
-abbrev from-arg4 : tie.After-validate-arg4 → tie.Start
-from-arg4 c = from-arg3 c.before
-
-abbrev from-arg5 : tie.After-validate-arg5 → tie.Start
-from-arg5 c = from-arg4 c.before
-
-abbrev from-arg6 : tie.After-validate-arg6 → tie.Start
-from-arg6 c = from-arg5 c.before
-
-abbrev from-arg7 : tie.After-validate-arg7 → tie.Start
-from-arg7 c = from-arg6 c.before
-
-abbrev from-arg8 : tie.After-validate-arg8 → tie.Start
-from-arg8 c = from-arg7 c.before
-
 abbrev at-validate : tie.After-first_fault-fault → tie.After-validate-valid
 at-validate c = c.before.before.before.before
 
 abbrev at-medium : tie.After-validate-valid → tie.After-frame_at-m
-at-medium c = c.before.before.before.before.before.before.before.before.before
+at-medium c = c.before
 
 abbrev from-fault : tie.After-first_fault-fault → tie.Start
 from-fault c = start (at-medium (at-validate c))
 
-abbrev from-density : tie.After-density-fault-arg → tie.Start
-from-density c = from-fault c.before.before
-
-abbrev from-density2 : tie.After-density-fault-arg2 → tie.Start
-from-density2 c = from-density c.before
-
-abbrev from-density3 : tie.After-density-fault-arg3 → tie.Start
-from-density3 c = from-density2 c.before
-
-abbrev from-density4 : tie.After-density-fault-arg4 → tie.Start
-from-density4 c = from-density3 c.before
-
 abbrev at-scalar : tie.After-density_fault → tie.Else-not-density
-at-scalar c = c.before.before.before.before.before
+at-scalar c = c.before
 
 -- ---- the used parts, and what the first tests said of them
 abbrev used : tie.Start → Accepted
@@ -86,25 +51,25 @@ tree-fault c =
 
 -- ---- the lengths of the used parts fit a usize
 mul-upper : tie.Need-overflow_mul-upper
-mul-upper c = let s = from-upper c in omega (arith, s.requires.1.upper_links_in, s.good.1.1.1.1.1.1)
+mul-upper c = let s = from-upper c in omega (arith, s.requires.1.upper_links_in, s.well_formed.1.1.1.1.1.1)
 
 mul-lower : tie.Need-overflow_mul-lower
-mul-lower c = let s = from-lower c in omega (arith, s.requires.1.lower_links_in, s.good.1.1.1.1.1.1.1.1)
+mul-lower c = let s = from-lower c in omega (arith, s.requires.1.lower_links_in, s.well_formed.1.1.1.1.1.1.1.1)
 
 mul-leaf : tie.Need-overflow_mul-leaf
-mul-leaf c = let s = from-leaf c in omega (arith, s.requires.1.leaf_values_in, s.good.1.1.1.1.1.1.1.1.1.1)
+mul-leaf c = let s = from-leaf c in omega (arith, s.requires.1.leaf_values_in, s.well_formed.1.1.1.1.1.1.1.1.1.1)
 
 mul-validate : tie.Need-overflow_mul-roots
-mul-validate c = let s = start c in omega (arith, s.requires.1.blocks_in_lem, s.good.1.1.1)
+mul-validate c = let s = start c in omega (arith, s.requires.1.blocks_in, s.well_formed.1.1.1)
 
 -- ---- the ways out: a scalar grid, and a density grid
 returns : tie.Need-returns-then-not-density
-returns c = let s = from-fault c.before in scalar s.args.density (used s) (tree-fault c.before) c.if-not-density.true
+returns c = let s = from-fault c.before in scalar s.args.density (used s) (tree-fault c.before) (ap not c.if-not-density.true)
 
 returns-2 : tie.Need-returns
 returns-2 c =
     let d = c.before in let e = at-scalar d in let s = from-fault e.before in
-    dense s.args.density (used s) (tree-fault e.before) e.if-not-density.false (at-medium (at-validate e.before)).before.f32_at-background.ensures
+    dense s.args.density (used s) (tree-fault e.before) (ap not e.if-not-density.false) (at-medium (at-validate e.before)).before.f32_at-background.ensures
     d.density_fault.ensures c.first_fault-2.ensures
 
 pub grid_fault_spec : {M : Type 1} → statement M
@@ -118,24 +83,24 @@ grid_fault_spec =
     (λ c κs. search rules)
     (λ c κs. let s = from_place c.before in omega (arith, s.requires.1.place, s.requires.0))
     mul-validate
-    (λ c. sym (length-take-le _ _ (omega (arith, (from-arg c).requires.1.blocks_in_lem))))
-    (λ c. sym (length-take-le _ _ (omega (arith, (from-arg2 c).requires.1.root_links_in))))
-    (λ c. sym (length-take-le _ _ (omega (arith, (from-arg3 c).requires.1.root_values_in))))
-    (λ c. sym (length-take-le _ _ (omega (arith, (from-arg4 c).requires.1.upper_links_in))))
-    (λ c. sym (length-take-le _ _ (omega (arith, (from-arg5 c).requires.1.upper_values_in))))
-    (λ c. sym (length-take-le _ _ (omega (arith, (from-arg6 c).requires.1.lower_links_in))))
-    (λ c. sym (length-take-le _ _ (omega (arith, (from-arg7 c).requires.1.lower_values_in))))
-    (λ c. sym (length-take-le _ _ (omega (arith, (from-arg8 c).requires.1.leaf_values_in))))
+    (λ c. sym (length-take-le _ _ (omega (arith, (start c).requires.1.blocks_in))))
+    (λ c. sym (length-take-le _ _ (omega (arith, (start c).requires.1.root_links_in))))
+    (λ c. sym (length-take-le _ _ (omega (arith, (start c).requires.1.root_values_in))))
+    (λ c. sym (length-take-le _ _ (omega (arith, (start c).requires.1.upper_links_in))))
+    (λ c. sym (length-take-le _ _ (omega (arith, (start c).requires.1.upper_values_in))))
+    (λ c. sym (length-take-le _ _ (omega (arith, (start c).requires.1.lower_links_in))))
+    (λ c. sym (length-take-le _ _ (omega (arith, (start c).requires.1.lower_values_in))))
+    (λ c. sym (length-take-le _ _ (omega (arith, (start c).requires.1.leaf_values_in))))
     (λ c κs. search rules)
     (λ c κs. search rules)
     (λ c κs. search rules)
     (λ c κs. search rules)
     (λ c κs. search rules)
     returns
-    (λ c. sym (length-take-le _ _ (omega (arith, (from-density c).requires.1.root_values_in))))
-    (λ c. sym (length-take-le _ _ (omega (arith, (from-density2 c).requires.1.upper_values_in))))
-    (λ c. sym (length-take-le _ _ (omega (arith, (from-density3 c).requires.1.lower_values_in))))
-    (λ c. sym (length-take-le _ _ (omega (arith, (from-density4 c).requires.1.leaf_values_in))))
+    (λ c. sym (length-take-le _ _ (omega (arith, (from-fault c.before).requires.1.root_values_in))))
+    (λ c. sym (length-take-le _ _ (omega (arith, (from-fault c.before).requires.1.upper_values_in))))
+    (λ c. sym (length-take-le _ _ (omega (arith, (from-fault c.before).requires.1.lower_values_in))))
+    (λ c. sym (length-take-le _ _ (omega (arith, (from-fault c.before).requires.1.leaf_values_in))))
     (λ c κs. search rules)
     (λ c κs. search rules)
     returns-2)

@@ -23,13 +23,13 @@ abbrev at-match : tie.After-slice_known-16-1 → tie.After-read_tree
 at-match c = c.before.before.before.before.before.before.before.before.before.before.before.before.before.before.before.before.before
 
 abbrev at-refusal : tie.In-Refused → tie.After-read_tree
-at-refusal c = at-match c.before.before.before
+at-refusal c = at-match c.before
 
-abbrev at-tree : tie.After-grid-fault-arg8 → tie.In-Read-2
-at-tree c = c.before.before.before.before.before.before.before.before.before
+abbrev at-tree : tie.After-grid_fault-fault → tie.In-Read
+at-tree c = c.before
 
-abbrev at-answer : tie.After-grid-fault-arg8 → tie.After-read_tree
-at-answer c = at-match (at-tree c).before.before
+abbrev at-answer : tie.In-Read → tie.After-read_tree
+at-answer c = at-match c.before
 
 abbrev start : tie.After-read_tree → tie.Start
 start c = at-start (at-lengths (at-header c.before).before)
@@ -45,8 +45,8 @@ lent c =
 
 abbrev filled : tie.After-read_tree → Tables
 filled c =
-    let (_, (work, (blocks, (rl, (rv, (ul, (uv, (ll, (lv, (leaves, _)))))))))) = c.read_tree.new in
-    tables blocks rl rv ul uv ll lv leaves work
+    let n = c.read_tree.new in
+    tables n.blocks n.rl n.rv n.ul n.uv n.ll n.lv n.leaves n.work
 
 -- ---- what is known there
 lengths-pass : (c : tie.Else-lent-ne0) → lent_fault (lengths (lent (at-start c))) ≡ 0
@@ -61,17 +61,17 @@ begun c = record {
 
 keeps : (c : tie.After-read_tree) → Kept (lent (start c)) (filled c)
 keeps c =
-    let (_, (work, (blocks, (rl, (rv, (ul, (uv, (ll, (lv, (leaves, _)))))))))) = c.read_tree.auto in
+    let n = c.read_tree.auto in
     record {
-      blocks = blocks;
-      root_links = rl;
-      root_values = rv;
-      upper_links = ul;
-      upper_values = uv;
-      lower_links = ll;
-      lower_values = lv;
-      leaf_values = leaves;
-      work = work;
+      blocks = n.blocks;
+      root_links = n.rl;
+      root_values = n.rv;
+      upper_links = n.ul;
+      upper_values = n.uv;
+      lower_links = n.ll;
+      lower_values = n.lv;
+      leaf_values = n.leaves;
+      work = n.work;
     }
 
 got : (c : tie.After-read_tree) → Got (bytes (start c)) (lent (start c)) (filled c) c.read_tree.result
@@ -82,7 +82,7 @@ read-tree-requires : tie.Need-read_tree-requires
 read-tree-requires c κs = tree-asks (begun (at-header c))
 
 grid-fault-requires : tie.Need-grid_fault-fault-requires
-grid-fault-requires c κs = tree-used (got (at-answer c)) (at-tree c).x-1.given.1
+grid-fault-requires c κs = tree-used (got (at-answer c)) c.in-Read.is
 
 -- ---- the ways out: by the lengths, by the header, by a test, by the tree reader, and with the tree
 returns : tie.Need-returns-then-lent-ne0
@@ -93,16 +93,16 @@ returns-2 c = out-bytes (lengths-pass (at-lengths c.before)) c.before.bytes_faul
 
 returns-3 : tie.Need-returns-then-fault-ne0
 returns-3 c =
-    let p = c.before.before in
-    out_fault (got (at-answer p)) (at-tree p).x-1.given.1 c.before.grid_fault-fault.ensures c.if-fault-ne0.true
+    let p = at-tree c.before in
+    out_fault (got (at-answer p)) p.in-Read.is c.grid_fault-fault.ensures c.if-fault-ne0.true
 
 returns-4 : tie.Need-returns-in-Refused
-returns-4 c = out-tree (got (at-refusal c)) c.before.e-1.given.1
+returns-4 c = out-tree (got (at-refusal c)) c.in-Refused.is
 
 returns-5 : tie.Need-returns-else-fault-ne0
 returns-5 c =
-    let p = c.before.before in
-    out-accepted (got (at-answer p)) (at-tree p).x-1.given.1 c.before.grid_fault-fault.ensures c.if-fault-ne0.false
+    let p = at-tree c.before in
+    out-accepted (got (at-answer p)) p.in-Read.is c.grid_fault-fault.ensures c.if-fault-ne0.false
 
 pub read_grid_spec : {M : Type 1} → statement M
 read_grid_spec =
@@ -116,15 +116,15 @@ read_grid_spec =
     (λ c. search rules)
     (λ c. search rules)
     grid-fault-requires
-    (λ c. (keeps (at-answer c.before.before)).blocks)
-    (λ c. (keeps (at-answer c.before.before)).root_links)
-    (λ c. (keeps (at-answer c.before.before)).root_values)
-    (λ c. (keeps (at-answer c.before.before)).upper_links)
-    (λ c. (keeps (at-answer c.before.before)).upper_values)
-    (λ c. (keeps (at-answer c.before.before)).lower_links)
-    (λ c. (keeps (at-answer c.before.before)).lower_values)
-    (λ c. (keeps (at-answer c.before.before)).leaf_values)
-    (λ c. (keeps (at-answer c.before.before)).work)
+    (λ c. (keeps (at-answer (at-tree c.before))).blocks)
+    (λ c. (keeps (at-answer (at-tree c.before))).root_links)
+    (λ c. (keeps (at-answer (at-tree c.before))).root_values)
+    (λ c. (keeps (at-answer (at-tree c.before))).upper_links)
+    (λ c. (keeps (at-answer (at-tree c.before))).upper_values)
+    (λ c. (keeps (at-answer (at-tree c.before))).lower_links)
+    (λ c. (keeps (at-answer (at-tree c.before))).lower_values)
+    (λ c. (keeps (at-answer (at-tree c.before))).leaf_values)
+    (λ c. (keeps (at-answer (at-tree c.before))).work)
     returns-3
     (λ c. (keeps (at-refusal c)).blocks)
     (λ c. (keeps (at-refusal c)).root_links)
@@ -136,13 +136,13 @@ read_grid_spec =
     (λ c. (keeps (at-refusal c)).leaf_values)
     (λ c. (keeps (at-refusal c)).work)
     returns-4
-    (λ c. (keeps (at-answer c.before.before)).blocks)
-    (λ c. (keeps (at-answer c.before.before)).root_links)
-    (λ c. (keeps (at-answer c.before.before)).root_values)
-    (λ c. (keeps (at-answer c.before.before)).upper_links)
-    (λ c. (keeps (at-answer c.before.before)).upper_values)
-    (λ c. (keeps (at-answer c.before.before)).lower_links)
-    (λ c. (keeps (at-answer c.before.before)).lower_values)
-    (λ c. (keeps (at-answer c.before.before)).leaf_values)
-    (λ c. (keeps (at-answer c.before.before)).work)
+    (λ c. (keeps (at-answer (at-tree c.before))).blocks)
+    (λ c. (keeps (at-answer (at-tree c.before))).root_links)
+    (λ c. (keeps (at-answer (at-tree c.before))).root_values)
+    (λ c. (keeps (at-answer (at-tree c.before))).upper_links)
+    (λ c. (keeps (at-answer (at-tree c.before))).upper_values)
+    (λ c. (keeps (at-answer (at-tree c.before))).lower_links)
+    (λ c. (keeps (at-answer (at-tree c.before))).lower_values)
+    (λ c. (keeps (at-answer (at-tree c.before))).leaf_values)
+    (λ c. (keeps (at-answer (at-tree c.before))).work)
     returns-5)

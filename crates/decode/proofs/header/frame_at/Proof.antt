@@ -22,12 +22,12 @@ returns c =
     let m = at_map t in let m₆ = m.before.before.before in let m₃ = m₆.before.before.before in
     let j = at-index-high m in let i = at-index-low j in
     frame_is _ _ c.make_medium.ensures
-    (i32_seen _ _ i.before.before.i32_at.ok i.before.before.i32_at.ensures)
-    (i32_seen _ _ i.before.i32_at-2.ok i.before.i32_at-2.ensures)
-    (i32_seen _ _ i.i32_at-3.ok i.i32_at-3.ensures)
-    (i32_seen _ _ j.before.before.i32_at-4.ok j.before.before.i32_at-4.ensures)
-    (i32_seen _ _ j.before.i32_at-5.ok j.before.i32_at-5.ensures)
-    (i32_seen _ _ j.i32_at-6.ok j.i32_at-6.ensures)
+    (i32_seen _ _ i.before.before.i32_at.type_inv i.before.before.i32_at.ensures)
+    (i32_seen _ _ i.before.i32_at-2.type_inv i.before.i32_at-2.ensures)
+    (i32_seen _ _ i.i32_at-3.type_inv i.i32_at-3.ensures)
+    (i32_seen _ _ j.before.before.i32_at-4.type_inv j.before.before.i32_at-4.ensures)
+    (i32_seen _ _ j.before.i32_at-5.type_inv j.before.i32_at-5.ensures)
+    (i32_seen _ _ j.i32_at-6.type_inv j.i32_at-6.ensures)
     m₃.before.before.f32_at.ensures m₃.before.f32_at-2.ensures m₃.f32_at-3.ensures
     m₆.before.before.f32_at-4.ensures m₆.before.f32_at-5.ensures m₆.f32_at-6.ensures
     m.before.before.f32_at-7.ensures m.before.f32_at-8.ensures m.f32_at-9.ensures

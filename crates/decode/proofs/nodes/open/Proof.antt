@@ -14,17 +14,17 @@ at-start c = c.before.before.before
 abbrev at_count : tie.After-enter → tie.After-count_of-k
 at_count c = c.before.before.before
 
-abbrev at_again : tie.In-Again-2 → tie.After-enter
-at_again c = c.before.before.before.before
+abbrev at_again : tie.In-Again → tie.After-enter
+at_again c = c.before.before.before
 
-abbrev at-stop : tie.In-Stop-2 → tie.After-enter
-at-stop c = c.before.before.before.before
+abbrev at-stop : tie.In-Stop → tie.After-enter
+at-stop c = c.before.before.before
 
-abbrev at-fresh : tie.In-Fresh-2 → tie.After-enter
-at-fresh c = c.before.before.before.before
+abbrev at-fresh : tie.In-Fresh → tie.After-enter
+at-fresh c = c.before.before.before
 
-abbrev at_next : tie.After-mask_at-mask → tie.In-Fresh-2
-at_next c = c.before.before.before.before
+abbrev at_next : tie.After-mask_at-mask → tie.In-Fresh
+at_next c = c.before.before.before
 
 abbrev start : tie.After-enter → tie.Start
 start c = at-start (at_count c)
@@ -34,11 +34,11 @@ small : (c : tie.After-count_of-k) → c.count_of-k.result < 4294967295
 small c = let s = at-start c in omega (arith, number_small s.requires.3 s.args.level, c.count_of-k.ensures)
 
 entering : (c : tie.After-enter) → let s = start c in let a = s.args in
-    Entering a.bytes.now a.source a.level a.st (at_count c).count_of-k.result a.work.now c.enter.new.1.0 c.enter.result
+    Entering a.bytes.now a.source a.level a.st (at_count c).count_of-k.result a.work.now c.enter.new.work c.enter.result
 entering c = record { number = (at_count c).count_of-k.ensures; small = small (at_count c); says = c.enter.ensures }
 
-inside : (c : tie.In-Fresh-2) → (start (at-fresh c)).args.source < 4294967296
-inside c = omega (arith, fresh-whole (entering (at-fresh c)) c.next-1.given.1, (start (at-fresh c)).requires.0)
+inside : (c : tie.In-Fresh) → (start (at-fresh c)).args.source < 4294967296
+inside c = omega (arith, fresh-whole (entering (at-fresh c)) c.in-Fresh.is, (start (at-fresh c)).requires.0)
 
 -- the calls
 enter-requires : tie.Need-enter-requires
@@ -50,23 +50,23 @@ grown-requires c κs = let s = start (at-fresh (at_next c)) in let few = s.requi
 base : tie.Need-overflow_mul-result
 base c =
     let m = c.before in let e = at-fresh (at_next m) in
-    record { fits = base_fits (start e).args.level m.before.entries_of-entries.ensures (small (at_count e)) }
+    record { fits = base_fits (start e).args.level m.entries_of-entries.ensures (small (at_count e)) }
 
 -- the ways out: no place, a node that was read before, the refusal of `enter`, and a new node
 returns : tie.Need-returns-then-places-k
-returns c t is fit = let n = c.before.before in out-full (entering (at-fresh n)) t fit n.next-1.given.1 (omega (arith, is, c.if-places-k.true))
+returns c t is fit = let n = c.before in out-full (entering (at-fresh n)) t fit n.in-Fresh.is (omega (arith, is, c.if-places-k.true))
 
 returns-2 : tie.Need-returns-in-Again
-returns-2 c t is fit = out-again (entering (at_again c.before)) t fit c.before.n-1.given.1
+returns-2 c t is fit = out-again (entering (at_again c)) t fit c.in-Again.is
 
 returns-3 : tie.Need-returns-in-Stop
-returns-3 c t is fit = out-stop (entering (at-stop c.before)) t fit c.before.e-1.given.1
+returns-3 c t is fit = out-stop (entering (at-stop c)) t fit c.in-Stop.is
 
 returns-4 : tie.Need-returns-else-places-k
 returns-4 c t is fit =
-    let m = c.before in let p = m.before.before in let n = at_next m in
-    out-new (entering (at-fresh n)) t fit n.next-1.given.1 (omega (arith, is, p.if-places-k.false))
-    m.mask_at-mask.ensures m.before.entries_of-entries.ensures c.grown-now.ensures
+    let n = at_next c.before in
+    out-new (entering (at-fresh n)) t fit n.in-Fresh.is (omega (arith, is, c.if-places-k.false))
+    c.mask_at-mask.ensures c.entries_of-entries.ensures c.grown-now.ensures
 
 pub open_spec : {M : Type 1} → statement M
 open_spec =
@@ -81,7 +81,7 @@ open_spec =
     (λ c. search rules)
     returns
     (λ c κs. search rules)
-    (λ c κs. inside c.before.before.before)
+    (λ c κs. inside c.before.before)
     grown-requires
     (λ c. omega (arith, small (at_count (at-fresh (at_next c.before)))))
     base

@@ -14,7 +14,7 @@ abbrev at_size : tie.Else-len-start-2 → tie.After-size_of-size
 at_size c = c.before.before
 
 abbrev at-inside : tie.After-meets → tie.Else-len-start-2
-at-inside c = c.before.before
+at-inside c = c.before
 
 abbrev at-free : tie.After-push-arg-1 → tie.Else-meets
 at-free c = c.before.before.before
@@ -36,7 +36,7 @@ met c is = rw (← (at_size (at-inside c)).size_of-size.ensures.0) (sym c.meets.
 
 -- ---- the calls
 meets-requires : tie.Need-meets-requires
-meets-requires c κs = let z = at_size c.before in ((start z).requires.0, omega (arith, z.size_of-size.ensures.1))
+meets-requires c κs = let z = at_size c in ((start z).requires.0, omega (arith, z.size_of-size.ensures.1))
 
 push-requires : tie.Need-push-next-requires
 push-requires c κs =

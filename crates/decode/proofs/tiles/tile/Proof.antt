@@ -5,7 +5,6 @@ use Prim.Native.Nat.{◌+◌, ◌*◌, ◌<◌, ◌≤◌}
 use lib.Ieee.{binary32}
 use lib.ListN.{length}
 use borrow.Author.Rules.{rules}
-use borrow.Author.Tests.{not-true, not-false}
 use Rattle.float.specs.Literal.{zero_literal}
 use Rattle.decode.specs.Inner.Filled.{Tabs, tabs, Kept, NodeOut}
 use Rattle.decode.specs.Inner.Rooted.{RootTabs, root_tabs, RootPut}
@@ -27,28 +26,28 @@ at_value c = c.before.before.before
 abbrev at-put : tie.After-slice_known-then-relative-eq0-2-1 → tie.After-put_root
 at-put c = c.before.before.before.before.before
 
-abbrev at-args : tie.After-node-arg-in-At-5-1 → tie.In-At-2
-at-args c = c.before.before.before.before.before.before.before
+abbrev at-args : tie.After-node-arg-in-At-5-1 → tie.In-At
+at-args c = c.before.before.before.before.before.before
 
-abbrev at-refusal : tie.In-Refused-node-2 → tie.After-node
-at-refusal c = c.before.before.before.before.before.before.before.before.before.before.before.before.before.before
+abbrev at-refusal : tie.In-Refused-node → tie.After-node
+at-refusal c = c.before.before.before.before.before.before.before.before.before.before.before.before.before
 
-abbrev at-node : tie.In-Node-2 → tie.After-node
-at-node c = c.before.before.before.before.before.before.before.before.before.before.before.before.before.before
+abbrev at-node : tie.In-Node → tie.After-node
+at-node c = c.before.before.before.before.before.before.before.before.before.before.before.before.before
 
-abbrev at-k : tie.After-put_root-arg-in-Node-3-1 → tie.In-Node-2
-at-k c = c.before.before.before.before
+abbrev at-k : tie.After-put_root-arg-in-Node-3-1 → tie.In-Node
+at-k c = c.before.before.before
 
 abbrev at-put₂ : tie.After-slice_known-in-Node-2-1 → tie.After-put_root-in-Node
 at-put₂ c = c.before.before.before.before.before
 
-abbrev at_target : tie.In-At-2 → tie.After-child_target
-at_target c = c.before.before
+abbrev at_target : tie.In-At → tie.After-child_target
+at_target c = c.before
 
 abbrev at-word : tie.After-put_root → tie.Then-relative-eq0
 at-word c = at_value c.before.before
 
-abbrev at-to : tie.After-node → tie.In-At-2
+abbrev at-to : tie.After-node → tie.In-At
 at-to c = at-args c.before
 
 abbrev start : tie.Else-not-key_passes → tie.Start
@@ -62,38 +61,38 @@ abbrev lent : tie.Start → Tabs
 lent c = let a = c.args in tabs a.work.now a.ul.now a.uv.now a.ll.now a.lv.now a.leaves.now
 
 abbrev read : tie.After-node → Tabs
-read c = let (_, (_, (_, (_, (work, (ul, (uv, (ll, (lv, (leaves, _)))))))))) = c.node.new in tabs work ul uv ll lv leaves
+read c = let n = c.node.new in tabs n.work n.ul n.uv n.ll n.lv n.leaves
 
 abbrev roots : tie.Start → RootTabs
 roots c = let a = c.args in root_tabs a.blocks.now a.rl.now a.rv.now
 
 abbrev roots-put : tie.After-put_root → RootTabs
-roots-put c = let (blocks, (rl, (rv, _))) = c.put_root.new in root_tabs blocks rl rv
+roots-put c = let n = c.put_root.new in root_tabs n.blocks n.rl n.rv
 
 -- ---- what is known there
 keyed : (c : tie.Else-not-key_passes) → let a = (start c).args in Keyed a.bytes.now a.root a.i (at_key c).u64_at-key.result
-keyed c = record { is = (at_key c).u64_at-key.ensures; passes = sym c.before.key_passes.ensures ∙ c.if-not-key_passes.false }
+keyed c = record { is = (at_key c).u64_at-key.ensures; passes = sym c.key_passes.ensures ∙ c.if-not-key_passes.false }
 
 aimed : (c : tie.After-child_target) → let e = c.before.before.before in let a = (start e).args in
-    Aimed a.bytes.now a.root a.i (at_key e).u64_at-key.result c.before.before.u64_at-relative.result c.child_target.result
+    Aimed a.bytes.now a.root a.i (at_key e).u64_at-key.result c.u64_at-relative.result c.child_target.result
 aimed c = record {
   keyed = keyed c.before.before.before;
-  word = c.before.before.u64_at-relative.ensures;
-  some = c.before.if-relative-eq0.false;
+  word = c.u64_at-relative.ensures;
+  some = c.if-relative-eq0.false;
   aims = c.child_target.ensures;
 }
 
 read_node : (c : tie.After-node) → let s = node-start c in
-    NodeOut 2 s.args.bytes.now (at-to c).to-1.given.0.0 (lent s) s.args.st (read c) c.node.result
+    NodeOut 2 s.args.bytes.now (at-to c).in-At.to (lent s) s.args.st (read c) c.node.result
 read_node c = c.node.ensures
 
 keeps : (c : tie.After-node) → Kept (lent (node-start c)) (read c)
 keeps c =
-    let (_, (_, (_, (_, (work, (ul, (uv, (ll, (lv, (leaves, _)))))))))) = c.node.auto in
-    record { work = work; upper_links = ul; upper_values = uv; lower_links = ll; lower_values = lv; leaf_values = leaves }
+    let n = c.node.auto in
+    record { work = n.work; upper_links = n.ul; upper_values = n.uv; lower_links = n.ll; lower_values = n.lv; leaf_values = n.leaves }
 
 put-value : (c : tie.After-put_root) → let e = (at-word c).before.before in
-    RootPut (start e).args.i (at_key e).u64_at-key.result 0 c.before.f32_at.result (roots (start e)) (roots-put c)
+    RootPut (start e).args.i (at_key e).u64_at-key.result 0 c.f32_at.result (roots (start e)) (roots-put c)
 put-value c = c.put_root.ensures
 
 -- the tile's place in the tables of the roots
@@ -134,32 +133,32 @@ node-requires c κs =
 add-put-root : tie.Need-overflow_add-k
 add-put-root c =
     let k = at-k c in let n = at-node k in
-    omega (arith, node-number (read_node n) k.k-1.given.1)
+    omega (arith, node-number (read_node n) k.in-Node.is)
 
 put-root-requires-2 : tie.Need-put_root-requires-in-Node
 put-root-requires-2 c κs = places (node-start (at-node (at-k c)))
 
 -- ---- the ways out: by the key, with a value, by the target, by the node's reader, and with a node
 returns : tie.Need-returns-then-not-key_passes
-returns c = tile_out_key c.before.before.u64_at-key.ensures (sym c.before.key_passes.ensures ∙ c.if-not-key_passes.true)
+returns c = tile_out_key c.u64_at-key.ensures (sym c.key_passes.ensures ∙ c.if-not-key_passes.true)
 
 returns-2 : tie.Need-returns-then-relative-eq0
 returns-2 c =
     let p = at-put c in let w = at-word p in let e = w.before.before in
-    tile_out_value (keyed e) (start e).requires.6 w.before.u64_at-relative.ensures w.if-relative-eq0.true p.before.f32_at.ensures (put-value p)
+    tile_out_value (keyed e) (start e).requires.6 w.u64_at-relative.ensures w.if-relative-eq0.true p.f32_at.ensures (put-value p)
 
 returns-3 : tie.Need-returns-in-Refused
-returns-3 c = tile_out_off (aimed c.before.before.before) c.before.e-1.given.1
+returns-3 c = tile_out_off (aimed c.before) c.in-Refused.is
 
 returns-4 : tie.Need-returns-in-Refused-node
 returns-4 c =
-    let n = at-refusal c.before in let a = at-to n in
-    tile_out_refused (aimed (at_target a)) a.to-1.given.1 (read_node n) {v = roots (node-start n)} c.before.e-in-Refused-node-1.given.1
+    let n = at-refusal c in let a = at-to n in
+    tile_out_refused (aimed (at_target a)) a.in-At.is (read_node n) {v = roots (node-start n)} c.in-Refused-node.is
 
 returns-5 : tie.Need-returns-in-Node
 returns-5 c =
     let p = at-put₂ c in let k = at-k p.before in let n = at-node k in let a = at-to n in
-    tile_out_child (aimed (at_target a)) a.to-1.given.1 (read_node n) k.k-1.given.1 refl (zero_literal binary32)
+    tile_out_child (aimed (at_target a)) a.in-At.is (read_node n) k.in-Node.is refl (zero_literal binary32)
     p.put_root-in-Node.ensures
 
 pub tile_spec : {M : Type 1} → statement M
@@ -190,12 +189,12 @@ tile_spec =
     add-put-root
     put-root-requires-2
     returns-3
-    (λ c. (keeps (at-refusal c.before)).work)
-    (λ c. (keeps (at-refusal c.before)).upper_links)
-    (λ c. (keeps (at-refusal c.before)).upper_values)
-    (λ c. (keeps (at-refusal c.before)).lower_links)
-    (λ c. (keeps (at-refusal c.before)).lower_values)
-    (λ c. (keeps (at-refusal c.before)).leaf_values)
+    (λ c. (keeps (at-refusal c)).work)
+    (λ c. (keeps (at-refusal c)).upper_links)
+    (λ c. (keeps (at-refusal c)).upper_values)
+    (λ c. (keeps (at-refusal c)).lower_links)
+    (λ c. (keeps (at-refusal c)).lower_values)
+    (λ c. (keeps (at-refusal c)).leaf_values)
     returns-4
     (λ c. search rules)
     (λ c. search rules)

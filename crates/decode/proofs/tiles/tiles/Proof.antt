@@ -27,11 +27,11 @@ at-start c = c.before.before.before.before.before.before.before.before.before
 abbrev at_turn : tie.After-tile-arg-in-loop-i-8-1 invariant-loop decreases-loop → tie.In-loop-i invariant-loop decreases-loop
 at_turn c = c.before.before.before.before.before.before.before.before.before
 
-abbrev at-refusal : tie.In-Stop-2 invariant-loop decreases-loop → tie.After-tile invariant-loop decreases-loop
-at-refusal c = c.before.before.before.before.before.before.before.before.before.before.before.before.before.before.before.before.before.before.before
+abbrev at-refusal : tie.In-Stop invariant-loop decreases-loop → tie.After-tile invariant-loop decreases-loop
+at-refusal c = c.before.before.before.before.before.before.before.before.before.before.before.before.before.before.before.before.before.before
 
-abbrev at-tile : tie.In-Next-2 invariant-loop decreases-loop → tie.After-tile invariant-loop decreases-loop
-at-tile c = c.before.before.before.before.before.before.before.before.before.before.before.before.before.before.before.before.before.before.before
+abbrev at-tile : tie.In-Next invariant-loop decreases-loop → tie.After-tile invariant-loop decreases-loop
+at-tile c = c.before.before.before.before.before.before.before.before.before.before.before.before.before.before.before.before.before.before
 
 abbrev turn : tie.After-tile invariant-loop decreases-loop → tie.In-loop-i invariant-loop decreases-loop
 turn c = at_turn c.before
@@ -52,29 +52,29 @@ roots c = let l = c.loop-i in root_tabs l.blocks l.rl l.rv
 
 abbrev nodes-after : tie.After-tile invariant-loop decreases-loop → Tabs
 nodes-after c =
-    let (_, (_, (_, (_, (work, (_, (_, (_, (ul, (uv, (ll, (lv, (leaves, _))))))))))))) = c.tile.new in
-    tabs work ul uv ll lv leaves
+    let n = c.tile.new in
+    tabs n.work n.ul n.uv n.ll n.lv n.leaves
 
 abbrev roots-after : tie.After-tile invariant-loop decreases-loop → RootTabs
-roots-after c = let (_, (_, (_, (_, (_, (blocks, (rl, (rv, _)))))))) = c.tile.new in root_tabs blocks rl rv
+roots-after c = let n = c.tile.new in root_tabs n.blocks n.rl n.rv
 
 -- ---- what is known there
 tile-keeps : (c : tie.After-tile invariant-loop decreases-loop) → let l = (turn c).before in Kept (all_tables (nodes l) (roots l)) (all_tables (nodes-after c) (roots-after c))
 tile-keeps c =
-    let (_, (_, (_, (_, (work, (blocks, (rl, (rv, (ul, (uv, (ll, (lv, (leaves, _))))))))))))) = c.tile.auto in
+    let n = c.tile.auto in
     record {
-      blocks = blocks;
-      root_links = rl;
-      root_values = rv;
-      upper_links = ul;
-      upper_values = uv;
-      lower_links = ll;
-      lower_values = lv;
-      leaf_values = leaves;
-      work = work;
+      blocks = n.blocks;
+      root_links = n.rl;
+      root_values = n.rv;
+      upper_links = n.ul;
+      upper_values = n.uv;
+      lower_links = n.ll;
+      lower_values = n.lv;
+      leaf_values = n.leaves;
+      work = n.work;
     }
 
-keeps : (c : tie.In-Stop-2 invariant-loop decreases-loop) → let p = at-refusal c in Kept (lent (start (turn p).before)) (all_tables (nodes-after p) (roots-after p))
+keeps : (c : tie.In-Stop invariant-loop decreases-loop) → let p = at-refusal c in Kept (lent (start (turn p).before)) (all_tables (nodes-after p) (roots-after p))
 keeps c = let p = at-refusal c in kept_on (turn p).before.loop-i.invariant.kept (tile-keeps p)
 
 -- ---- the call and the loop
@@ -91,18 +91,18 @@ tile-requires c κs =
     )
 
 add-i : tie.Need-overflow_add-i invariant-loop decreases-loop
-add-i c = let l = turn (at-tile c.before) in omega (arith, l.loop-i-test.true, (start l.before).requires.2)
+add-i c = let l = turn (at-tile c) in omega (arith, l.loop-i-test.true, (start l.before).requires.2)
 
 loop-again : tie.Need-loop-i-preserved invariant-loop decreases-loop
 loop-again c =
-    let p = at-tile c.before in let l = turn p in
-    row_more l.before.loop-i.invariant {u = nodes-after p} {v = roots-after p} p.tile.ensures l.loop-i-test.true c.before.s-1.given.1 (tile-keeps p)
+    let p = at-tile c in let l = turn p in
+    row_more l.before.loop-i.invariant {u = nodes-after p} {v = roots-after p} p.tile.ensures l.loop-i-test.true c.in-Next.is (tile-keeps p)
 
 -- ---- the ways out: by a tile, and with all tiles read
 returns : tie.Need-returns-in-Stop invariant-loop decreases-loop
 returns c =
-    let p = at-refusal c.before in let l = turn p in
-    tiles_stop l.before.loop-i.invariant {u = nodes-after p} {v = roots-after p} p.tile.ensures l.loop-i-test.true c.before.e-1.given.1
+    let p = at-refusal c in let l = turn p in
+    tiles_stop l.before.loop-i.invariant {u = nodes-after p} {v = roots-after p} p.tile.ensures l.loop-i-test.true c.in-Stop.is
 
 returns-2 : tie.Need-returns invariant-loop decreases-loop
 returns-2 c = tiles_end c.before.loop-i.invariant c.loop-i-test.false
@@ -116,15 +116,15 @@ tiles_spec =
     (λ c. row_begins (at-start c).requires.6)
     tile-requires
     (λ c. search rules)
-    (λ c. (keeps c.before).work)
-    (λ c. (keeps c.before).blocks)
-    (λ c. (keeps c.before).root_links)
-    (λ c. (keeps c.before).root_values)
-    (λ c. (keeps c.before).upper_links)
-    (λ c. (keeps c.before).upper_values)
-    (λ c. (keeps c.before).lower_links)
-    (λ c. (keeps c.before).lower_values)
-    (λ c. (keeps c.before).leaf_values)
+    (λ c. (keeps c).work)
+    (λ c. (keeps c).blocks)
+    (λ c. (keeps c).root_links)
+    (λ c. (keeps c).root_values)
+    (λ c. (keeps c).upper_links)
+    (λ c. (keeps c).upper_values)
+    (λ c. (keeps c).lower_links)
+    (λ c. (keeps c).lower_values)
+    (λ c. (keeps c).leaf_values)
     returns
     (λ c. search rules)
     add-i

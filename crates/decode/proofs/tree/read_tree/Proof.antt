@@ -19,26 +19,26 @@ at-start c = c.before.before.before.before.before.before.before.before.before.be
 abbrev at-root : tie.After-begin → tie.Else-n-offset
 at-root c = c.before.before.before
 
-abbrev at-refusal : tie.In-Refused-2 → tie.After-begin
-at-refusal c = c.before.before.before.before
+abbrev at-refusal : tie.In-Refused → tie.After-begin
+at-refusal c = c.before.before.before
 
-abbrev at-claim : tie.In-Done-2 → tie.After-begin
-at-claim c = c.before.before.before.before
+abbrev at-claim : tie.In-Done → tie.After-begin
+at-claim c = c.before.before.before
 
-abbrev at-spans : tie.Else-rl-count → tie.In-Done-2
-at-spans c = c.before.before
+abbrev at-spans : tie.Else-rl-count → tie.In-Done
+at-spans c = c.before
 
 abbrev at_places : tie.After-tiles-arg-in-Done-8-1 → tie.Else-rl-count
 at_places c = c.before.before.before.before.before.before.before.before.before
 
-abbrev at-stop : tie.In-Stop-2 → tie.After-tiles
-at-stop c = c.before.before.before.before.before.before.before.before.before.before.before.before.before.before.before.before.before.before.before
+abbrev at-stop : tie.In-Stop → tie.After-tiles
+at-stop c = c.before.before.before.before.before.before.before.before.before.before.before.before.before.before.before.before.before.before
 
-abbrev at-nodes : tie.In-Next-2 → tie.After-tiles
-at-nodes c = c.before.before.before.before.before.before.before.before.before.before.before.before.before.before.before.before.before.before.before
+abbrev at-nodes : tie.In-Next → tie.After-tiles
+at-nodes c = c.before.before.before.before.before.before.before.before.before.before.before.before.before.before.before.before.before.before
 
-abbrev at-counts : tie.After-counts_pass → tie.In-Next-2
-at-counts c = c.before.before
+abbrev at-counts : tie.After-counts_pass → tie.In-Next
+at-counts c = c.before
 
 abbrev at_words : tie.After-u64_at-offset → tie.Else-work-lt4
 at_words c = c.before
@@ -66,15 +66,15 @@ abbrev roots : tie.Start → RootTabs
 roots c = let a = c.args in root_tabs a.blocks.now a.rl.now a.rv.now
 
 abbrev words : tie.After-begin → List ℕ
-words c = c.begin.new.1.0
+words c = c.begin.new.work
 
 abbrev nodes-after : tie.After-tiles → Tabs
 nodes-after c =
-    let (_, (_, (_, (_, (work, (_, (_, (_, (ul, (uv, (ll, (lv, (leaves, _))))))))))))) = c.tiles.new in
-    tabs work ul uv ll lv leaves
+    let n = c.tiles.new in
+    tabs n.work n.ul n.uv n.ll n.lv n.leaves
 
 abbrev roots-after : tie.After-tiles → RootTabs
-roots-after c = let (_, (_, (_, (_, (_, (blocks, (rl, (rv, _)))))))) = c.tiles.new in root_tabs blocks rl rv
+roots-after c = let n = c.tiles.new in root_tabs n.blocks n.rl n.rv
 
 -- ---- what is known there
 asked : (c : tie.After-begin) → let s = start c in
@@ -102,25 +102,25 @@ tiled c =
       answer = _;
       spans = _;
       asked = asked (begun c);
-      done = (at-spans e).spans-1.given.1;
+      done = (at-spans e).in-Done.is;
       few = e.if-rl-count.false;
       out = c.tiles.ensures;
     }
 
 keeps : (c : tie.After-tiles) → let s = start (begun c) in Kept (all_tables (nodes s) (roots s)) (all_tables (nodes-after c) (roots-after c))
 keeps c =
-    let (_, (_, (_, (_, (work, (blocks, (rl, (rv, (ul, (uv, (ll, (lv, (leaves, _))))))))))))) = c.tiles.auto in
+    let n = c.tiles.auto in
     let p = begun c in let s = start p in
-    kept_on (words-kept (nodes s) (roots s) (words p) p.begin.kept.1.0) (record {
-      blocks = blocks;
-      root_links = rl;
-      root_values = rv;
-      upper_links = ul;
-      upper_values = uv;
-      lower_links = ll;
-      lower_values = lv;
-      leaf_values = leaves;
-      work = work;
+    kept_on (words-kept (nodes s) (roots s) (words p) p.begin.auto.work) (record {
+      blocks = n.blocks;
+      root_links = n.rl;
+      root_values = n.rv;
+      upper_links = n.ul;
+      upper_values = n.uv;
+      lower_links = n.ll;
+      lower_values = n.lv;
+      leaf_values = n.leaves;
+      work = n.work;
     })
 
 -- ---- the calls
@@ -142,11 +142,11 @@ tiles-requires c κs =
     let (short, blocks, links, upper, lower) = (start p).requires in (
       short,
       omega (arith, (at-root p).if-n-offset.false, short),
-      omega (arith, p.before.before.u32_at-count.ok),
+      omega (arith, p.before.before.u32_at-count.type_inv),
       blocks,
       e.if-rl-count.false,
       links,
-      tree-fit (asked p) (at-spans e).spans-1.given.1 upper lower,
+      tree-fit (asked p) (at-spans e).in-Done.is upper lower,
     )
 
 -- ---- the ways out: by three tests, by the places of the tiles, with the tree, by `begin`, by the tiles, and by the counts
@@ -160,23 +160,23 @@ returns-3 : tie.Need-returns-then-n-offset
 returns-3 c = let w = at_words c.before in out-past _ (at_length w).if-n-lt736.false w.if-work-lt4.false c.before.u64_at-offset.ensures c.if-n-offset.true
 
 returns-4 : tie.Need-returns-then-rl-count
-returns-4 c = let s = c.before.before in out-many (asked (at-claim s)) s.spans-1.given.1 c.if-rl-count.true
+returns-4 c = let s = c.before in out-many (asked (at-claim s)) s.in-Done.is c.if-rl-count.true
 
 returns-5 : tie.Need-returns-then-counts_pass
 returns-5 c =
     let n = at-counts c.before in
-    out-read (tiled (at-nodes n)) n.nodes-1.given.1 c.before.counts_pass.ensures c.if-counts_pass.true
+    out-read (tiled (at-nodes n)) n.in-Next.is c.counts_pass.ensures c.if-counts_pass.true
 
 returns-6 : tie.Need-returns-in-Refused
-returns-6 c = out-root (asked (at-refusal c.before)) c.before.e-1.given.1
+returns-6 c = out-root (asked (at-refusal c)) c.in-Refused.is
 
 returns-7 : tie.Need-returns-in-Stop
-returns-7 c = out-tiles (tiled (at-stop c.before)) c.before.e-in-Stop-1.given.1
+returns-7 c = out-tiles (tiled (at-stop c)) c.in-Stop.is
 
 returns-8 : tie.Need-returns-else-counts_pass
 returns-8 c =
     let n = at-counts c.before in
-    out-counts (tiled (at-nodes n)) n.nodes-1.given.1 c.before.counts_pass.ensures c.if-counts_pass.false
+    out-counts (tiled (at-nodes n)) n.in-Next.is c.counts_pass.ensures c.if-counts_pass.false
 
 pub read_tree_spec : {M : Type 1} → statement M
 read_tree_spec =
@@ -197,7 +197,7 @@ read_tree_spec =
     (λ c κs. omega arith)
     (λ c. search rules)
     (λ c. search rules)
-    (λ c. (at-claim c.before.before).begin.auto.1.0)
+    (λ c. c.begin.auto.work)
     returns-4
     tiles-requires
     (λ c. search rules)
@@ -213,17 +213,17 @@ read_tree_spec =
     (λ c. (keeps (at-nodes (at-counts c.before))).lower_values)
     (λ c. (keeps (at-nodes (at-counts c.before))).leaf_values)
     returns-5
-    (λ c. (at-refusal c.before).begin.auto.1.0)
+    (λ c. c.begin.auto.work)
     returns-6
-    (λ c. (keeps (at-stop c.before)).work)
-    (λ c. (keeps (at-stop c.before)).blocks)
-    (λ c. (keeps (at-stop c.before)).root_links)
-    (λ c. (keeps (at-stop c.before)).root_values)
-    (λ c. (keeps (at-stop c.before)).upper_links)
-    (λ c. (keeps (at-stop c.before)).upper_values)
-    (λ c. (keeps (at-stop c.before)).lower_links)
-    (λ c. (keeps (at-stop c.before)).lower_values)
-    (λ c. (keeps (at-stop c.before)).leaf_values)
+    (λ c. (keeps (at-stop c)).work)
+    (λ c. (keeps (at-stop c)).blocks)
+    (λ c. (keeps (at-stop c)).root_links)
+    (λ c. (keeps (at-stop c)).root_values)
+    (λ c. (keeps (at-stop c)).upper_links)
+    (λ c. (keeps (at-stop c)).upper_values)
+    (λ c. (keeps (at-stop c)).lower_links)
+    (λ c. (keeps (at-stop c)).lower_values)
+    (λ c. (keeps (at-stop c)).leaf_values)
     returns-7
     (λ c. (keeps (at-nodes (at-counts c.before))).work)
     (λ c. (keeps (at-nodes (at-counts c.before))).blocks)

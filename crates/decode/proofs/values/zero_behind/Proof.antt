@@ -31,7 +31,7 @@ at-start c = c.before.before.before.before
 returns : tie.Need-returns-then-leaves-values
 returns c =
     let z = c.before.before in let a = (at-start z).args in
-    part-zeroed (512 * a.leaves) a.values.now z.zero_f32.new.0 +0 (omega arith) z.zero_f32.ensures
+    part-zeroed (512 * a.leaves) a.values.now z.zero_f32.new.values +0 (omega arith) z.zero_f32.ensures
 
 returns-2 : tie.Need-returns-else-leaves-values
 returns-2 c = let a = c.before.before.args in none-zeroed (512 * a.leaves) a.values.now +0 (omega arith)
