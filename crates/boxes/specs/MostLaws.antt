@@ -117,3 +117,27 @@ module _ {f : ℕ → ℕ → ℕ → Float} {x0 x1 y0 y1 z0 z1 : ℕ} where
   join_z {k} h l m n e =
       subst (λ (v : Float). Most f (Inside x0 x1 y0 y1 z0 z1) v) (sym e)
       (most_join (λ x y z s. omega arith) (λ x y z s. omega arith) (λ x y z s. side z k (λ h. omega arith) (λ h. omega arith)) m n)
+
+  -- a loop ends where its place is no more below the end
+  pub till_x : {k : ℕ} {r : Float} → k ≤ x1 → x1 ≤ k → Most f (Inside x0 k y0 y1 z0 z1) r → Most f (Inside x0 x1 y0 y1 z0 z1) r
+  till_x {k} h l = most_set (λ x y z s. omega arith) (λ x y z s. omega arith)
+
+  pub till_y : {k : ℕ} {r : Float} → k ≤ y1 → y1 ≤ k → Most f (Inside x0 x1 y0 k z0 z1) r → Most f (Inside x0 x1 y0 y1 z0 z1) r
+  till_y {k} h l = most_set (λ x y z s. omega arith) (λ x y z s. omega arith)
+
+  pub till_z : {k : ℕ} {r : Float} → k ≤ z1 → z1 ≤ k → Most f (Inside x0 x1 y0 y1 z0 k) r → Most f (Inside x0 x1 y0 y1 z0 z1) r
+  till_z {k} h l = most_set (λ x y z s. omega arith) (λ x y z s. omega arith)
+
+  -- a box with a place in it, on which f is v
+  pub flat : x0 < x1 → y0 < y1 → z0 < z1 → (v : Float) → ((x y z : ℕ) → Inside x0 x1 y0 y1 z0 z1 x y z → f x y z ≡ v)
+      → Most f (Inside x0 x1 y0 y1 z0 z1) (greater +0 v)
+  flat a b c v e = most_flat v e x0 y0 z0 (low_corner a b c)
+
+-- one place more along a row
+pub step_z : {f : ℕ → ℕ → ℕ → Float} (x y z0 z : ℕ) {r t : Float} → z0 ≤ z → Most f (Inside x (x + 1) y (y + 1) z0 z) r → t ≡ greater r (f x y z)
+    → Most f (Inside x (x + 1) y (y + 1) z0 (z + 1)) t
+step_z {f} x y z0 z {r} h m e =
+    join_z h (omega arith) m
+    (flat (omega arith) (omega arith) (omega arith) (f x y z)
+    (λ a b c s. let i : a ≡ x = omega arith in let j : b ≡ y = omega arith in let k : c ≡ z = omega arith in cc))
+    (e ∙ sym (zero_beside (up_plain r (most_up m)) (f x y z)))

@@ -4,8 +4,7 @@ ghost use Rattle.std.specs.Prelude.{◌≡◌, ℕ, ◌+◌, ◌-◌, ◌*◌, �
 ghost use Rattle.std.specs.Float.Ieee.{lt};
 ghost use Rattle.float.specs.Zero.{+0};
 ghost use Rattle.boxes.specs.Boxes.{greater as greater_s};
-ghost use Rattle.boxes.specs.Most.{Joined};
-ghost use Rattle.boxes.specs.Columns.{Eight, Columns};
+ghost use Rattle.boxes.specs.Most.{Most, Joined, Inside};
 ghost use Rattle.boxes.specs.RangeMax.{Within, Full, Cut, InCell, leaf_read, lower_read, upper_read, LowerIn, UpperIn};
 ghost use Rattle.walk.specs.Walk.{Price, uppers_only, lowers_only, leaves_only};
 ghost use Rattle.walk.specs.Counts.{AllIn, More, lower_count, upper_count};
@@ -46,68 +45,50 @@ pub(crate) fn cell_end(at: usize, end: usize, side: usize) -> usize
     if e < end { e } else { end }
 }
 
-// ---- leaf k: its values stand in rows of eight along z. Each place of a row has a maximum of its own, so that none waits for the one beside it
-// and the compiler takes a row in two steps; those of the box's places are joined at the end. A part has a place on each axis, so its loops test
-// their end last.
+// ---- leaf k: its values stand row by row, and a row along z is a run of the table
 
-fn join_row(leaf_values: &[f32], k: usize, x: usize, y: usize, maxima: &mut [f32; 8])
-    requires { (512 * k + 512 ≤ length leaf_values.now) × Eight maxima.old }
-    ensures { Columns (leaf_read leaf_values.now k) x (x + 1) y (y + 1) maxima.old maxima.new }
+fn leaf_row(leaf_values: &[f32], k: usize, x: usize, y: usize, z: Span) -> f32
+    requires { (512 * k + 512 ≤ length leaf_values.now) × (z.lo < z.hi) × InCell 8 z }
+    ensures { Most (leaf_read leaf_values.now k) (Inside x (x + 1) y (y + 1) z.lo z.hi) result }
 {
-    let start = 512 * k + table_index(x % 8, y % 8, 0, 8);
-    let mut i: usize = 0;
-    while i < 8 {
-        maxima[i] = greater(maxima[i], leaf_values[start + i]);
+    let lo = z.lo;
+    let start = 512 * k + table_index(x % 8, y % 8, lo % 8, 8);
+    let end = start + (z.hi - lo);
+    let mut maximum = 0.0f32;
+    let mut i = start;
+    while i < end {
+        maximum = greater(maximum, leaf_values[i]);
         i += 1;
     }
+    maximum
 }
 
-fn join_plane(leaf_values: &[f32], k: usize, x: usize, y: Span, maxima: &mut [f32; 8])
-    requires { (512 * k + 512 ≤ length leaf_values.now) × (y.lo < y.hi) × Eight maxima.old }
-    ensures { Columns (leaf_read leaf_values.now k) x (x + 1) y.lo y.hi maxima.old maxima.new }
+fn leaf_plane(leaf_values: &[f32], k: usize, x: usize, y: Span, z: Span) -> f32
+    requires { (512 * k + 512 ≤ length leaf_values.now) × (y.lo < y.hi) × (z.lo < z.hi) × InCell 8 z }
+    ensures { Most (leaf_read leaf_values.now k) (Inside x (x + 1) y.lo y.hi z.lo z.hi) result }
 {
     let end = y.hi;
+    let mut maximum = 0.0f32;
     let mut at = y.lo;
-    loop {
-        join_row(leaf_values, k, x, at, maxima);
+    while at < end {
+        maximum = greater(maximum, leaf_row(leaf_values, k, x, at, z));
         at += 1;
-        if at >= end {
-            return;
-        }
     }
+    maximum
 }
 
-fn join_planes(leaf_values: &[f32], k: usize, x: Span, y: Span, maxima: &mut [f32; 8])
-    requires { (512 * k + 512 ≤ length leaf_values.now) × (x.lo < x.hi) × (y.lo < y.hi) × Eight maxima.old }
-    ensures { Columns (leaf_read leaf_values.now k) x.lo x.hi y.lo y.hi maxima.old maxima.new }
+pub(crate) fn leaf_max(leaf_values: &[f32], k: usize, x: Span, y: Span, z: Span) -> f32
+    requires { (512 * k + 512 ≤ length leaf_values.now) × Full x y z × InCell 8 z }
+    ensures { Most (leaf_read leaf_values.now k) (Within x y z) result }
 {
     let end = x.hi;
+    let mut maximum = 0.0f32;
     let mut at = x.lo;
-    loop {
-        join_plane(leaf_values, k, at, y, maxima);
+    while at < end {
+        maximum = greater(maximum, leaf_plane(leaf_values, k, at, y, z));
         at += 1;
-        if at >= end {
-            return;
-        }
     }
-}
-
-fn leaf_max(leaf_values: &[f32], k: usize, x: Span, y: Span, z: Span, maximum: f32) -> f32
-    requires { (512 * k + 512 ≤ length leaf_values.now) × Full x y z × (lt maximum +0 ≡ false) }
-    ensures { Joined maximum (leaf_read leaf_values.now k) (Within x y z) result }
-{
-    let mut maxima = [0.0f32; 8];
-    join_planes(leaf_values, k, x, y, &mut maxima);
-    let end = z.hi;
-    let mut held = maximum;
-    let mut at = z.lo;
-    loop {
-        held = greater(held, maxima[at % 8]);
-        at += 1;
-        if at >= end {
-            return held;
-        }
-    }
+    maximum
 }
 
 // ---- counts. Sums that nobody wants are not made, and what is read is counted by the walk that reads it.
@@ -163,7 +144,7 @@ fn lower_cell(
     match entry_of(lower_links[i], lower_values[i]) {
         Entry::Child(j) => {
             tally_values(counting, counts, x, y, z);
-            leaf_max(leaf_values, j as usize, x, y, z, maximum)
+            greater(maximum, leaf_max(leaf_values, j as usize, x, y, z))
         }
         Entry::Tile(v) => greater(maximum, v),
     }

@@ -63,7 +63,7 @@ loop-holds : tie.Need-loop-j-init invariant-loop decreases-loop
 loop-holds c =
     let b = (begin c).args in (
       sym (ap (λ (k : ℕ). b.start + k) (zero-mul b.nx) ∙ add-zero b.start),
-      filled_none (step (grid (begin c)) b.xs b.t11 b.z b.nx) (take b.start b.majorants.now) b.ny b.start b.majorants.now refl,
+      filled_none (step (grid (begin c)) b.xs b.ys b.z b.nx) (take b.start b.majorants.now) b.ny b.start b.majorants.now refl,
     )
 
 returns : tie.Need-returns-then-fault-ne0 invariant-loop decreases-loop

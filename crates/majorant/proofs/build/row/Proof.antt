@@ -54,7 +54,7 @@ loop-holds : tie.Need-loop-i-init invariant-loop decreases-loop
 loop-holds c =
     let b = (begin c).args in
     let e : b.start ≡ b.start + 0 = omega arith in
-    filled_none (step (grid (begin c)) b.t10 b.y b.z) (take b.start b.majorants.now) b.n (b.start + 0) b.majorants.now
+    filled_none (step (grid (begin c)) b.xs b.y b.z) (take b.start b.majorants.now) b.n (b.start + 0) b.majorants.now
     (ap (λ (k : ℕ). take k b.majorants.now) e)
 
 returns : tie.Need-returns-then-f-ne0 invariant-loop decreases-loop

@@ -65,7 +65,7 @@ loop-holds : tie.Need-loop-k-init invariant-loop decreases-loop
 loop-holds c =
     let b = (begin c).args in (
       sym (zero-mul (b.ny * b.nx)),
-      filled_none (step (grid (begin c)) b.xs b.ys b.t12 b.nx b.ny) (take 0 b.majorants.now) b.nz 0 b.majorants.now refl,
+      filled_none (step (grid (begin c)) b.xs b.ys b.zs b.nx b.ny) (take 0 b.majorants.now) b.nz 0 b.majorants.now refl,
     )
 
 returns : tie.Need-returns-then-fault-ne0 invariant-loop decreases-loop

@@ -24,8 +24,8 @@ at-tally c = c.before.before.before.before
 abbrev at-index : tie.After-entry_of → tie.After-table_index
 at-index c = c.before.before.before
 
-abbrev at-child : tie.After-tally_values → tie.In-Child-2
-at-child c = c.before.before.before
+abbrev at-child : tie.After-tally_values → tie.In-Child
+at-child c = c.before.before
 
 abbrev start : tie.After-entry_of → tie.Start
 start c = begin (at-tally (at-index c))
@@ -79,31 +79,32 @@ counted c p q = lower_entry_lem p (links c) (values c) c.args.k c.requires.1 c.r
 leaf-max-requires : tie.Need-leaf_max-requires
 leaf-max-requires c κs =
     let m = at-child c in
-    let d = m.before.before in
+    let d = m.before in
     let b = start d in
-    let l = child_link (links b) (values b) (slot b) (entry d ∙ m.j-1.given.1) in
+    let l = child_link (links b) (values b) (slot b) (entry d ∙ m.in-Child.is) in
     let h = b.requires.0.linked (slot b) in
-    (omega arith, b.requires.1, b.requires.3)
+    (omega arith, b.requires.1, b.requires.2.2)
 
 returns : tie.Need-returns-in-Child
 returns c =
-    let d = c.before in
+    let d = c.before.before in
     let m = at-child d in
-    let e = m.before.before in
+    let e = m.before in
     let b = start e in
-    let q = entry e ∙ m.j-1.given.1 in (
-      cell_child (below b) b.args.x b.args.y b.args.z (same b) q c.leaf_max.ensures,
+    let q = entry e ∙ m.in-Child.is in (
+      cell_child (below b) b.args.x b.args.y b.args.z (same b) q
+          (record { part = c.leaf_max.result; most = c.leaf_max.ensures; is = c.greater.ensures }),
       λ w. equal refl refl (omega (arith, counted b lowers_only q)) (omega (arith, counted b leaves_only q))
           (and ((at-tally (at-index e)).tally.ensures w) (d.tally_values.ensures w)),
     )
 
 returns-2 : tie.Need-returns-in-Tile
 returns-2 c =
-    let m = c.before.before in
-    let e = m.before.before in
+    let m = c.before in
+    let e = m.before in
     let b = start e in
-    let q = entry e ∙ m.v-1.given.1 in (
-      cell_tile (below b) b.args.x b.args.y b.args.z (same b) b.requires.1 q b.requires.3 c.greater.ensures,
+    let q = entry e ∙ m.in-Tile.is in (
+      cell_tile (below b) b.args.x b.args.y b.args.z (same b) b.requires.1 q b.requires.3 c.greater-in-Tile.ensures,
       λ w. equal refl refl (counted b lowers_only q) (counted b leaves_only q) ((at-tally (at-index e)).tally.ensures w),
     )
 
@@ -121,9 +122,10 @@ lower_cell_spec =
     (λ c. (slot-in c.before.before).1)
     (λ c κs. search rules)
     (λ c. search rules)
-    (λ c κs. let m = c.before.before in let b = start m.before.before in (b.requires.1, b.requires.2))
+    (λ c κs. let m = c.before in let b = start m.before in (b.requires.1, b.requires.2))
     (λ c. omega arith)
     leaf-max-requires
+    (λ c κs. search rules)
     (λ c. search rules)
     (λ c κs. search rules)
     returns

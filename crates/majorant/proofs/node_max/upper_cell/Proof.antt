@@ -23,8 +23,8 @@ at-tally c = c.before.before.before.before
 abbrev at-index : tie.After-entry_of → tie.After-table_index
 at-index c = c.before.before.before
 
-abbrev at-child : tie.After-lower_max-arg-1 → tie.In-Child-2
-at-child c = c.before.before
+abbrev at-child : tie.After-lower_max-arg-1 → tie.In-Child
+at-child c = c.before
 
 abbrev start : tie.After-entry_of → tie.Start
 start c = begin (at-tally (at-index c))
@@ -79,31 +79,31 @@ counted c p q = let a = c.args in upper_entry_lem p (links c) (values c) a.lower
 lower-max-requires : tie.Need-lower_max-requires
 lower-max-requires c κs =
     let m = at-child c in
-    let d = m.before.before in
+    let d = m.before in
     let b = start d in
     let p = b.requires in
-    let l = child_link (links b) (values b) (slot b) (entry d ∙ m.j-1.given.1) in
+    let l = child_link (links b) (values b) (slot b) (entry d ∙ m.in-Child.is) in
     let h = p.0.tables.upper_linked (slot b) in
     (record { room = omega arith; pair = p.0.tables.lower; linked = p.0.tables.lower_linked }, p.1, p.2, p.3)
 
 returns : tie.Need-returns-in-Child
 returns c =
     let m = at-child c.before in
-    let e = m.before.before in
+    let e = m.before in
     let b = start e in
     let a = b.args in
-    let q = entry e ∙ m.j-1.given.1 in (
+    let q = entry e ∙ m.in-Child.is in (
       cell_child (below b) a.x a.y a.z (same b) q c.lower_max.ensures.0,
-      λ w. equal refl (omega (arith, counted b uppers_only q, no_uppers a.lower_links.now a.lower_values.now m.j-1.given.0.0 a.x a.y a.z))
+      λ w. equal refl (omega (arith, counted b uppers_only q, no_uppers a.lower_links.now a.lower_values.now m.in-Child.j a.x a.y a.z))
           (counted b lowers_only q) (counted b leaves_only q) (and ((at-tally (at-index e)).tally.ensures w) (c.lower_max.ensures.1 w)),
     )
 
 returns-2 : tie.Need-returns-in-Tile
 returns-2 c =
-    let m = c.before.before in
-    let e = m.before.before in
+    let m = c.before in
+    let e = m.before in
     let b = start e in
-    let q = entry e ∙ m.v-1.given.1 in (
+    let q = entry e ∙ m.in-Tile.is in (
       cell_tile (below b) b.args.x b.args.y b.args.z (same b) b.requires.1 q b.requires.3 c.greater.ensures,
       λ w. equal refl (counted b uppers_only q) (counted b lowers_only q) (counted b leaves_only q) ((at-tally (at-index e)).tally.ensures w),
     )
