@@ -5,7 +5,7 @@ use mathlib.Core.List.{List}
 use Prim.Native.Nat.{ℕ, zero, suc}
 use native.Mathlib.Omega.{arith}
 use Rattle.refusals.specs.Results.{Result, ok, refused, bind}
-use Rattle.refusals.specs.Faults.{◌then◌, passing}
+use Rattle.refusals.specs.Faults.{passing}
 use Rattle.refusals.specs.FaultLaws.{then_zero}
 use Rattle.refusals.specs.FaultSteps.{then_next, then_stop, passing_stop, passing_on}
 use Rattle.sparse_grid.specs.Validate.{density_fault}

@@ -1,6 +1,6 @@
 -- What the contracts of the reader of a whole grid say: the used parts of the tables are the grid, and its faults are the definition's.
 use Rattle.std.specs.Prelude.{ℕ, ◌+◌, ◌*◌, ◌≤◌, ◌<◌, ◌≡◌, Bool, true, false, List, [], ℤ, length, take, replicate, Float}
-use Rattle.refusals.specs.Results.{Result, ok, refused}
+use Rattle.refusals.specs.Results.{Result, refused}
 use Rattle.refusals.specs.Faults.{◌then◌}
 use Rattle.layout.specs.Bytes.{f32_at}
 use Rattle.sparse_grid.specs.Tables.{grid_of}

@@ -1,5 +1,5 @@
 -- Runs of values that are put into a table, and the next child of a mask: what the contracts of the node reader's loops say.
-use Rattle.std.specs.Prelude.{ℕ, zero, suc, ◌+◌, ◌-◌, ◌*◌, ◌<◌, ◌≤◌, ◌≡◌, List, ◌++◌, length, set, take, replicate, Float}
+use Rattle.std.specs.Prelude.{ℕ, ◌+◌, ◌-◌, ◌*◌, ◌<◌, ◌≤◌, ◌≡◌, List, ◌++◌, length, set, take, replicate, Float}
 use Rattle.float.specs.Zero.{+0}
 use Rattle.layout.specs.Bytes.{f32_at, mask_bit}
 use Rattle.nanovdb.specs.Nodes.{by_level, table_of}
