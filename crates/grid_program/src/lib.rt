@@ -1,11 +1,22 @@
 // What the programs that read one grid share: standard input is read to its end, and a text of the grid is written. One byte more than a text
 // takes is read, so that a longer input is noticed.
 #![tactic(auto)]
-ghost use Rattle.std.specs.Prelude.{◌≤◌, length};
+
+ghost use Rattle.std.specs.Prelude.{◌≡◌, ◌≤◌, length, take, OnOk, IfSome};
+ghost use Rattle.std.specs.Io.KnownBytes.{Appends};
+ghost use Rattle.grid_program.specs.Texts.{text_of};
+
+use std::alloc::Global;
+use std::io;
+use std::io::{Read, Write};
+
+// How many bytes of an input are read.
+const READ: u64 = 32769;
 
 // Either text of the bytes, at the front of `out`.
-fn put_text(bytes: &[u8], out: &mut [u8], classes: bool) -> usize
-    ensures { result ≤ length out.new }
+fn put_text(bytes: &[u8], out: &mut [u8; 65536], classes: bool) -> usize
+    ensures within { result ≤ length out.new }
+    ensures text { take result out.new ≡ text_of classes bytes.now }
 {
     if classes {
         return report::class_report(bytes, out);
@@ -13,11 +24,24 @@ fn put_text(bytes: &[u8], out: &mut [u8], classes: bool) -> usize
     report::report(bytes, out)
 }
 
+// Writes either text of a grid that is read to its end.
+pub fn write_text<R: Read + Drop, W: Write>(
+    input: R,
+    output: &mut W,
+    alloc: Global,
+    classes: bool,
+) -> io::Result<()>
+    ensures { OnOk result (IfSome (R.remaining input)
+        (λ bytes. Appends (W.contents output.old) (W.contents output.new) (text_of classes bytes))) }
+{
+    let mut bytes = Vec::new(alloc);
+    input.take(READ).read_to_end(&mut bytes)?;
+    let mut out = [0u8; 65536];
+    let n = put_text(&bytes, &mut out, classes);
+    output.write_all(&out[..n])
+}
+
 // Prints the report of the grid on standard input, or its classes.
-pub fn print(classes: bool) {
-    let mut input = [0u8; 32769];
-    let n = io::read_full(libc::STDIN_FILENO, &mut input);
-    let mut out = io::large_buffer();
-    let r = put_text(&input[..n], &mut out, classes);
-    io::write_all(libc::STDOUT_FILENO, &out[..r]);
+pub fn print(rt: &(impl Input + Print), alloc: Global, classes: bool) -> io::Result<()> {
+    write_text(rt.reader(), &mut io::writer(rt), alloc, classes)
 }

@@ -1,5 +1,8 @@
 // Reads a grid from standard input, to its end, and writes what it holds or the number of its refusal.
 #![tactic(auto)]
-fn main() {
-    grid_program::print(false);
+
+use std::io;
+
+fn main(rt: HostRuntime) -> io::Result<()> {
+    grid_program::print(&rt, rt.alloc(), false)
 }

@@ -2,12 +2,15 @@
 // Standard input is read once, to its end. No contract can say what it holds; what is read from the list is what stands there.
 #![tactic(auto)]
 
-ghost use Rattle.std.specs.Prelude.{◌≡◌, ◌≤◌, ◌++◌, min, length, take, drop};
+ghost use Rattle.std.specs.Prelude.{◌≡◌, ◌*◌, ◌%◌, ◌≤◌, ◌++◌, min, length, take, drop, set, OnOk, IfOk, IfSome};
+ghost use Rattle.std.specs.Fmt.{decimal};
+ghost use Rattle.std.specs.Io.KnownBytes.{Appends};
 ghost use Rattle.layout.specs.Bytes.{u32_at, i32_at, f32_at};
+ghost use Rattle.replay.specs.Filled.{filled};
 
 use std::alloc::Global;
 use std::io;
-use std::io::Read;
+use std::io::{Read, Write};
 
 // How many cases a list may have.
 const MOST: u32 = 4096;
@@ -18,10 +21,12 @@ pub struct Listing<'a> {
     pub rest: &'a [u8],
 }
 
-// The bytes of standard input, to its end.
-pub fn read_list(rt: &impl Input, alloc: Global) -> io::Result<Vec<u8>> {
+// All bytes of an input.
+pub fn read_list<R: Read + Drop>(mut input: R, alloc: Global) -> io::Result<Vec<u8>>
+    ensures { IfOk result (λ list. IfSome (R.remaining input) (λ bytes. list.items ≡ bytes)) }
+{
     let mut bytes = Vec::new(alloc);
-    rt.reader().read_to_end(&mut bytes)?;
+    input.read_to_end(&mut bytes)?;
     Ok(bytes)
 }
 
@@ -119,53 +124,73 @@ pub fn read_place(list: &mut Listing<'_>) -> Place
 }
 
 // A place past the end of a table is passed over.
-fn put_byte(bytes: &mut [u8], at: usize, value: u32) {
+fn put_byte(bytes: &mut [u8], at: usize, value: u32)
+    ensures { bytes.new ≡ set bytes.old at (value % 256) }
+{
     if at < bytes.len() {
         bytes[at] = (value % 256) as u8;
     }
 }
 
-fn put_number(numbers: &mut [i32], at: usize, value: i32) {
+fn put_number(numbers: &mut [i32], at: usize, value: i32)
+    ensures { numbers.new ≡ set numbers.old at value }
+{
     if at < numbers.len() {
         numbers[at] = value;
     }
 }
 
-fn put_link(links: &mut [u32], at: usize, value: u32) {
+fn put_link(links: &mut [u32], at: usize, value: u32)
+    ensures { links.new ≡ set links.old at value }
+{
     if at < links.len() {
         links[at] = value;
     }
 }
 
-fn put_value(values: &mut [f32], at: usize, value: f32) {
+fn put_value(values: &mut [f32], at: usize, value: f32)
+    ensures { values.new ≡ set values.old at value }
+{
     if at < values.len() {
         values[at] = value;
     }
 }
 
 // The next n words of a table, each read with its place.
-pub fn fill_bytes(list: &mut Listing<'_>, n: u32, bytes: &mut [u8]) {
+pub fn fill_bytes(list: &mut Listing<'_>, n: u32, bytes: &mut [u8])
+    ensures table { bytes.new ≡ filled (λ rest. u32_at rest 4 % 256) n list.old.rest.now bytes.old }
+    ensures rest { list.new.rest.now ≡ drop (8 * n) list.old.rest.now }
+{
     for _ in 0..n {
         let place = read_place(list);
         put_byte(bytes, place.at, place.word);
     }
 }
 
-pub fn fill_numbers(list: &mut Listing<'_>, n: u32, numbers: &mut [i32]) {
+pub fn fill_numbers(list: &mut Listing<'_>, n: u32, numbers: &mut [i32])
+    ensures table { numbers.new ≡ filled (λ rest. i32_at rest 4) n list.old.rest.now numbers.old }
+    ensures rest { list.new.rest.now ≡ drop (8 * n) list.old.rest.now }
+{
     for _ in 0..n {
         let place = read_place(list);
         put_number(numbers, place.at, place.number);
     }
 }
 
-pub fn fill_links(list: &mut Listing<'_>, n: u32, links: &mut [u32]) {
+pub fn fill_links(list: &mut Listing<'_>, n: u32, links: &mut [u32])
+    ensures table { links.new ≡ filled (λ rest. u32_at rest 4) n list.old.rest.now links.old }
+    ensures rest { list.new.rest.now ≡ drop (8 * n) list.old.rest.now }
+{
     for _ in 0..n {
         let place = read_place(list);
         put_link(links, place.at, place.word);
     }
 }
 
-pub fn fill_values(list: &mut Listing<'_>, n: u32, values: &mut [f32]) {
+pub fn fill_values(list: &mut Listing<'_>, n: u32, values: &mut [f32])
+    ensures table { values.new ≡ filled (λ rest. f32_at rest 4) n list.old.rest.now values.old }
+    ensures rest { list.new.rest.now ≡ drop (8 * n) list.old.rest.now }
+{
     for _ in 0..n {
         let place = read_place(list);
         put_value(values, place.at, float::float_of(place.word));
@@ -209,7 +234,9 @@ pub fn first_values(values: &[f32], n: usize) -> &[f32]
 // ---- counts
 
 // Writes a number and what it counts.
-pub fn report(rt: &impl Print, n: u32, what: &[u8]) -> io::Result<()> {
-    rt.print(n)?;
-    rt.write_all(what)
+pub fn report<W: Write>(out: &mut W, n: u32, what: &[u8]) -> io::Result<()>
+    ensures { OnOk result (Appends (W.contents out.old) (W.contents out.new) (decimal n ++ what.now)) }
+{
+    write!(out, "{n}")?;
+    out.write_all(what)
 }

@@ -11,6 +11,7 @@
 //     of the decode and of the build (the decode's where that is refused), the voxel and the maximum, zeros after a refused decode,
 //     and the cell and its figure, zeros after a refused build.
 #![tactic(auto)]
+
 ghost use Rattle.std.specs.Prelude.{◌≤◌};
 
 use claim::{Asked, Question};
@@ -18,130 +19,119 @@ use decode::Decoded;
 use medium::Medium;
 use refusals::both;
 use replay::{
-    fill_bytes, first_bytes, first_links, first_numbers, first_values, read_cases, read_float,
-    read_number, read_place, read_word, report,
+    Listing, fill_bytes, first_bytes, first_links, first_numbers, first_values, read_cases,
+    read_float, read_list, read_number, read_place, read_word, report,
 };
+use std::io;
 
 // ---- what the answer says
 
-fn same(a: u32) -> bool {
-    let b = read_word();
+fn same(list: &mut Listing<'_>, a: u32) -> bool {
+    let b = read_word(list);
     a == b
 }
 
-fn same_float(a: f32) -> bool {
-    same(float::bits_of(a))
+fn same_float(list: &mut Listing<'_>, a: f32) -> bool {
+    same(list, float::bits_of(a))
 }
 
-fn same_number(a: i32) -> bool {
-    let b = read_number();
+fn same_number(list: &mut Listing<'_>, a: i32) -> bool {
+    let b = read_number(list);
     a == b
 }
 
-fn same_count(a: usize) -> bool {
-    let b = read_word() as usize;
+fn same_count(list: &mut Listing<'_>, a: usize) -> bool {
+    let b = read_word(list) as usize;
     a == b
 }
 
-fn same_point(x: f32, y: f32, z: f32) -> bool {
-    let a = same_float(x);
-    let b = same_float(y);
-    let c = same_float(z);
+fn same_point(list: &mut Listing<'_>, x: f32, y: f32, z: f32) -> bool {
+    let a = same_float(list, x);
+    let b = same_float(list, y);
+    let c = same_float(list, z);
     both(a, both(b, c))
 }
 
-fn same_corner(x: i32, y: i32, z: i32) -> bool {
-    let a = same_number(x);
-    let b = same_number(y);
-    let c = same_number(z);
+fn same_corner(list: &mut Listing<'_>, x: i32, y: i32, z: i32) -> bool {
+    let a = same_number(list, x);
+    let b = same_number(list, y);
+    let c = same_number(list, z);
     both(a, both(b, c))
 }
 
-fn same_medium(m: Medium) -> bool {
-    let low = same_point(m.low[0], m.low[1], m.low[2]);
-    let high = same_point(m.high[0], m.high[1], m.high[2]);
-    let x = same_point(m.map[0], m.map[1], m.map[2]);
-    let y = same_point(m.map[3], m.map[4], m.map[5]);
-    let z = same_point(m.map[6], m.map[7], m.map[8]);
-    let moved = same_point(m.translation[0], m.translation[1], m.translation[2]);
-    let index_low = same_corner(m.index_low[0], m.index_low[1], m.index_low[2]);
-    let index_high = same_corner(m.index_high[0], m.index_high[1], m.index_high[2]);
+fn same_medium(list: &mut Listing<'_>, m: Medium) -> bool {
+    let low = same_point(list, m.low[0], m.low[1], m.low[2]);
+    let high = same_point(list, m.high[0], m.high[1], m.high[2]);
+    let x = same_point(list, m.map[0], m.map[1], m.map[2]);
+    let y = same_point(list, m.map[3], m.map[4], m.map[5]);
+    let z = same_point(list, m.map[6], m.map[7], m.map[8]);
+    let moved = same_point(list, m.translation[0], m.translation[1], m.translation[2]);
+    let index_low = same_corner(list, m.index_low[0], m.index_low[1], m.index_low[2]);
+    let index_high = same_corner(list, m.index_high[0], m.index_high[1], m.index_high[2]);
     let world = both(low, high);
     let map = both(both(x, y), both(z, moved));
     both(both(world, map), both(index_low, index_high))
 }
 
-fn same_answer(d: Decoded) -> bool {
-    let number = same(d.number);
-    let roots = same_count(d.roots);
-    let upper = same_count(d.upper);
-    let lower = same_count(d.lower);
-    let leaf = same_count(d.leaf);
-    let background = same_float(d.background);
-    let medium = same_medium(d.medium);
+fn same_answer(list: &mut Listing<'_>, d: Decoded) -> bool {
+    let number = same(list, d.number);
+    let roots = same_count(list, d.roots);
+    let upper = same_count(list, d.upper);
+    let lower = same_count(list, d.lower);
+    let leaf = same_count(list, d.leaf);
+    let background = same_float(list, d.background);
+    let medium = same_medium(list, d.medium);
     let counts = both(both(roots, upper), both(lower, leaf));
     both(both(number, counts), both(background, medium))
 }
 
 // ---- what is left in a table, word for word
 
-fn same_numbers(table: &[i32]) -> bool {
+fn same_numbers(list: &mut Listing<'_>, table: &[i32]) -> bool {
     let mut same = true;
-    let mut next = read_place();
-    let mut i: usize = 0;
-    while i < table.len() {
+    let mut next = read_place(list);
+    for (i, x) in table.iter().enumerate() {
         if i == next.at {
-            same = both(same, table[i] == next.number);
-            next = read_place();
+            same = both(same, *x == next.number);
+            next = read_place(list);
         } else {
-            same = both(same, table[i] == 0);
+            same = both(same, *x == 0);
         }
-        i += 1;
     }
     same
 }
 
-fn same_links(table: &[u32]) -> bool {
+fn same_links(list: &mut Listing<'_>, table: &[u32]) -> bool {
     let mut same = true;
-    let mut next = read_place();
-    let mut i: usize = 0;
-    while i < table.len() {
+    let mut next = read_place(list);
+    for (i, x) in table.iter().enumerate() {
         if i == next.at {
-            same = both(same, table[i] == next.word);
-            next = read_place();
+            same = both(same, *x == next.word);
+            next = read_place(list);
         } else {
-            same = both(same, table[i] == 0);
+            same = both(same, *x == 0);
         }
-        i += 1;
     }
     same
 }
 
-fn same_values(table: &[f32]) -> bool {
+fn same_values(list: &mut Listing<'_>, table: &[f32]) -> bool {
     let mut same = true;
-    let mut next = read_place();
-    let mut i: usize = 0;
-    while i < table.len() {
+    let mut next = read_place(list);
+    for (i, x) in table.iter().enumerate() {
         if i == next.at {
-            same = both(same, float::bits_of(table[i]) == next.word);
-            next = read_place();
+            same = both(same, float::bits_of(*x) == next.word);
+            next = read_place(list);
         } else {
-            same = both(same, float::bits_of(table[i]) == 0);
+            same = both(same, float::bits_of(*x) == 0);
         }
-        i += 1;
     }
     same
 }
 
 // The work table is left with zeros.
 fn cleared(work: &[u64]) -> bool {
-    let mut same = true;
-    let mut i: usize = 0;
-    while i < work.len() {
-        same = both(same, work[i] == 0);
-        i += 1;
-    }
-    same
+    work.iter().all(|x| *x == 0)
 }
 
 // ---- the build
@@ -161,20 +151,19 @@ fn figure_is(majorants: &[f32], cell: usize, bits: u32) -> bool {
 }
 
 // The listed figures.
-fn same_figures(majorants: &[f32]) -> bool {
+fn same_figures(list: &mut Listing<'_>, majorants: &[f32]) -> bool {
     let mut same = true;
-    let n = read_word();
-    let mut i: u32 = 0;
-    while i < n {
-        let place = read_place();
+    let n = read_word(list);
+    for _ in 0..n {
+        let place = read_place(list);
         same = both(same, figure_is(majorants, place.at, place.word));
-        i += 1;
     }
     same
 }
 
 // Builds the used parts, and says whether the number and the listed figures are the Rust's.
 fn same_build(
+    list: &mut Listing<'_>,
     d: Decoded,
     blocks: &[i32],
     root_links: &[u32],
@@ -201,47 +190,47 @@ fn same_build(
         d.medium,
         &mut majorants,
     );
-    let answer = same(number);
-    both(answer, same_figures(&majorants))
+    let answer = same(list, number);
+    both(answer, same_figures(list, &majorants))
 }
 
 // ---- the question
 
-fn read_corner() -> [i32; 3] {
-    let x = read_number();
-    let y = read_number();
-    let z = read_number();
+fn read_corner(list: &mut Listing<'_>) -> [i32; 3] {
+    let x = read_number(list);
+    let y = read_number(list);
+    let z = read_number(list);
     [x, y, z]
 }
 
-fn read_point() -> [f32; 3] {
-    let x = read_float();
-    let y = read_float();
-    let z = read_float();
+fn read_point(list: &mut Listing<'_>) -> [f32; 3] {
+    let x = read_float(list);
+    let y = read_float(list);
+    let z = read_float(list);
     [x, y, z]
 }
 
-fn read_question() -> Question {
-    let coordinate = read_corner();
-    let low = read_corner();
-    let high = read_corner();
-    let point = read_point();
+fn read_question(list: &mut Listing<'_>) -> Question {
+    let coordinate = read_corner(list);
+    let low = read_corner(list);
+    let high = read_corner(list);
+    let point = read_point(list);
     Question {
-        coordinate: coordinate,
-        low: low,
-        high: high,
-        point: point,
+        coordinate,
+        low,
+        high,
+        point,
     }
 }
 
-fn same_asked(a: Asked) -> bool {
+fn same_asked(list: &mut Listing<'_>, a: Asked) -> bool {
     let loaded = a.loaded;
-    let number = same(loaded.decoded.number);
-    let build = same(loaded.build);
-    let value = same_float(a.value);
-    let maximum = same_float(a.maximum);
-    let cell = same(a.cell);
-    let figure = same_float(a.figure);
+    let number = same(list, loaded.decoded.number);
+    let build = same(list, loaded.build);
+    let value = same_float(list, a.value);
+    let maximum = same_float(list, a.maximum);
+    let cell = same(list, a.cell);
+    let figure = same_float(list, a.figure);
     both(
         both(both(number, build), cell),
         both(value, both(maximum, figure)),
@@ -249,26 +238,26 @@ fn same_asked(a: Asked) -> bool {
 }
 
 // Whether the answer is as listed, and whether it tells of smoke beside a build that was accepted, and beside one that was refused.
-#[derive(Drop)]
+#[derive(Clone, Copy)]
 struct Told {
     same: bool,
     smoke: bool,
     unbuilt: bool,
 }
 
-fn compare(a: Asked) -> Told {
+fn compare(list: &mut Listing<'_>, a: Asked) -> Told {
     let loaded = a.loaded;
     let given = loaded.build == 0;
     let smoke = a.maximum > 0.0;
     Told {
-        same: same_asked(a),
+        same: same_asked(list, a),
         smoke: both(given, smoke),
         unbuilt: both(loaded.build != 0, smoke),
     }
 }
 
 // Decodes and builds once more, into fresh tables, for the answer.
-fn replay_question(bytes: &[u8]) -> Told {
+fn replay_question(list: &mut Listing<'_>, bytes: &[u8]) -> Told {
     let mut blocks = [0i32; 24];
     let mut root_links = [0u32; 8];
     let mut root_values = [0.0f32; 8];
@@ -279,7 +268,7 @@ fn replay_question(bytes: &[u8]) -> Told {
     let mut leaf_values = [0.0f32; 4096];
     let mut work = [0u64; 64];
     let mut majorants = [0.0f32; 262144];
-    let question = read_question();
+    let question = read_question(list);
     let answer = claim::ask(
         bytes,
         &mut blocks,
@@ -294,13 +283,13 @@ fn replay_question(bytes: &[u8]) -> Told {
         &mut majorants,
         question,
     );
-    compare(answer)
+    compare(list, answer)
 }
 
 // ---- a case
 
 // Decodes the bytes and builds the grid, and says whether the answers, every table and the figures are as listed.
-fn replay_bytes(bytes: &[u8]) -> bool {
+fn replay_bytes(list: &mut Listing<'_>, bytes: &[u8]) -> bool {
     let mut blocks = [0i32; 24];
     let mut root_links = [0u32; 8];
     let mut root_values = [0.0f32; 8];
@@ -322,18 +311,19 @@ fn replay_bytes(bytes: &[u8]) -> bool {
         &mut leaf_values,
         &mut work,
     );
-    let answer = same_answer(d);
-    let roots = same_numbers(&blocks);
-    let links = same_links(&root_links);
-    let values = same_values(&root_values);
-    let upper = same_links(&upper_links);
-    let above = same_values(&upper_values);
-    let lower = same_links(&lower_links);
-    let below = same_values(&lower_values);
-    let leaf = same_values(&leaf_values);
+    let answer = same_answer(list, d);
+    let roots = same_numbers(list, &blocks);
+    let links = same_links(list, &root_links);
+    let values = same_values(list, &root_values);
+    let upper = same_links(list, &upper_links);
+    let above = same_values(list, &upper_values);
+    let lower = same_links(list, &lower_links);
+    let below = same_values(list, &lower_values);
+    let leaf = same_values(list, &leaf_values);
     let top = both(both(answer, roots), both(links, values));
     let nodes = both(both(upper, above), both(lower, below));
     let built = same_build(
+        list,
         d,
         &blocks,
         &root_links,
@@ -348,7 +338,7 @@ fn replay_bytes(bytes: &[u8]) -> bool {
 }
 
 // 1 where a case differs, 1 where smoke was found, and 1 where it was found beside a refused build.
-#[derive(Drop)]
+#[derive(Clone, Copy)]
 struct Counted {
     differ: u32,
     smoky: u32,
@@ -361,16 +351,16 @@ fn count_one(yes: bool) -> u32
     if yes { 1 } else { 0 }
 }
 
-fn replay() -> Counted
+fn replay(list: &mut Listing<'_>) -> Counted
     ensures { (result.differ ≤ 1) × (result.smoky ≤ 1) × (result.unbuilt ≤ 1) }
 {
     let mut bytes = [0u8; 655360];
-    let length = read_word() as usize;
-    let n = read_word();
-    fill_bytes(n, &mut bytes);
+    let length = read_word(list) as usize;
+    let n = read_word(list);
+    fill_bytes(list, n, &mut bytes);
     let grid = first_bytes(&bytes, length);
-    let same = replay_bytes(grid);
-    let asked = replay_question(grid);
+    let same = replay_bytes(list, grid);
+    let asked = replay_question(list, grid);
     Counted {
         differ: 1 - count_one(both(same, asked.same)),
         smoky: count_one(asked.smoke),
@@ -378,27 +368,48 @@ fn replay() -> Counted
     }
 }
 
-fn main() {
-    let cases = read_cases();
+// How many cases were replayed, and how many of them each count holds.
+#[derive(Clone, Copy)]
+struct Replayed {
+    cases: u32,
+    differ: u32,
+    smoky: u32,
+    unbuilt: u32,
+}
+
+fn replay_all(list: &mut Listing<'_>) -> Replayed {
+    let cases = read_cases(list);
     let mut differ: u32 = 0;
     let mut smoky: u32 = 0;
     let mut unbuilt: u32 = 0;
-    let mut i: u32 = 0;
-    while i < cases {
-        let counted = replay();
+    for _ in 0..cases {
+        let counted = replay(list);
         differ += counted.differ;
         smoky += counted.smoky;
         unbuilt += counted.unbuilt;
-        i += 1;
     }
-    report(cases, b" cases, ");
-    report(differ, b" differ\n");
-    report(
+    Replayed {
+        cases,
+        differ,
         smoky,
-        b" with smoke in the eight voxels around the point that was asked about\n",
-    );
-    report(
         unbuilt,
+    }
+}
+
+fn main(rt: HostRuntime) -> io::Result<()> {
+    let bytes = read_list(rt.reader(), rt.alloc())?;
+    let all = replay_all(&mut Listing { rest: &bytes });
+    let out = &mut io::writer(&rt);
+    report(out, all.cases, b" cases, ")?;
+    report(out, all.differ, b" differ\n")?;
+    report(
+        out,
+        all.smoky,
+        b" with smoke in the eight voxels around the point that was asked about\n",
+    )?;
+    report(
+        out,
+        all.unbuilt,
         b" with smoke in the box that was asked about and a refused build\n",
-    );
+    )
 }

@@ -7,6 +7,7 @@ ghost use Rattle.std.specs.Prelude.{◌≤◌};
 
 use replay::{Listing, read_bytes, read_list};
 use std::io;
+use std::io::Write;
 
 // How many records each function has.
 const RECORDS: u32 = 2048;
@@ -78,19 +79,20 @@ fn replay(list: &mut Listing<'_>, f: u32) -> Seen
 }
 
 // Writes a function's line.
-fn report(rt: &impl Print, name: &[u8], seen: Seen) -> io::Result<()> {
-    rt.write_all(name)?;
-    replay::report(rt, seen.read, b", ")?;
-    replay::report(rt, seen.differ, b" differ\n")
+fn report<W: Write>(out: &mut W, name: &[u8], seen: Seen) -> io::Result<()> {
+    out.write_all(name)?;
+    replay::report(out, seen.read, b", ")?;
+    replay::report(out, seen.differ, b" differ\n")
 }
 
 fn main(rt: HostRuntime) -> io::Result<()> {
-    let bytes = read_list(&rt, rt.alloc())?;
+    let bytes = read_list(rt.reader(), rt.alloc())?;
     let list = &mut Listing { rest: &bytes };
-    report(&rt, b"widen ", replay(list, 0))?;
-    report(&rt, b"narrow ", replay(list, 1))?;
-    report(&rt, b"mul_add ", replay(list, 2))?;
-    report(&rt, b"floor ", replay(list, 3))?;
-    report(&rt, b"trunc ", replay(list, 4))?;
-    report(&rt, b"checked_coordinate ", replay(list, 5))
+    let out = &mut io::writer(&rt);
+    report(out, b"widen ", replay(list, 0))?;
+    report(out, b"narrow ", replay(list, 1))?;
+    report(out, b"mul_add ", replay(list, 2))?;
+    report(out, b"floor ", replay(list, 3))?;
+    report(out, b"trunc ", replay(list, 4))?;
+    report(out, b"checked_coordinate ", replay(list, 5))
 }

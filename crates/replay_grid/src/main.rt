@@ -303,9 +303,10 @@ fn replay_all(list: &mut Listing<'_>) -> Replayed {
 }
 
 fn main(rt: HostRuntime) -> io::Result<()> {
-    let bytes = read_list(&rt, rt.alloc())?;
+    let bytes = read_list(rt.reader(), rt.alloc())?;
     let all = replay_all(&mut Listing { rest: &bytes });
-    report(&rt, all.cases, b" cases, ")?;
-    report(&rt, all.lookups, b" lookups, ")?;
-    report(&rt, all.differ, b" differ\n")
+    let out = &mut io::writer(&rt);
+    report(out, all.cases, b" cases, ")?;
+    report(out, all.lookups, b" lookups, ")?;
+    report(out, all.differ, b" differ\n")
 }

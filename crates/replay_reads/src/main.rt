@@ -322,6 +322,7 @@ fn main(rt: HostRuntime) -> io::Result<()> {
         differ: 0,
     };
     let t = mask_bits(signs(kinds(boundaries(t))));
-    report(&rt, t.reads, b" reads, ")?;
-    report(&rt, t.differ, b" differ\n")
+    let out = &mut io::writer(&rt);
+    report(out, t.reads, b" reads, ")?;
+    report(out, t.differ, b" differ\n")
 }

@@ -1,0 +1,8 @@
+-- the places that are left still do to the table what they do to that of the start
+use Rattle.std.proofs.Common.{◌%◌}
+use Rattle.layout.specs.Bytes.{u32_at}
+use Rattle.replay.proofs.Filling.{IsFilling}
+use Rattle.replay.proofs.fill_bytes.Given as goal
+
+abbrev pub invariant-loop : goal.invariant-loop
+invariant-loop l = IsFilling (λ rest. u32_at rest 4 % 256) l.n l.counter l.initial.list.rest.now l.list.rest.now l.initial.bytes l.bytes
