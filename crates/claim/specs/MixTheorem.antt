@@ -2,7 +2,7 @@
 use Rattle.std.specs.Prelude.{◌≡◌, refl, ◌⊎◌, List, Bool, true, false, not, ◌&&◌, cond, ℕ, ◌<◌, ℤ, T, get_or, Float}
 use Rattle.std.proofs.Common.{sym, ap, ◌∙◌, subst, inl, inr}
 use Rattle.std.proofs.Math.IntN.{suc_ℤ}
-use Rattle.std.specs.Float.{fin, binary32}
+use Rattle.std.specs.Float.{nan, inf, fin, binary32}
 use Rattle.std.specs.Float.Ieee.{lt, le, fits, is_nan}
 use Rattle.std.specs.Float.Ieee.Bits.{of_bits-fits}
 use Rattle.std.specs.Float.Ieee.Scale.{finite}
@@ -131,6 +131,8 @@ index_fits m p a = fma_fits binary32 _ _ _
 
 finite_number : (v : Float) → T (finite v) → T (not (is_nan v))
 unfolding is_nan
+finite_number nan h = elim h [ ]
+finite_number (inf _) h = elim h [ ]
 finite_number (fin s m e) h = tt
 
 -- two readers that agree on the eight voxels mix alike

@@ -1,6 +1,7 @@
 // Load a grid, and ask: the decode, the table of majorants built of it, and the answers to a question, with the one claim as
 // their promise.
 #![tactic(auto)]
+
 ghost use Rattle.std.specs.Prelude.{◌≡◌, [], length, get_or, replicate};
 ghost use Rattle.refusals.specs.Results.{number_of, value_or};
 ghost use Rattle.float.specs.Zero.{+0};

@@ -1,5 +1,6 @@
 // The C interface (include/smokegrid.h). A slice passes as a pointer and a length, a `&mut f32` as a pointer; each function may be called with anything.
 #![tactic(auto)]
+
 ghost use Rattle.std.specs.Prelude.{◌≡◌, length};
 ghost use Rattle.refusals.specs.Results.{number_of, value_or};
 ghost use Rattle.float.specs.Zero.{+0};
@@ -120,14 +121,14 @@ pub extern "C" fn smokegrid_decode_density_grid(
         upper_values.new lower_links.new lower_values.new leaf_values.new
         work.new in
         let arrays : Arrays = record {
-          counts = length counts.entry.now;
+          counts = length counts.old;
           medium = length medium.old;
           corners = length corners.old;
           cells = length cells.old;
         } in
         Decodes bytes.now lent arrays result (record {
           tables = left;
-          counts = counts.exit.now;
+          counts = counts.new;
           background = background.new;
           medium = medium.new;
           corners = corners.new;

@@ -1,5 +1,6 @@
 // Temperature beside density: a second grid that is loaded as a scalar grid and read by an offset and a scale.
 #![tactic(auto)]
+
 ghost use Rattle.std.specs.Prelude.{◌≡◌};
 ghost use Rattle.refusals.specs.Results.{refused as refused_s};
 ghost use Rattle.sparse_grid.specs.Tables.{grid_of};

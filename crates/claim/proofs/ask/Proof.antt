@@ -10,65 +10,65 @@ use Rattle.claim.proofs.ask.Statement.{statement}
 use Rattle.claim.proofs.ask.Tie as tie
 
 -- ---- places: the start, the load and the lookups
-abbrev at-start : tie.After-load → tie.Start
+abbrev at-start : tie.After-load-l → tie.Start
 at-start c = c.before.before.before.before.before.before.before.before.before.before.before.before.before.before.before.before.before.before.before.before.before
 
-abbrev at_load : tie.After-seen-in-arg8 → tie.After-load
-at_load c = c.before.before.before.before.before.before.before.before.before.before.before.before.before.before.before.before.before.before.before.before.before.before.before.before.before.before.before.before
+abbrev at_load : tie.After-d-1 → tie.After-load-l
+at_load c = c.before.before.before.before.before.before.before.before.before.before.before.before.before.before.before.before.before.before.before.before
 
-abbrev at_seen : tie.After-question-told → tie.After-seen-in
+abbrev at_seen : tie.After-question_told → tie.After-seen_in-seen
 at_seen c = c.before.before.before.before.before
 
-abbrev at_call : tie.After-question-told → tie.After-load
+abbrev at_call : tie.After-question_told → tie.After-load-l
 at_call c = at_load (at_seen c).before
 
 -- ---- the tables as they are lent, and as the load leaves them
 abbrev lent : tie.Start → Tables
 lent c =
     let a = c.args in
-    tables a.blocks.now a.root-links.now a.root-values.now a.upper-links.now a.upper-values.now a.lower-links.now
-    a.lower-values.now a.leaf-values.now a.work.now
+    tables a.blocks.now a.root_links.now a.root_values.now a.upper_links.now a.upper_values.now a.lower_links.now
+    a.lower_values.now a.leaf_values.now a.work.now
 
-abbrev left : tie.After-load → Tables
+abbrev left : tie.After-load-l → Tables
 left c =
-    let (_, (blocks, (rl, (rv, (ul, (uv, (ll, (lv, (leaves, (work, _)))))))))) = c.load.new in
-    tables blocks rl rv ul uv ll lv leaves work
+    let n = c.load-l.new in
+    tables n.blocks n.root_links n.root_values n.upper_links n.upper_values n.lower_links n.lower_values n.leaf_values n.work
 
-keeps : (c : tie.After-load) → Kept (lent (at-start c)) (left c)
+keeps : (c : tie.After-load-l) → Kept (lent (at-start c)) (left c)
 keeps c =
-    let (_, (blocks, (rl, (rv, (ul, (uv, (ll, (lv, (leaves, (work, _)))))))))) = c.load.auto in
+    let k = c.load-l.auto in
     record {
-      blocks = blocks;
-      root_links = rl;
-      root_values = rv;
-      upper_links = ul;
-      upper_values = uv;
-      lower_links = ll;
-      lower_values = lv;
-      leaf_values = leaves;
-      work = work;
+      blocks = k.blocks;
+      root_links = k.root_links;
+      root_values = k.root_values;
+      upper_links = k.upper_links;
+      upper_values = k.upper_values;
+      lower_links = k.lower_links;
+      lower_values = k.lower_values;
+      leaf_values = k.leaf_values;
+      work = k.work;
     }
 
-seen-in-requires : tie.Need-seen-in-requires
-seen-in-requires c κs = λ z. workless ((at_load c).load.ensures.claim z).grid.room
+seen-in-requires : tie.Need-seen_in-seen-requires
+seen-in-requires c κs = λ z. workless ((at_load c).load-l.ensures.claim z).grid.room
 
 -- the build answered 0 where the cell is asked for
-found-in-requires : tie.Need-found-in-requires
+found-in-requires : tie.Need-found_in-found-requires
 found-in-requires c κs =
     let l = at_load c.before.before.before in
     let a = (at-start l).args in
-    counted_in a.bytes.now (lengths (lent (at-start l))) (length a.majorants.now) l.load.ensures
+    counted_in a.bytes.now (lengths (lent (at-start l))) (length a.majorants.now) l.load-l.ensures
 
 returns : tie.Need-returns
 returns c =
     let l = at_call c in
     let a = (at-start l).args in
-    asks a.bytes.now (lengths (lent (at-start l))) (length a.majorants.now) (as_question a.q) c.before.bytes-told.ensures
-    c.question-told.ensures l.load.ensures
-    (λ i. joined (as_load l.load.result) ((at_seen c).seen-in.ensures i) (c.before.before.found_in.ensures i))
+    asks a.bytes.now (lengths (lent (at-start l))) (length a.majorants.now) (as_question a.q) c.before.bytes_told.ensures
+    c.question_told.ensures l.load-l.ensures
+    (λ i. joined (as_load l.load-l.result) ((at_seen c).seen_in-seen.ensures i) (c.before.before.found_in-found.ensures i))
 
-pub ask-spec : {M : Type 1} → statement M
-ask-spec =
+pub ask_spec : {M : Type 1} → statement M
+ask_spec =
     tie.close
     (tie.spec
     (λ c κs. search rules)

@@ -16,51 +16,27 @@ use Rattle.claim.proofs.build_used.Statement.{statement}
 use Rattle.claim.proofs.build_used.Tie as tie
 
 -- ---- places: the start, the branch of an accepted decode, and each argument of the call
-abbrev at-start : tie.Else1 → tie.Start
+abbrev at-start : tie.Else-d-ne0 → tie.Start
 at-start c = c.before.before.before.before.before.before.before.before.before.before
 
-abbrev at_entry : tie.Then1 → tie.Start
+abbrev at_entry : tie.Then-d-ne0 → tie.Start
 at_entry c = c.before.before.before.before.before.before.before.before.before.before
 
-abbrev at-else : tie.After-struct-known5 → tie.Else1
+abbrev at-else : tie.After-struct_known-5-1 → tie.Else-d-ne0
 at-else c = c.before.before.before.before
-
-abbrev from-1 : tie.After-build-majorant-arg → tie.Else1
-from-1 c = at-else c.before
-
-abbrev from-2 : tie.After-build-majorant-arg2 → tie.Else1
-from-2 c = from-1 c.before
-
-abbrev from-3 : tie.After-build-majorant-arg3 → tie.Else1
-from-3 c = from-2 c.before
-
-abbrev from-4 : tie.After-build-majorant-arg4 → tie.Else1
-from-4 c = from-3 c.before
-
-abbrev from-5 : tie.After-build-majorant-arg5 → tie.Else1
-from-5 c = from-4 c.before
-
-abbrev from-6 : tie.After-build-majorant-arg6 → tie.Else1
-from-6 c = from-5 c.before
-
-abbrev from-7 : tie.After-build-majorant-arg7 → tie.Else1
-from-7 c = from-6 c.before
-
-abbrev from-8 : tie.After-build-majorant-arg8 → tie.Else1
-from-8 c = from-7 c.before
 
 -- ---- the lent tables, and that the used parts lie within them
 abbrev lent : tie.Start → Tables
 lent c =
     let a = c.args in
-    tables a.blocks.now a.root-links.now a.root-values.now a.upper-links.now a.upper-values.now a.lower-links.now
-    a.lower-values.now a.leaf-values.now []
+    tables a.blocks.now a.root_links.now a.root_values.now a.upper_links.now a.upper_values.now a.lower_links.now
+    a.lower_values.now a.leaf_values.now []
 
-room : (c : tie.Else1) → Used (decoded (at-start c).args.d) (lent (at-start c))
-room c = (at-start c).requires c.if1.false
+room : (c : tie.Else-d-ne0) → Used (decoded (at-start c).args.d) (lent (at-start c))
+room c = (at-start c).requires c.if-d-ne0.false
 
 -- ---- the ways out
-refused_out : tie.Need-returns
+refused_out : tie.Need-returns-then-d-ne0
 refused_out c =
     let z = c.before.before in
     let t = z.before.before in
@@ -68,21 +44,21 @@ refused_out c =
     let a = s.args in
     let places = length a.majorants.now in
     let r = build_into (used_of (decoded a.d) (lent s)) (as_medium a.d.medium) places in
-    let stop = passing_stop a.d.number r t.if1.true in
-    (ap number_of (sym stop), z.zero-f32.ensures ∙ ap (value_or (replicate places +0)) (sym stop))
+    let stop = passing_stop a.d.number r t.if-d-ne0.true in
+    (ap number_of (sym stop), z.zero_f32.ensures ∙ ap (value_or (replicate places +0)) (sym stop))
 
-built-out : tie.Need-returns-2
+built-out : tie.Need-returns
 built-out c =
     let b = c.before.before in
-    let e = from-8 b.before.before in
+    let e = at-else b.before.before.before in
     let s = at-start e in
     let a = s.args in
     let places = length a.majorants.now in
-    let on = passing_on a.d.number (build_into (used_of (decoded a.d) (lent s)) (as_medium a.d.medium) places) e.if1.false in
-    (b.build-majorant.ensures.0 ∙ ap number_of (sym on), b.build-majorant.ensures.1 ∙ ap (value_or (replicate places +0)) (sym on))
+    let on = passing_on a.d.number (build_into (used_of (decoded a.d) (lent s)) (as_medium a.d.medium) places) e.if-d-ne0.false in
+    (b.build_majorant.ensures.0 ∙ ap number_of (sym on), b.build_majorant.ensures.1 ∙ ap (value_or (replicate places +0)) (sym on))
 
-pub build-used-spec : {M : Type 1} → statement M
-build-used-spec =
+pub build_used_spec : {M : Type 1} → statement M
+build_used_spec =
     tie.close
     (tie.spec
     (λ c κs. search rules)
@@ -92,14 +68,14 @@ build-used-spec =
     (λ c. omega (arith, (room c.before.before).lower_links, (at-start c.before.before).well_formed))
     (λ c. omega (arith, (room c.before.before.before).leaf_values, (at-start c.before.before.before).well_formed))
     (λ c. omega (arith, (room (at-else c)).blocks, (at-start (at-else c)).well_formed))
-    (λ c. sym (length-take-le _ _ (room (from-1 c)).blocks))
-    (λ c. sym (length-take-le _ _ (room (from-2 c)).root_links))
-    (λ c. sym (length-take-le _ _ (room (from-3 c)).root_values))
-    (λ c. sym (length-take-le _ _ (room (from-4 c)).upper_links))
-    (λ c. sym (length-take-le _ _ (room (from-5 c)).upper_values))
-    (λ c. sym (length-take-le _ _ (room (from-6 c)).lower_links))
-    (λ c. sym (length-take-le _ _ (room (from-7 c)).lower_values))
-    (λ c. sym (length-take-le _ _ (room (from-8 c)).leaf_values))
+    (λ c. sym (length-take-le _ _ (room (at-else c)).blocks))
+    (λ c. sym (length-take-le _ _ (room (at-else c)).root_links))
+    (λ c. sym (length-take-le _ _ (room (at-else c)).root_values))
+    (λ c. sym (length-take-le _ _ (room (at-else c)).upper_links))
+    (λ c. sym (length-take-le _ _ (room (at-else c)).upper_values))
+    (λ c. sym (length-take-le _ _ (room (at-else c)).lower_links))
+    (λ c. sym (length-take-le _ _ (room (at-else c)).lower_values))
+    (λ c. sym (length-take-le _ _ (room (at-else c)).leaf_values))
     (λ c κs. search rules)
     (λ c. search rules)
     built-out)

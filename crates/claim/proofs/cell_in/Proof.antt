@@ -37,13 +37,13 @@ module _ (n : Cells) (x y z : ℕ) where
   cell-small N j k = let h : z * n.y + y ≤ 16512 = omega (arith, N.y.most, row_small N k) in mul-le-mul h N.x.most
 
 -- ---- places: the start, from each way out
-abbrev from-2 : tie.Then2 → tie.Start
+abbrev from-2 : tie.Then-y-ny → tie.Start
 from-2 c = c.before.before
 
-abbrev from-3 : tie.Then3 → tie.Start
+abbrev from-3 : tie.Then-z-nz → tie.Start
 from-3 c = c.before.before.before
 
-abbrev at-start : tie.Else3 → tie.Start
+abbrev at-start : tie.Else-z-nz → tie.Start
 at-start c = c.before.before.before
 
 abbrev n : tie.Start → Cells
@@ -55,35 +55,35 @@ record Met (c : tie.Start) : Type 0 where
   y : c.args.y < c.args.ny
   z : c.args.z < c.args.nz
 
-met : (c : tie.Else3) → Met (at-start c)
-met c = record { x = omega (arith, c.before.before.if1.false); y = omega (arith, c.before.if2.false); z = omega (arith, c.if3.false) }
+met : (c : tie.Else-z-nz) → Met (at-start c)
+met c = record { x = omega (arith, c.before.before.if-x-nx.false); y = omega (arith, c.before.if-y-ny.false); z = omega (arith, c.if-z-nz.false) }
 
-row_fits : (c : tie.Else3) → (at-start c).args.z * (at-start c).args.ny ≤ 16384
+row_fits : (c : tie.Else-z-nz) → (at-start c).args.z * (at-start c).args.ny ≤ 16384
 row_fits c = let s = at-start c in row_small (n s) s.args.x s.args.y s.args.z s.requires (met c).z
 
-cell-fits : (c : tie.Else3) → ((at-start c).args.z * (at-start c).args.ny + (at-start c).args.y) * (at-start c).args.nx ≤ 2113536
+cell-fits : (c : tie.Else-z-nz) → ((at-start c).args.z * (at-start c).args.ny + (at-start c).args.y) * (at-start c).args.nx ≤ 2113536
 cell-fits c = let s = at-start c in cell-small (n s) s.args.x s.args.y s.args.z s.requires (met c).y (met c).z
 
 -- ---- the ways out
-x-past : tie.Need-returns
-x-past c = let s = c.before in none_x (n s) s.args.x s.args.y s.args.z (omega (arith, c.if1.true))
+x-past : tie.Need-returns-then-x-nx
+x-past c = let s = c.before in none_x (n s) s.args.x s.args.y s.args.z (omega (arith, c.if-x-nx.true))
 
-y-past : tie.Need-returns-2
+y-past : tie.Need-returns-then-y-ny
 y-past c =
     let s = from-2 c in
-    none_y (n s) s.args.x s.args.y s.args.z (omega (arith, c.before.if1.false)) (omega (arith, c.if2.true))
+    none_y (n s) s.args.x s.args.y s.args.z (omega (arith, c.before.if-x-nx.false)) (omega (arith, c.if-y-ny.true))
 
-z-past : tie.Need-returns-3
+z-past : tie.Need-returns-then-z-nz
 z-past c =
     let s = from-3 c in
-    none_z (n s) s.args.x s.args.y s.args.z (omega (arith, c.before.before.if1.false)) (omega (arith, c.before.if2.false))
-    (omega (arith, c.if3.true))
+    none_z (n s) s.args.x s.args.y s.args.z (omega (arith, c.before.before.if-x-nx.false)) (omega (arith, c.before.if-y-ny.false))
+    (omega (arith, c.if-z-nz.true))
 
-cell : tie.Need-returns-4
+cell : tie.Need-returns
 cell c = let s = at-start c in inside (n s) s.args.x s.args.y s.args.z (met c).x (met c).y (met c).z
 
-pub cell-in-spec : {M : Type 1} → statement M
-cell-in-spec =
+pub cell_in_spec : {M : Type 1} → statement M
+cell_in_spec =
     tie.close
     (tie.spec
     (λ c. omega (arith, layer_small (n c) c.requires))

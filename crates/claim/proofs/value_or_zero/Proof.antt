@@ -9,8 +9,8 @@ use borrow.Author.Rules.{rules}
 use Rattle.claim.proofs.value_or_zero.Statement.{statement}
 use Rattle.claim.proofs.value_or_zero.Tie as tie
 
-returns-2 : tie.Need-returns-2
-returns-2 c = zero_literal binary32 ∙ ap (value_or +0) (ap outcome (sym c.before.a2.given.1))
+returns-2 : tie.Need-returns-in-Refused
+returns-2 c = zero_literal binary32 ∙ ap (value_or +0) (ap outcome (sym c.in-Refused.is))
 
-pub value-or-zero-spec : {M : Type 1} → statement M
-value-or-zero-spec = tie.close (tie.spec (λ c. search rules) (λ c. search rules) (λ c. search rules) returns-2)
+pub value_or_zero_spec : {M : Type 1} → statement M
+value_or_zero_spec = tie.close (tie.spec (λ c. search rules) (λ c. search rules) (λ c. search rules) returns-2)

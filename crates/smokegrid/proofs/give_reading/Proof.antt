@@ -16,15 +16,15 @@ value_in r = (value_or unspoken r).value
 abbrev level_in : Result Spoken → ℕ
 level_in r = level_number (value_or unspoken r).level
 
-returns : tie.Need-returns
+returns : tie.Need-returns-in-Value
 returns c =
-    let e = ap heard (sym c.before.before.found.given.1) in
-    (ap number_of e, (ap value_in e, c.level-number.ensures ∙ ap level_in e))
+    let e = ap heard (sym c.before.before.found-1.given.1) in
+    (ap number_of e, (ap value_in e, c.level_number.ensures ∙ ap level_in e))
 
-returns-2 : tie.Need-returns-2
+returns-2 : tie.Need-returns-in-Refused
 returns-2 c =
-    let e = ap heard (sym c.before.found2.given.1) in
+    let e = ap heard (sym c.before.found-in-Refused-1.given.1) in
     (ap number_of e, (zero_literal binary32 ∙ ap value_in e, ap level_in e))
 
-pub give-reading-spec : {M : Type 1} → statement M
-give-reading-spec = tie.close (tie.spec (λ c. search rules) (λ c κs. search rules) (λ c. search rules) returns returns-2)
+pub give_reading_spec : {M : Type 1} → statement M
+give_reading_spec = tie.close (tie.spec (λ c. search rules) (λ c κs. search rules) (λ c. search rules) returns returns-2)

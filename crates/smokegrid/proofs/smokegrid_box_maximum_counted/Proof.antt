@@ -15,29 +15,29 @@ use Rattle.smokegrid.proofs.smokegrid_box_maximum_counted.Statement.{statement}
 use Rattle.smokegrid.proofs.smokegrid_box_maximum_counted.Tie as tie
 
 -- ---- places: the zeros, the start, the test, the answer
-abbrev at-start : tie.After-zero-u64 → tie.Start
+abbrev at-start : tie.After-zero_u64 → tie.Start
 at-start c = c.before.before.before.before.before.before.before.before.before.before
 
-abbrev at-zeros : tie.After-slice-known2 → tie.After-zero-u64
+abbrev at-zeros : tie.After-slice_known-2-1 → tie.After-zero_u64
 at-zeros c = c.before.before
 
-abbrev at_value : tie.After-put-read-arg → tie.After-box-maximum-counted
+abbrev at_value : tie.After-put_read-arg-1 → tie.After-box_maximum_counted
 at_value c = c.before.before.before.before
 
-abbrev at_c : tie.After-put-read-arg → tie.After-c
+abbrev at_c : tie.After-put_read-arg-1 → tie.In-Value-2
 at_c c = c.before.before
 
-abbrev at-number : tie.After-known-told2 → tie.After-box-maximum-counted
+abbrev at-number : tie.In-Refused → tie.After-box_maximum_counted
 at-number c = c.before.before.before
 
-abbrev start : tie.After-box-maximum-counted → tie.Start
+abbrev start : tie.After-box_maximum_counted → tie.Start
 start c = at-start (at-zeros c.before.before)
 
 abbrev grid : tie.Start → Grid
 grid c =
     let a = c.args in
-    grid_of a.background a.blocks.now a.root-links.now a.root-values.now a.upper-links.now a.upper-values.now
-    a.lower-links.now a.lower-values.now a.leaf-values.now
+    grid_of a.background a.blocks.now a.root_links.now a.root_values.now a.upper_links.now a.upper_values.now
+    a.lower_links.now a.lower_values.now a.leaf_values.now
 
 abbrev corners : tie.Start → Box
 corners c = let a = c.args in between a.lx a.ly a.lz a.hx a.hy a.hz
@@ -46,46 +46,46 @@ abbrev places : tie.Start → ℕ
 places c = length c.args.counts.now
 
 -- ---- what is known there: five places, and the answer, whose corners were handed on as they are
-five_long : (c : tie.After-box-maximum-counted) → places (start c) ≡ 5
-five_long c = sym (at-zeros c.before.before).zero-u64.auto.0 ∙ c.before.if1.false
+five_long : (c : tie.After-box_maximum_counted) → places (start c) ≡ 5
+five_long c = sym (at-zeros c.before.before).zero_u64.auto.0 ∙ c.before.if-counts-ne5.false
 
-outcome-is : (c : tie.After-box-maximum-counted) → counted_outcome c.box-maximum-counted.result ≡ public_counted (grid (start c)) (corners (start c))
+outcome-is : (c : tie.After-box_maximum_counted) → counted_outcome c.box_maximum_counted.result ≡ public_counted (grid (start c)) (corners (start c))
 outcome-is c =
     let s = start c in
     let f = s.ranges in
-    said_same unread _ _ (c.box-maximum-counted.ensures
+    said_same unread _ _ (c.box_maximum_counted.ensures
     ∙ (λ t. said unread (public_counted (grid s) (between (to_z-of_z f.lx t) (to_z-of_z f.ly t) (to_z-of_z f.lz t)
     (to_z-of_z f.hx t) (to_z-of_z f.hy t) (to_z-of_z f.hz t)))))
 
-put-read-requires : tie.Need-put-read-requires
+put-read-requires : tie.Need-put_read-requires
 put-read-requires c κs =
     let m = at_value c in
-    (at-zeros m.before.before).zero-u64.ensures ∙ ap (λ (n : ℕ). replicate n 0) (five_long m)
+    (at-zeros m.before.before).zero_u64.ensures ∙ ap (λ (n : ℕ). replicate n 0) (five_long m)
 
 -- ---- the ways out
-returns : tie.Need-returns
+returns : tie.Need-returns-then-counts-ne5
 returns c =
     let z = at-zeros c.before in
     let s = at-start z in
-    other_length (grid s) (corners s) (places s) (ne_eqb (places s) 5 (λ e. c.if1.true (z.zero-u64.kept.0 ∙ e))) z.zero-u64.ensures
+    other_length (grid s) (corners s) (places s) (ne_eqb (places s) 5 (λ e. c.if-counts-ne5.true (z.zero_u64.kept.0 ∙ e))) z.zero_u64.ensures
 
-returns-2 : tie.Need-returns-2
+returns-2 : tie.Need-returns-in-Value
 returns-2 c =
     let r = c.before.before in
     let m = at_value r.before in
     let s = start m in
     answered (grid s) (corners s) (places s) (eq-eqb (places s) 5 (five_long m))
-    (ap counted_outcome (sym (at_c r.before).c.given.1) ∙ outcome-is m) r.put-read.ensures
+    (ap counted_outcome (sym (at_c r.before).c-1.given.1) ∙ outcome-is m) r.put_read.ensures
 
-returns-3 : tie.Need-returns-3
+returns-3 : tie.Need-returns-in-Refused
 returns-3 c =
     let m = at-number c in
     let s = start m in
     stopped (grid s) (corners s) (places s) (eq-eqb (places s) 5 (five_long m))
-    (ap counted_outcome (sym c.before.number.given.1) ∙ outcome-is m) (at-zeros m.before.before).zero-u64.ensures
+    (ap counted_outcome (sym c.before.number-1.given.1) ∙ outcome-is m) (at-zeros m.before.before).zero_u64.ensures
 
-pub smokegrid-box-maximum-counted-spec : {M : Type 1} → statement M
-smokegrid-box-maximum-counted-spec =
+pub smokegrid_box_maximum_counted_spec : {M : Type 1} → statement M
+smokegrid_box_maximum_counted_spec =
     tie.close
     (tie.spec
     (λ c κs. search rules)

@@ -5,32 +5,32 @@ use Rattle.smokegrid.proofs.smokegrid_build_majorant.Statement.{statement}
 use Rattle.smokegrid.proofs.smokegrid_build_majorant.Tie as tie
 
 -- a medium, corners or cells of another length: the table is zeros
-medium-out : tie.Need-returns
-medium-out c = let z = c.before.before in build_medium z.before.before.if1.true z.zero-f32.ensures
+medium-out : tie.Need-returns-then-medium-ne18
+medium-out c = let z = c.before.before in build_medium z.before.before.if-medium-ne18.true z.zero_f32.ensures
 
-corners-out : tie.Need-returns-2
+corners-out : tie.Need-returns-then-corners-ne6
 corners-out c =
     let z = c.before.before in
     let t = z.before.before in
-    build_corners t.before.if1.false t.if2.true z.zero-f322.ensures
+    build_corners t.before.if-medium-ne18.false t.if-corners-ne6.true z.zero_f32-then-corners-ne6.ensures
 
-cells_out : tie.Need-returns-3
+cells_out : tie.Need-returns-then-cells-ne3
 cells_out c =
     let z = c.before.before in
     let t = z.before.before in
     let e = t.before in
-    build_cells e.before.if1.false e.if2.false t.if3.true z.zero-f323.ensures
+    build_cells e.before.if-medium-ne18.false e.if-corners-ne6.false t.if-cells-ne3.true z.zero_f32-then-cells-ne3.ensures
 
-built-out : tie.Need-returns-4
+built-out : tie.Need-returns
 built-out c =
     let b = c.before.before in
     let m = b.before.before in
     let t = m.before in
     let e = t.before in
-    build_taken e.before.if1.false e.if2.false t.if3.false m.medium-from.ensures b.build-majorant.ensures.0 b.build-majorant.ensures.1
+    build_taken e.before.if-medium-ne18.false e.if-corners-ne6.false t.if-cells-ne3.false m.medium_from.ensures b.build_majorant.ensures.0 b.build_majorant.ensures.1
 
-pub smokegrid-build-majorant-spec : {M : Type 1} → statement M
-smokegrid-build-majorant-spec =
+pub smokegrid_build_majorant_spec : {M : Type 1} → statement M
+smokegrid_build_majorant_spec =
     tie.close
     (tie.spec
     (λ c κs. search rules)

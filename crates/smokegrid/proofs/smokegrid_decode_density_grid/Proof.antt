@@ -12,69 +12,69 @@ use Rattle.smokegrid.proofs.smokegrid_decode_density_grid.Statement.{statement}
 use Rattle.smokegrid.proofs.smokegrid_decode_density_grid.Tie as tie
 
 -- ---- places on the way to a place: the start, each flat array of zeros, the test of their lengths, and the call after it
-abbrev at-start : tie.After-zero-u64 → tie.Start
+abbrev at-start : tie.After-zero_u64 → tie.Start
 at-start c = c.before.before.before.before.before.before.before.before.before.before.before.before.before.before
 
-abbrev at-counts : tie.After-zero-f32 → tie.After-zero-u64
+abbrev at-counts : tie.After-zero_f32 → tie.After-zero_u64
 at-counts c = c.before.before.before.before
 
-abbrev at-medium : tie.After-zero-i32 → tie.After-zero-f32
+abbrev at-medium : tie.After-zero_i32 → tie.After-zero_f32
 at-medium c = c.before.before.before.before
 
-abbrev at-corners : tie.After-zero-u32 → tie.After-zero-i32
+abbrev at-corners : tie.After-zero_u32 → tie.After-zero_i32
 at-corners c = c.before.before.before
 
-abbrev at_cells : tie.After-flat-fault → tie.After-zero-u32
+abbrev at_cells : tie.After-flat_fault-fault → tie.After-zero_u32
 at_cells c = c.before.before.before
 
-abbrev at-fault : tie.After-clear → tie.Then1
+abbrev at-fault : tie.After-clear → tie.Then-fault-ne0
 at-fault c = c.before.before.before.before.before.before.before.before.before.before
 
-abbrev at_clear : tie.After-slice-known22 → tie.After-clear
+abbrev at_clear : tie.After-slice_known-then-fault-ne0-8-1 → tie.After-clear
 at_clear c = c.before.before.before.before.before.before.before.before.before.before.before.before.before.before.before.before.before
 
-abbrev at-pass : tie.After-decode-density-grid → tie.Else1
+abbrev at-pass : tie.After-decode_density_grid-d → tie.Else-fault-ne0
 at-pass c = c.before.before.before.before.before.before.before.before.before.before
 
-abbrev at-decode : tie.After-put-counts-arg → tie.After-decode-density-grid
+abbrev at-decode : tie.After-put_counts-arg-1 → tie.After-decode_density_grid-d
 at-decode c = c.before.before.before.before.before.before.before.before.before.before.before.before.before.before.before.before.before.before
 
-abbrev at-put-counts : tie.After-put-medium-arg → tie.After-put-counts
+abbrev at-put-counts : tie.After-put_medium-arg-1 → tie.After-put_counts
 at-put-counts c = c.before.before.before
 
-abbrev at-put-medium : tie.After-put-corners-arg → tie.After-put-medium
+abbrev at-put-medium : tie.After-put_corners-arg-1 → tie.After-put_medium
 at-put-medium c = c.before.before.before
 
-abbrev at-put-corners : tie.After-put-three-arg → tie.After-put-corners
+abbrev at-put-corners : tie.After-put_three-arg-1 → tie.After-put_corners
 at-put-corners c = c.before.before.before.before
 
 -- the calls before the last one, from its place
-abbrev corners-at : tie.After-put-three → tie.After-put-corners
+abbrev corners-at : tie.After-put_three → tie.After-put_corners
 corners-at c = at-put-corners c.before
 
-abbrev medium-at : tie.After-put-three → tie.After-put-medium
+abbrev medium-at : tie.After-put_three → tie.After-put_medium
 medium-at c = at-put-medium (corners-at c).before
 
-abbrev counts-at : tie.After-put-three → tie.After-put-counts
+abbrev counts-at : tie.After-put_three → tie.After-put_counts
 counts-at c = at-put-counts (medium-at c).before
 
-abbrev decode-at : tie.After-put-three → tie.After-decode-density-grid
+abbrev decode-at : tie.After-put_three → tie.After-decode_density_grid-d
 decode-at c = at-decode (counts-at c).before
 
-abbrev put-at : tie.After-slice-known33 → tie.After-put-three
+abbrev put-at : tie.After-slice_known-25-1 → tie.After-put_three
 put-at c = c.before.before
 
 -- ---- what C hands over
-abbrev start : tie.After-flat-fault → tie.Start
+abbrev start : tie.After-flat_fault-fault → tie.Start
 start c = at-start (at-counts (at-medium (at-corners (at_cells c))))
 
-abbrev lent : tie.After-flat-fault → Tables
+abbrev lent : tie.After-flat_fault-fault → Tables
 lent c =
     let a = (start c).args in
-    tables a.blocks.now a.root-links.now a.root-values.now a.upper-links.now a.upper-values.now
-    a.lower-links.now a.lower-values.now a.leaf-values.now a.work.now
+    tables a.blocks.now a.root_links-1.now a.root_values-1.now a.upper_links-1.now a.upper_values-1.now
+    a.lower_links-1.now a.lower_values-1.now a.leaf_values-1.now a.work.now
 
-abbrev handed : tie.After-flat-fault → Handed
+abbrev handed : tie.After-flat_fault-fault → Handed
 handed c =
     let a = (start c).args in
     record {
@@ -94,9 +94,9 @@ cleared c =
     let (blocks, (rl, (rv, (ul, (uv, (ll, (lv, (leaves, (work, _))))))))) = c.clear.new in
     tables blocks rl rv ul uv ll lv leaves work
 
-abbrev decoded : tie.After-decode-density-grid → Tables
+abbrev decoded : tie.After-decode_density_grid-d → Tables
 decoded c =
-    let (_, (blocks, (rl, (rv, (ul, (uv, (ll, (lv, (leaves, (work, _)))))))))) = c.decode-density-grid.new in
+    let (_, (blocks, (rl, (rv, (ul, (uv, (ll, (lv, (leaves, (work, _)))))))))) = c.decode_density_grid-d.new in
     tables blocks rl rv ul uv ll lv leaves work
 
 -- ---- what is known there
@@ -115,9 +115,9 @@ clear-keeps c =
       work = work;
     }
 
-decode-keeps : (c : tie.After-decode-density-grid) → Kept (lent (at-pass c).before) (decoded c)
+decode-keeps : (c : tie.After-decode_density_grid-d) → Kept (lent (at-pass c).before) (decoded c)
 decode-keeps c =
-    let (_, (blocks, (rl, (rv, (ul, (uv, (ll, (lv, (leaves, (work, _)))))))))) = c.decode-density-grid.auto in
+    let (_, (blocks, (rl, (rv, (ul, (uv, (ll, (lv, (leaves, (work, _)))))))))) = c.decode_density_grid-d.auto in
     record {
       blocks = blocks;
       root_links = rl;
@@ -131,82 +131,82 @@ decode-keeps c =
     }
 
 -- the fills keep the lengths, so `flat_fault` answers for the arrays as they were handed over
-fault-is : (c : tie.After-flat-fault) → c.flat-fault.result ≡ fault_of (handed c)
+fault-is : (c : tie.After-flat_fault-fault) → c.flat_fault-fault.result ≡ fault_of (handed c)
 fault-is c =
     let cells = at_cells c in
     let corners = at-corners cells in
     let medium = at-medium corners in
-    c.flat-fault.ensures ∙ (λ i. flat_fault (record {
-      counts = (at-counts medium).zero-u64.kept.0 i;
-      medium = medium.zero-f32.kept.0 i;
-      corners = corners.zero-i32.kept.0 i;
-      cells = cells.zero-u32.kept.0 i;
+    c.flat_fault-fault.ensures ∙ (λ i. flat_fault (record {
+      counts = (at-counts medium).zero_u64.kept.0 i;
+      medium = medium.zero_f32.kept.0 i;
+      corners = corners.zero_i32.kept.0 i;
+      cells = cells.zero_u32.kept.0 i;
     }))
 
-fits : (c : tie.Else1) → fault_of (handed c.before) ≡ 0
-fits c = sym (fault-is c.before) ∙ c.if1.false
+fits : (c : tie.Else-fault-ne0) → fault_of (handed c.before) ≡ 0
+fits c = sym (fault-is c.before) ∙ c.if-fault-ne0.false
 
 -- ---- the calls
-put-counts-requires : tie.Need-put-counts-requires
+put-counts-requires : tie.Need-put_counts-requires
 put-counts-requires c κs =
     let pass = at-pass (at-decode c) in
-    zero_counts (handed pass.before) (fits pass) (at-counts (at-medium (at-corners (at_cells pass.before)))).zero-u64.ensures
+    zero_counts (handed pass.before) (fits pass) (at-counts (at-medium (at-corners (at_cells pass.before)))).zero_u64.ensures
 
-put-medium-requires : tie.Need-put-medium-requires
+put-medium-requires : tie.Need-put_medium-requires
 put-medium-requires c κs =
     let pass = at-pass (at-decode (at-put-counts c).before) in
-    zero_medium (handed pass.before) (fits pass) (at-medium (at-corners (at_cells pass.before))).zero-f32.ensures
+    zero_medium (handed pass.before) (fits pass) (at-medium (at-corners (at_cells pass.before))).zero_f32.ensures
 
-put-corners-requires : tie.Need-put-corners-requires
+put-corners-requires : tie.Need-put_corners-requires
 put-corners-requires c κs =
     let pass = at-pass (at-decode (at-put-counts (at-put-medium c).before).before) in
-    zero_corners (handed pass.before) (fits pass) (at-corners (at_cells pass.before)).zero-i32.ensures
+    zero_corners (handed pass.before) (fits pass) (at-corners (at_cells pass.before)).zero_i32.ensures
 
-put-three-requires : tie.Need-put-three-requires
+put-three-requires : tie.Need-put_three-requires
 put-three-requires c κs =
     let pass = at-pass (at-decode (at-put-counts (at-put-medium (at-put-corners c).before).before).before) in
-    zero_cells (handed pass.before) (fits pass) (at_cells pass.before).zero-u32.ensures
+    zero_cells (handed pass.before) (fits pass) (at_cells pass.before).zero_u32.ensures
 
 -- ---- the ways out: a flat array of another length, and the decode's answer
-returns : tie.Need-returns
+returns : tie.Need-returns-then-fault-ne0
 returns c =
     let clear = at_clear c in
     let fault = at-fault clear in
     let cells = at_cells fault.before in
     let corners = at-corners cells in
     let medium = at-medium corners in
-    out_fault (handed fault.before) (fault-is fault.before) fault.if1.true clear.clear.ensures (at-counts medium).zero-u64.ensures
-    (zero_literal binary32) medium.zero-f32.ensures corners.zero-i32.ensures cells.zero-u32.ensures
+    out_fault (handed fault.before) (fault-is fault.before) fault.if-fault-ne0.true clear.clear.ensures (at-counts medium).zero_u64.ensures
+    (zero_literal binary32) medium.zero_f32.ensures corners.zero_i32.ensures cells.zero_u32.ensures
 
-returns-2 : tie.Need-returns-2
+returns-2 : tie.Need-returns
 returns-2 c =
     let put = put-at c in
     let decode = decode-at put in
     let pass = at-pass decode in
-    out_answer (handed pass.before) (fits pass) decode.decode-density-grid.ensures.0 decode.decode-density-grid.ensures.1
-    (counts-at put).put-counts.ensures refl (medium-at put).put-medium.ensures (corners-at put).put-corners.ensures put.put_three.ensures
+    out_answer (handed pass.before) (fits pass) decode.decode_density_grid-d.ensures.0 decode.decode_density_grid-d.ensures.1
+    (counts-at put).put_counts.ensures refl (medium-at put).put_medium.ensures (corners-at put).put_corners.ensures put.put_three.ensures
 
 -- ---- the fills and the puts keep the lengths of the flat arrays
-abbrev fills-at : tie.After-slice-known22 → tie.After-zero-u32
+abbrev fills-at : tie.After-slice_known-then-fault-ne0-8-1 → tie.After-zero_u32
 fills-at c = at_cells (at-fault (at_clear c)).before
 
-abbrev zeros-at : tie.After-put-three → tie.After-zero-u32
+abbrev zeros-at : tie.After-put_three → tie.After-zero_u32
 zeros-at c = at_cells (at-pass (decode-at c)).before
 
-counts_same : tie.Need-same-length-23
-counts_same c = let put = put-at c in (counts-at put).put-counts.kept.0 ∙ (at-counts (at-medium (at-corners (zeros-at put)))).zero-u64.auto.0
+counts_same : tie.Need-shape_of-counts
+counts_same c = let put = put-at c in (counts-at put).put_counts.kept.0 ∙ (at-counts (at-medium (at-corners (zeros-at put)))).zero_u64.auto.0
 
-medium-same : tie.Need-same-length-24
-medium-same c = let put = put-at c in (medium-at put).put-medium.kept.0 ∙ (at-medium (at-corners (zeros-at put))).zero-f32.auto.0
+medium-same : tie.Need-shape_of-medium
+medium-same c = let put = put-at c in (medium-at put).put_medium.kept.0 ∙ (at-medium (at-corners (zeros-at put))).zero_f32.auto.0
 
-corners-same : tie.Need-same-length-25
-corners-same c = let put = put-at c in (corners-at put).put-corners.kept.0 ∙ (at-corners (zeros-at put)).zero-i32.auto.0
+corners-same : tie.Need-shape_of-corners
+corners-same c = let put = put-at c in (corners-at put).put_corners.kept.0 ∙ (at-corners (zeros-at put)).zero_i32.auto.0
 
-cells_same : tie.Need-same-length-26
-cells_same c = let put = put-at c in put.put_three.kept.0 ∙ (zeros-at put).zero-u32.kept.0
+cells_same : tie.Need-shape_of-cells
+cells_same c = let put = put-at c in put.put_three.kept.0 ∙ (zeros-at put).zero_u32.kept.0
 
-pub smokegrid-decode-density-grid-spec : {M : Type 1} → statement M
-smokegrid-decode-density-grid-spec =
+pub smokegrid_decode_density_grid_spec : {M : Type 1} → statement M
+smokegrid_decode_density_grid_spec =
     tie.close
     (tie.spec
     (λ c κs. search rules)
@@ -224,10 +224,10 @@ smokegrid-decode-density-grid-spec =
     (λ c. (clear-keeps (at_clear c)).lower_values)
     (λ c. (clear-keeps (at_clear c)).leaf_values)
     (λ c. (clear-keeps (at_clear c)).work)
-    (λ c. (at-counts (at-medium (at-corners (fills-at c)))).zero-u64.auto.0)
-    (λ c. (at-medium (at-corners (fills-at c))).zero-f32.auto.0)
-    (λ c. (at-corners (fills-at c)).zero-i32.auto.0)
-    (λ c. (fills-at c).zero-u32.auto.0)
+    (λ c. (at-counts (at-medium (at-corners (fills-at c)))).zero_u64.auto.0)
+    (λ c. (at-medium (at-corners (fills-at c))).zero_f32.auto.0)
+    (λ c. (at-corners (fills-at c)).zero_i32.auto.0)
+    (λ c. (fills-at c).zero_u32.auto.0)
     returns
     (λ c κs. search rules)
     put-counts-requires

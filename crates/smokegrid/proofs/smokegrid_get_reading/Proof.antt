@@ -10,14 +10,14 @@ use Rattle.sparse_grid.specs.Answers.{Spoken, unspoken, spoken, heard, level_num
 use Rattle.smokegrid.proofs.smokegrid_get_reading.Statement.{statement}
 use Rattle.smokegrid.proofs.smokegrid_get_reading.Tie as tie
 
-abbrev at-start : tie.After-get-reading → tie.Start
+abbrev at-start : tie.After-get_reading-found → tie.Start
 at-start c = c.before.before.before.before.before.before.before.before
 
 abbrev grid : tie.Start → Grid
 grid c =
     let a = c.args in
-    grid_of a.background a.blocks.now a.root-links.now a.root-values.now a.upper-links.now a.upper-values.now
-    a.lower-links.now a.lower-values.now a.leaf-values.now
+    grid_of a.background a.blocks.now a.root_links.now a.root_values.now a.upper_links.now a.upper_values.now
+    a.lower_links.now a.lower_values.now a.leaf_values.now
 
 -- a coordinate that fits is handed on as it is
 returns : tie.Need-returns
@@ -25,14 +25,14 @@ returns c =
     let g = c.before.before.before in
     let s = at-start g in
     let f = s.ranges in
-    let e : heard g.get-reading.result ≡ spoken (lookup (grid s) (at s.args.x s.args.y s.args.z)) =
-    said_same unspoken _ _ (g.get-reading.ensures
+    let e : heard g.get_reading-found.result ≡ spoken (lookup (grid s) (at s.args.x s.args.y s.args.z)) =
+    said_same unspoken _ _ (g.get_reading-found.ensures
     ∙ (λ t. said unspoken (spoken (lookup (grid s) (at (to_z-of_z f.x t) (to_z-of_z f.y t) (to_z-of_z f.z t)))))) in
     record {
-      number_is = c.give-reading.ensures.0 ∙ ap number_of e;
-      value_is = c.give-reading.ensures.1.0 ∙ ap (λ (r : Result Spoken). (value_or unspoken r).value) e;
-      level_is = c.give-reading.ensures.1.1 ∙ ap (λ (r : Result Spoken). level_number (value_or unspoken r).level) e;
+      number_is = c.give_reading.ensures.0 ∙ ap number_of e;
+      value_is = c.give_reading.ensures.1.0 ∙ ap (λ (r : Result Spoken). (value_or unspoken r).value) e;
+      level_is = c.give_reading.ensures.1.1 ∙ ap (λ (r : Result Spoken). level_number (value_or unspoken r).level) e;
     }
 
-pub smokegrid-get-reading-spec : {M : Type 1} → statement M
-smokegrid-get-reading-spec = tie.close (tie.spec (λ c κs. search rules) (λ c κs. search rules) returns)
+pub smokegrid_get_reading_spec : {M : Type 1} → statement M
+smokegrid_get_reading_spec = tie.close (tie.spec (λ c κs. search rules) (λ c κs. search rules) returns)

@@ -11,28 +11,28 @@ use Rattle.smokegrid.specs.FlatHeat.{heated_by}
 use Rattle.smokegrid.proofs.smokegrid_get_temperature.Statement.{statement}
 use Rattle.smokegrid.proofs.smokegrid_get_temperature.Tie as tie
 
-abbrev at-start : tie.After-temperature-at → tie.Start
+abbrev at-start : tie.After-temperature_at-h → tie.Start
 at-start c = c.before.before.before.before.before.before.before.before
 
 abbrev grid : tie.Start → Grid
 grid c =
     let a = c.args in
-    grid_of a.background a.blocks.now a.root-links.now a.root-values.now a.upper-links.now a.upper-values.now
-    a.lower-links.now a.lower-values.now a.leaf-values.now
+    grid_of a.background a.blocks.now a.root_links.now a.root_values.now a.upper_links.now a.upper_values.now
+    a.lower_links.now a.lower_values.now a.leaf_values.now
 
 -- a coordinate that fits is handed on as it is
-answer : (c : tie.After-temperature-at)
+answer : (c : tie.After-temperature_at-h)
     → let a = (at-start c).args in
-    c.temperature-at.result ≡ heat_of (temperature_at (heated_by a.present a.offset a.scale) (grid (at-start c)) (at a.x a.y a.z))
+    c.temperature_at-h.result ≡ heat_of (temperature_at (heated_by a.present a.offset a.scale) (grid (at-start c)) (at a.x a.y a.z))
 answer c =
     let s = at-start c in
     let a = s.args in
     let f = s.ranges in
-    c.temperature-at.ensures
+    c.temperature_at-h.ensures
     ∙ (λ i. heat_of (temperature_at (heated_by a.present a.offset a.scale) (grid s) (at (to_z-of_z f.x i) (to_z-of_z f.y i) (to_z-of_z f.z i))))
 
 returns : tie.Need-returns
 returns c = record { number_is = ap (λ (h : Heat). h.number) (answer c); bits_are = ap (λ (h : Heat). h.bits) (answer c) }
 
-pub smokegrid-get-temperature-spec : {M : Type 1} → statement M
-smokegrid-get-temperature-spec = tie.close (tie.spec (λ c κs. search rules) returns)
+pub smokegrid_get_temperature_spec : {M : Type 1} → statement M
+smokegrid_get_temperature_spec = tie.close (tie.spec (λ c κs. search rules) returns)

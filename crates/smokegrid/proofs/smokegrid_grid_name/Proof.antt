@@ -5,18 +5,18 @@ use Rattle.contents.specs.declared.Picked.{Picked}
 use Rattle.smokegrid.proofs.smokegrid_grid_name.Statement.{statement}
 use Rattle.smokegrid.proofs.smokegrid_grid_name.Tie as tie
 
-abbrev at_part : tie.After-give-part → tie.After-name-part
+abbrev at_part : tie.After-give_part → tie.After-name_part
 at_part c = c.before.before.before
 
 returns : tie.Need-returns
 returns c =
-    let e = (at_part c).name-part.ensures in
-    let g = c.give-part.ensures in
+    let e = (at_part c).name_part.ensures in
+    let g = c.give_part.ensures in
     record {
       number_is = g.0 ∙ ap (λ (p : Picked). p.number) e;
       start_is = g.1.0 ∙ ap (λ (p : Picked). p.start) e;
       length_is = g.1.1 ∙ ap (λ (p : Picked). p.length) e;
     }
 
-pub smokegrid-grid-name-spec : {M : Type 1} → statement M
-smokegrid-grid-name-spec = tie.close (tie.spec (λ c κs. search rules) (λ c κs. search rules) returns)
+pub smokegrid_grid_name_spec : {M : Type 1} → statement M
+smokegrid_grid_name_spec = tie.close (tie.spec (λ c κs. search rules) (λ c κs. search rules) returns)

@@ -12,38 +12,38 @@ use Rattle.smokegrid.proofs.smokegrid_load_temperature.Statement.{statement}
 use Rattle.smokegrid.proofs.smokegrid_load_temperature.Tie as tie
 
 -- ---- places on the way to a place: the start, the zeroed counts, the test of their length, and the call after it
-abbrev at-start : tie.After-zero-u64 → tie.Start
+abbrev at-start : tie.After-zero_u64 → tie.Start
 at-start c = c.before.before.before.before.before.before.before.before.before.before.before.before
 
-abbrev at-counts : tie.Then1 → tie.After-zero-u64
+abbrev at-counts : tie.Then-counts-ne4 → tie.After-zero_u64
 at-counts c = c.before.before.before
 
-abbrev at-counts₂ : tie.Else1 → tie.After-zero-u64
+abbrev at-counts₂ : tie.Else-counts-ne4 → tie.After-zero_u64
 at-counts₂ c = c.before.before.before
 
-abbrev at-fault : tie.After-clear → tie.Then1
+abbrev at-fault : tie.After-clear → tie.Then-counts-ne4
 at-fault c = c.before.before.before.before.before.before.before.before.before.before
 
-abbrev at_clear : tie.After-slice-known18 → tie.After-clear
+abbrev at_clear : tie.After-slice_known-then-counts-ne4-8-1 → tie.After-clear
 at_clear c = c.before.before.before.before.before.before.before.before.before.before.before.before.before.before.before.before.before
 
-abbrev at-pass : tie.After-load-temperature → tie.Else1
+abbrev at-pass : tie.After-load_temperature-a → tie.Else-counts-ne4
 at-pass c = c.before.before.before.before.before.before.before.before.before.before
 
-abbrev at_load : tie.After-put-four-arg → tie.After-load-temperature
+abbrev at_load : tie.After-put_four-arg-1 → tie.After-load_temperature-a
 at_load c = c.before.before.before.before.before.before.before.before.before.before.before.before.before.before.before.before.before.before
 
-abbrev at-put : tie.After-slice-known27 → tie.After-put-four
+abbrev at-put : tie.After-slice_known-19-1 → tie.After-put_four
 at-put c = c.before.before
 
 -- ---- what C hands over
-abbrev lent : tie.After-zero-u64 → Tables
+abbrev lent : tie.After-zero_u64 → Tables
 lent c =
     let a = (at-start c).args in
-    tables a.blocks.now a.root-links.now a.root-values.now a.upper-links.now a.upper-values.now
-    a.lower-links.now a.lower-values.now a.leaf-values.now a.work.now
+    tables a.blocks.now a.root_links-1.now a.root_values-1.now a.upper_links-1.now a.upper_values-1.now
+    a.lower_links-1.now a.lower_values-1.now a.leaf_values-1.now a.work.now
 
-abbrev handed : tie.After-zero-u64 → HeatHanded
+abbrev handed : tie.After-zero_u64 → HeatHanded
 handed c =
     let a = (at-start c).args in
     record { bytes = a.bytes.now; offset = a.offset; scale = a.scale; lent = lengths (lent c); counts = length a.counts.now }
@@ -54,9 +54,9 @@ cleared c =
     let (blocks, (rl, (rv, (ul, (uv, (ll, (lv, (leaves, (work, _))))))))) = c.clear.new in
     tables blocks rl rv ul uv ll lv leaves work
 
-abbrev loaded : tie.After-load-temperature → Tables
+abbrev loaded : tie.After-load_temperature-a → Tables
 loaded c =
-    let (_, (_, (_, (blocks, (rl, (rv, (ul, (uv, (ll, (lv, (leaves, (work, _)))))))))))) = c.load-temperature.new in
+    let (_, (_, (_, (blocks, (rl, (rv, (ul, (uv, (ll, (lv, (leaves, (work, _)))))))))))) = c.load_temperature-a.new in
     tables blocks rl rv ul uv ll lv leaves work
 
 -- ---- what is known there
@@ -75,9 +75,9 @@ clear-keeps c =
       work = work;
     }
 
-load-keeps : (c : tie.After-load-temperature) → Kept (lent (at-counts₂ (at-pass c))) (loaded c)
+load-keeps : (c : tie.After-load_temperature-a) → Kept (lent (at-counts₂ (at-pass c))) (loaded c)
 load-keeps c =
-    let (_, (_, (_, (blocks, (rl, (rv, (ul, (uv, (ll, (lv, (leaves, (work, _)))))))))))) = c.load-temperature.auto in
+    let (_, (_, (_, (blocks, (rl, (rv, (ul, (uv, (ll, (lv, (leaves, (work, _)))))))))))) = c.load_temperature-a.auto in
     record {
       blocks = blocks;
       root_links = rl;
@@ -91,43 +91,43 @@ load-keeps c =
     }
 
 -- the fill keeps the length, so the test is of the counts as they were handed over
-four : (c : tie.Else1) → (handed (at-counts₂ c)).counts ≡ 4
-four c = sym (at-counts₂ c).zero-u64.auto.0 ∙ c.if1.false
+four : (c : tie.Else-counts-ne4) → (handed (at-counts₂ c)).counts ≡ 4
+four c = sym (at-counts₂ c).zero_u64.auto.0 ∙ c.if-counts-ne4.false
 
 -- ---- the calls
-put-four-requires : tie.Need-put-four-requires
+put-four-requires : tie.Need-put_four-requires
 put-four-requires c κs =
     let pass = at-pass (at_load c) in
-    (at-counts₂ pass).zero-u64.ensures ∙ ap (λ (n : ℕ). replicate n 0) (four pass)
+    (at-counts₂ pass).zero_u64.ensures ∙ ap (λ (n : ℕ). replicate n 0) (four pass)
 
 -- ---- the ways out: counts of another length, and the load's answer
-returns : tie.Need-returns
+returns : tie.Need-returns-then-counts-ne4
 returns c =
     let clear = at_clear c in
     let fault = at-fault clear in
     let counts = at-counts fault in
-    heat_sized (handed counts) (λ e. fault.if1.true (counts.zero-u64.kept.0 ∙ e)) clear.clear.ensures counts.zero-u64.ensures
+    heat_sized (handed counts) (λ e. fault.if-counts-ne4.true (counts.zero_u64.kept.0 ∙ e)) clear.clear.ensures counts.zero_u64.ensures
     (zero_literal binary32)
 
-returns-2 : tie.Need-returns-2
+returns-2 : tie.Need-returns
 returns-2 c =
     let put = at-put c in
     let load = at_load put.before in
     let pass = at-pass load in
-    heat_answer (handed (at-counts₂ pass)) (four pass) load.load-temperature.ensures.0 load.load-temperature.ensures.1
+    heat_answer (handed (at-counts₂ pass)) (four pass) load.load_temperature-a.ensures.0 load.load_temperature-a.ensures.1
     put.put_four.ensures refl
 
 -- the put and the fill keep the length of the counts
-counts_same : tie.Need-same-length-20
+counts_same : tie.Need-shape_of-counts
 counts_same c =
     let put = at-put c in
-    put.put_four.kept.0 ∙ (at-counts₂ (at-pass (at_load put.before))).zero-u64.auto.0
+    put.put_four.kept.0 ∙ (at-counts₂ (at-pass (at_load put.before))).zero_u64.auto.0
 
-abbrev load_at : tie.After-slice-known27 → tie.After-load-temperature
+abbrev load_at : tie.After-slice_known-19-1 → tie.After-load_temperature-a
 load_at c = at_load (at-put c).before
 
-pub smokegrid-load-temperature-spec : {M : Type 1} → statement M
-smokegrid-load-temperature-spec =
+pub smokegrid_load_temperature_spec : {M : Type 1} → statement M
+smokegrid_load_temperature_spec =
     tie.close
     (tie.spec
     (λ c κs. search rules)
@@ -141,7 +141,7 @@ smokegrid-load-temperature-spec =
     (λ c. (clear-keeps (at_clear c)).lower_values)
     (λ c. (clear-keeps (at_clear c)).leaf_values)
     (λ c. (clear-keeps (at_clear c)).work)
-    (λ c. (at-counts (at-fault (at_clear c))).zero-u64.auto.0)
+    (λ c. (at-counts (at-fault (at_clear c))).zero_u64.auto.0)
     returns
     (λ c κs. search rules)
     put-four-requires

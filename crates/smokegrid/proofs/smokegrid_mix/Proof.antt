@@ -6,20 +6,20 @@ use Rattle.smokegrid.proofs.smokegrid_mix.Statement.{statement}
 use Rattle.smokegrid.proofs.smokegrid_mix.Tie as tie
 
 -- the test of the length, on the way to the call
-abbrev at_test : tie.After-medium-from → tie.Else1
+abbrev at_test : tie.After-medium_from → tie.Else-medium-ne18
 at_test c = c.before.before.before
 
-medium-out : tie.Need-returns
-medium-out c = mix_medium c.before.before.if1.true c.give.ensures.0 c.give.ensures.1
+medium-out : tie.Need-returns-then-medium-ne18
+medium-out c = mix_medium c.before.before.if-medium-ne18.true c.give.ensures.0 c.give.ensures.1
 
-mix-out : tie.Need-returns-2
+mix-out : tie.Need-returns
 mix-out c =
     let m = c.before.before in
     let f = m.before in
-    mix_answered m.mix.result (at_test f).if1.false f.medium-from.ensures m.mix.ensures c.give2.ensures.0 c.give2.ensures.1
+    mix_answered m.mix-found.result (at_test f).if-medium-ne18.false f.medium_from.ensures m.mix-found.ensures c.give-2.ensures.0 c.give-2.ensures.1
 
-pub smokegrid-mix-spec : {M : Type 1} → statement M
-smokegrid-mix-spec =
+pub smokegrid_mix_spec : {M : Type 1} → statement M
+smokegrid_mix_spec =
     tie.close
     (tie.spec
     (λ c κs. search rules)

@@ -13,22 +13,22 @@ use Rattle.smokegrid.proofs.smokegrid_window_open.Statement.{statement}
 use Rattle.smokegrid.proofs.smokegrid_window_open.Tie as tie
 
 -- ---- places on the way to a place: the window's zeros, the test, the memory's zeros, and the opening
-abbrev at-start : tie.After-zero-u32 → tie.Start
+abbrev at-start : tie.After-zero_u32 → tie.Start
 at-start c = c.before.before.before.before.before.before
 
-abbrev at-zeros : tie.After-both → tie.After-zero-u32
+abbrev at-zeros : tie.After-both → tie.After-zero_u32
 at-zeros c = c.before.before.before
 
-abbrev at-memory : tie.After-zero-f322 → tie.After-zero-f32
+abbrev at-memory : tie.After-zero_f32-then-not-both → tie.After-zero_f32
 at-memory c = c.before.before.before.before
 
-abbrev at-refused : tie.After-zero-f32 → tie.Then1
+abbrev at-refused : tie.After-zero_f32 → tie.Then-not-both
 at-refused c = c.before.before
 
-abbrev at-sized : tie.After-open-arg2 → tie.Else1
+abbrev at-sized : tie.After-open-arg-2-1 → tie.Else-not-both
 at-sized c = c.before.before.before.before.before
 
-abbrev at_open : tie.After-put-window-arg → tie.After-open
+abbrev at_open : tie.After-put_window-arg-1 → tie.After-open-opened
 at_open c = c.before.before.before.before.before
 
 -- ---- the three numbers, and the window's length
@@ -40,36 +40,36 @@ places c = length (at-start (at-zeros c)).args.window.now
 
 -- ---- what is known there: the test is of these lengths
 tested : (c : tie.After-both) → c.both.result ≡ sized (numbers c) (places c)
-tested c = c.both.ensures ∙ ap (λ (n : ℕ). eqb (length (numbers c)) 3 && eqb n 6) (at-zeros c).zero-u32.auto.0
+tested c = c.both.ensures ∙ ap (λ (n : ℕ). eqb (length (numbers c)) 3 && eqb n 6) (at-zeros c).zero_u32.auto.0
 
-fits : (c : tie.Else1) → sized (numbers c.before) (places c.before) ≡ true
-fits c = sym (tested c.before) ∙ not-false _ c.if1.false
+fits : (c : tie.Else-not-both) → sized (numbers c.before) (places c.before) ≡ true
+fits c = sym (tested c.before) ∙ c.if-not-both.false
 
-three : (c : tie.Else1) → length (numbers c.before) ≡ 3
+three : (c : tie.Else-not-both) → length (numbers c.before) ≡ 3
 three c = numbers_long (numbers c.before) (places c.before) (fits c)
 
-put-window-requires : tie.Need-put-window-requires
+put-window-requires : tie.Need-put_window-requires
 put-window-requires c κs =
     let p = at-sized (at_open c).before in
-    (at-zeros p.before).zero-u32.ensures ∙ ap (λ (n : ℕ). replicate n 0) (window_long (numbers p.before) (places p.before) (fits p))
+    (at-zeros p.before).zero_u32.ensures ∙ ap (λ (n : ℕ). replicate n 0) (window_long (numbers p.before) (places p.before) (fits p))
 
 -- ---- the ways out
-returns : tie.Need-returns
+returns : tie.Need-returns-then-not-both
 returns c =
     let a = c.before.before in
     let m = at-memory a in
     let t = at-refused m in
-    let no = sym (tested t.before) ∙ not-true _ t.if1.true in
-    open_size no (at-zeros t.before).zero-u32.ensures m.zero-f32.ensures a.zero-f322.ensures
+    let no = sym (tested t.before) ∙ t.if-not-both.true in
+    open_size no (at-zeros t.before).zero_u32.ensures m.zero_f32.ensures a.zero_f32-then-not-both.ensures
 
-returns-2 : tie.Need-returns-2
+returns-2 : tie.Need-returns
 returns-2 c =
     let p = c.before.before in
     let o = at_open p.before in
-    open_taken (fits (at-sized o.before)) o.«open».ensures.0 o.«open».ensures.1 p.put-window.ensures
+    open_taken (fits (at-sized o.before)) o.«open».ensures.0 o.«open».ensures.1 p.put_window.ensures
 
-pub smokegrid-window-open-spec : {M : Type 1} → statement M
-smokegrid-window-open-spec =
+pub smokegrid_window_open_spec : {M : Type 1} → statement M
+smokegrid_window_open_spec =
     tie.close
     (tie.spec
     (λ c κs. search rules) (λ c κs. search rules) (λ c κs. search rules) (λ c κs. search rules)

@@ -18,22 +18,22 @@ use Rattle.smokegrid.proofs.smokegrid_window_push.Tie as tie
 abbrev at-start : tie.After-both → tie.Start
 at-start c = c.before.before.before.before.before.before
 
-abbrev at-sized : tie.After-window-from → tie.Else1
+abbrev at-sized : tie.After-window_from-before → tie.Else-not-both
 at-sized c = c.before.before
 
-abbrev at-window : tie.After-push → tie.After-window-from
+abbrev at-window : tie.After-push-pushed → tie.After-window_from-before
 at-window c = c.before.before.before.before.before.before
 
-abbrev at-refused : tie.Then2 → tie.After-push
+abbrev at-refused : tie.Then-pushed-ne0 → tie.After-push-pushed
 at-refused c = c.before.before.before.before.before.before
 
-abbrev at-taken : tie.Else2 → tie.After-push
+abbrev at-taken : tie.Else-pushed-ne0 → tie.After-push-pushed
 at-taken c = c.before.before.before.before.before.before
 
-abbrev at-zeros : tie.After-put-window-arg → tie.After-zero-u32
+abbrev at-zeros : tie.After-put_window-arg-1 → tie.After-zero_u32
 at-zeros c = c.before.before.before
 
-abbrev at_pushed : tie.After-zero-u32 → tie.Else2
+abbrev at_pushed : tie.After-zero_u32 → tie.Else-pushed-ne0
 at_pushed c = c.before.before
 
 -- ---- what is handed over
@@ -44,57 +44,57 @@ abbrev before : tie.After-both → WindowArrays
 before c = let a = (at-start c).args in window_arrays a.window.now a.memory.now a.answer.now
 
 -- ---- what is known there: the small arrays have their lengths, and what the push says of them
-fits : (c : tie.Else1) → sized (numbers c.before) (length (before c.before).window) ≡ true
-fits c = sym c.before.both.ensures ∙ not-false _ c.if1.false
+fits : (c : tie.Else-not-both) → sized (numbers c.before) (length (before c.before).window) ≡ true
+fits c = sym c.before.both.ensures ∙ c.if-not-both.false
 
-three : (c : tie.Else1) → length (numbers c.before) ≡ 3
+three : (c : tie.Else-not-both) → length (numbers c.before) ≡ 3
 three c = numbers_long (numbers c.before) (length (before c.before).window) (fits c)
 
-six : (c : tie.Else1) → length (before c.before).window ≡ 6
+six : (c : tie.Else-not-both) → length (before c.before).window ≡ 6
 six c = window_long (numbers c.before) (length (before c.before).window) (fits c)
 
-abbrev first : tie.After-push → tie.Else1
+abbrev first : tie.After-push-pushed → tie.Else-not-both
 first c = at-sized (at-window c)
 
-number : (c : tie.After-push)
-    → let b = (first c).before in c.push.result.number ≡ push_fault (state_from (before b)) (table_from (numbers b) (at-start b).args.majorants.now)
+number : (c : tie.After-push-pushed)
+    → let b = (first c).before in c.push-pushed.result.number ≡ push_fault (state_from (before b)) (table_from (numbers b) (at-start b).args.majorants.now)
 number c =
     let b = (first c).before in
     let t = table_from (numbers b) (at-start b).args.majorants.now in
-    c.push.ensures.0
-    ∙ ap (λ (v : Window). push_fault (state_of v (before b).memory (before b).answer) t) (at-window c).window-from.ensures
+    c.push-pushed.ensures.0
+    ∙ ap (λ (v : Window). push_fault (state_of v (before b).memory (before b).answer) t) (at-window c).window_from-before.ensures
 
-state : (c : tie.After-push)
+state : (c : tie.After-push-pushed)
     → let b = (first c).before in
-    let (_, (_, (_, (_, (_, (m, (a, _))))))) = c.push.new in
-    state_of c.push.result.window m a ≡ push (state_from (before b)) (table_from (numbers b) (at-start b).args.majorants.now)
+    let (_, (_, (_, (_, (_, (m, (a, _))))))) = c.push-pushed.new in
+    state_of c.push-pushed.result.window m a ≡ push (state_from (before b)) (table_from (numbers b) (at-start b).args.majorants.now)
 state c =
     let b = (first c).before in
     let t = table_from (numbers b) (at-start b).args.majorants.now in
-    c.push.ensures.1
-    ∙ ap (λ (v : Window). push (state_of v (before b).memory (before b).answer) t) (at-window c).window-from.ensures
+    c.push-pushed.ensures.1
+    ∙ ap (λ (v : Window). push (state_of v (before b).memory (before b).answer) t) (at-window c).window_from-before.ensures
 
-put-window-requires : tie.Need-put-window-requires
+put-window-requires : tie.Need-put_window-requires
 put-window-requires c κs =
     let z = at-zeros c in
-    z.zero-u32.ensures ∙ ap (λ (n : ℕ). replicate n 0) (six (first (at-taken (at_pushed z))))
+    z.zero_u32.ensures ∙ ap (λ (n : ℕ). replicate n 0) (six (first (at-taken (at_pushed z))))
 
 -- ---- the ways out
-returns : tie.Need-returns
-returns c = push_size (sym c.before.both.ensures ∙ not-true _ c.if1.true)
+returns : tie.Need-returns-then-not-both
+returns c = push_size (sym c.before.both.ensures ∙ c.if-not-both.true)
 
-returns-2 : tie.Need-returns-2
-returns-2 c = let p = at-refused c in push_refused (fits (first p)) (number p) c.if2.true (state p)
+returns-2 : tie.Need-returns-then-pushed-ne0
+returns-2 c = let p = at-refused c in push_refused (fits (first p)) (number p) c.if-pushed-ne0.true (state p)
 
-returns-3 : tie.Need-returns-3
+returns-3 : tie.Need-returns
 returns-3 c =
     let w = c.before.before in
     let e = at_pushed (at-zeros w.before) in
     let p = at-taken e in
-    push_taken (fits (first p)) (number p) e.if2.false (state p) w.put-window.ensures
+    push_taken (fits (first p)) (number p) e.if-pushed-ne0.false (state p) w.put_window.ensures
 
-pub smokegrid-window-push-spec : {M : Type 1} → statement M
-smokegrid-window-push-spec =
+pub smokegrid_window_push_spec : {M : Type 1} → statement M
+smokegrid_window_push_spec =
     tie.close
     (tie.spec
     (λ c κs. search rules)

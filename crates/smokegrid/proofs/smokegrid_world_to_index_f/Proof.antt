@@ -9,47 +9,47 @@ use Rattle.smokegrid.proofs.smokegrid_world_to_index_f.Statement.{statement}
 use Rattle.smokegrid.proofs.smokegrid_world_to_index_f.Tie as tie
 
 -- ---- places: the words as zeros, the two tests, and the call
-abbrev at-zeros : tie.Else1 → tie.After-zero-u32
+abbrev at-zeros : tie.Else-medium-ne18 → tie.After-zero_u32
 at-zeros c = c.before.before.before
 
-abbrev at-start : tie.After-zero-u32 → tie.Start
+abbrev at-start : tie.After-zero_u32 → tie.Start
 at-start c = c.before.before.before.before
 
-abbrev at-else : tie.After-put-three-arg → tie.Else2
+abbrev at-else : tie.After-put_three-arg-1 → tie.Else-index_bits-ne3
 at-else c = c.before.before.before.before.before.before
 
 -- there are three words
-three : (c : tie.Else2) → length (at-start (at-zeros c.before)).args.index-bits.now ≡ 3
-three c = sym (at-zeros c.before).zero-u32.auto.0 ∙ c.if2.false
+three : (c : tie.Else-index_bits-ne3) → length (at-start (at-zeros c.before)).args.index_bits.now ≡ 3
+three c = sym (at-zeros c.before).zero_u32.auto.0 ∙ c.if-index_bits-ne3.false
 
-put-three-requires : tie.Need-put-three-requires
+put-three-requires : tie.Need-put_three-requires
 put-three-requires c κs =
     let e = at-else c in
-    (at-zeros e.before).zero-u32.ensures ∙ ap (λ (n : ℕ). replicate n 0) (three e)
+    (at-zeros e.before).zero_u32.ensures ∙ ap (λ (n : ℕ). replicate n 0) (three e)
 
-words_same : tie.Need-same-length-3
+words_same : tie.Need-shape_of-index_bits
 words_same c =
     let p = c.before.before in
-    p.put_three.auto.0 ∙ (at-zeros (at-else p.before).before).zero-u32.auto.0
+    p.put_three.auto.0 ∙ (at-zeros (at-else p.before).before).zero_u32.auto.0
 
 -- ---- the ways out
-medium-out : tie.Need-returns
-medium-out c = out_medium c.if1.true c.before.before.before.zero-u32.ensures
+medium-out : tie.Need-returns-then-medium-ne18
+medium-out c = out_medium c.if-medium-ne18.true c.before.before.before.zero_u32.ensures
 
-places-out : tie.Need-returns-2
+places-out : tie.Need-returns-then-index_bits-ne3
 places-out c =
     let z = at-zeros c.before in
-    out_places c.before.if1.false (λ e. c.if2.true (z.zero-u32.kept.0 ∙ e)) z.zero-u32.ensures
+    out_places c.before.if-medium-ne18.false (λ e. c.if-index_bits-ne3.true (z.zero_u32.kept.0 ∙ e)) z.zero_u32.ensures
 
-position-out : tie.Need-returns-3
+position-out : tie.Need-returns
 position-out c =
     let p = c.before.before in
     let w = p.before.before.before in
     let e = at-else p.before in
-    out_position e.before.if1.false (three e) w.before.medium-from.ensures w.world-to-index-f.ensures p.put_three.ensures
+    out_position e.before.if-medium-ne18.false (three e) w.before.medium_from.ensures w.world_to_index_f-p.ensures p.put_three.ensures
 
-pub smokegrid-world-to-index-f-spec : {M : Type 1} → statement M
-smokegrid-world-to-index-f-spec =
+pub smokegrid_world_to_index_f_spec : {M : Type 1} → statement M
+smokegrid_world_to_index_f_spec =
     tie.close
     (tie.spec
     (λ c κs. search rules)

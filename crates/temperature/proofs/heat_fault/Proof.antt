@@ -13,13 +13,13 @@ start c = c.before.before.before
 
 -- both tests
 test : (c : tie.After-both) → c.both.result ≡ (finite (start c).args.t.offset && finite (start c).args.t.scale)
-test c = c.both.ensures ∙ and_same c.before.before.is_finite.ensures c.before.is-finite2.ensures
+test c = c.both.ensures ∙ and_same c.before.before.is_finite.ensures c.before.is_finite-2.ensures
 
-returns : tie.Need-returns
-returns c = ap (λ (b : Bool). unless b 27) (sym c.if1.true ∙ test c.before)
+returns : tie.Need-returns-then-both
+returns c = ap (λ (b : Bool). unless b 27) (sym c.if-both.true ∙ test c.before)
 
-returns-2 : tie.Need-returns-2
-returns-2 c = ap (λ (b : Bool). unless b 27) (sym c.if1.false ∙ test c.before)
+returns-2 : tie.Need-returns-else-both
+returns-2 c = ap (λ (b : Bool). unless b 27) (sym c.if-both.false ∙ test c.before)
 
-pub heat-fault-spec : {M : Type 1} → statement M
-heat-fault-spec = tie.close (tie.spec (λ c κs. search rules) (λ c κs. search rules) (λ c κs. search rules) returns returns-2)
+pub heat_fault_spec : {M : Type 1} → statement M
+heat_fault_spec = tie.close (tie.spec (λ c κs. search rules) (λ c κs. search rules) (λ c κs. search rules) returns returns-2)

@@ -12,25 +12,25 @@ use Rattle.temperature.proofs.heat_of.Statement.{statement}
 use Rattle.temperature.proofs.heat_of.Tie as tie
 
 -- ---- places: the start, from each arm
-abbrev at-start : tie.After-found → tie.Start
-at-start c = c.before.before
+abbrev at-start : tie.In-Refused → tie.Start
+at-start c = c.before
 
-abbrev at-start₂ : tie.After-found2 → tie.Start
-at-start₂ c = c.before.before
+abbrev at-start₂ : tie.In-Value → tie.Start
+at-start₂ c = c.before
 
-abbrev at_value : tie.After-bits-of → tie.After-found2
-at_value c = c.before.before.before.before
+abbrev at_value : tie.After-bits_of → tie.In-Value
+at_value c = c.before.before.before
 
-returns : tie.Need-returns
+returns : tie.Need-returns-in-Refused
 returns c =
-    let f = c.before in
-    ap (λ (x : Answer). heat_of (read_by (as_temperature (at-start f).args.t) (outcome x))) (sym f.found.given.1)
+    let f = c in
+    ap (λ (x : Answer). heat_of (read_by (as_temperature (at-start f).args.t) (outcome x))) (sym f.in-Refused.is)
 
-returns-2 : tie.Need-returns-2
+returns-2 : tie.Need-returns-in-Value
 returns-2 c =
     let f = at_value c in
     ap (λ (n : ℕ). heat_of (ok n)) c.bits_of.ensures
-    ∙ ap (λ (x : Answer). heat_of (read_by (as_temperature (at-start₂ f).args.t) (outcome x))) (sym f.found2.given.1)
+    ∙ ap (λ (x : Answer). heat_of (read_by (as_temperature (at-start₂ f).args.t) (outcome x))) (sym f.in-Value.is)
 
-pub heat-of-spec : {M : Type 1} → statement M
-heat-of-spec = tie.close (tie.spec (λ c. search rules) (λ c. search rules) (λ c κs. search rules) returns returns-2)
+pub heat_of_spec : {M : Type 1} → statement M
+heat_of_spec = tie.close (tie.spec (λ c. search rules) (λ c. search rules) (λ c κs. search rules) returns returns-2)

@@ -11,67 +11,67 @@ use Rattle.temperature.proofs.load_temperature.Statement.{statement}
 use Rattle.temperature.proofs.load_temperature.Tie as tie
 
 -- ---- places on the way to a place: the start, the decode, the fault of the two numbers, and `clear`
-abbrev at-start : tie.After-decode-scalar-grid → tie.Start
+abbrev at-start : tie.After-decode_scalar_grid-d → tie.Start
 at-start c = c.before.before.before.before.before.before.before.before.before.before.before.before.before.before.before.before.before.before.before
 
-abbrev at-decode : tie.After-first-fault → tie.After-decode-scalar-grid
+abbrev at-decode : tie.After-first_fault-fault → tie.After-decode_scalar_grid-d
 at-decode c = c.before.before.before.before.before.before.before.before.before.before.before.before.before.before.before.before.before.before.before
 
-abbrev at-fault : tie.After-clear → tie.Then1
+abbrev at-fault : tie.After-clear → tie.Then-fault-ne0
 at-fault c = c.before.before.before.before.before.before.before.before.before.before
 
 abbrev at_clear : tie.After-refused → tie.After-clear
 at_clear c = c.before.before.before.before.before.before.before.before.before.before.before.before.before.before.before.before.before.before
 
 -- ---- what is handed over, and the tables as each call leaves them
-abbrev lent : tie.After-first-fault → Tables
+abbrev lent : tie.After-first_fault-fault → Tables
 lent c =
     let a = (at-start (at-decode c)).args in
-    tables a.blocks.now a.root-links.now a.root-values.now a.upper-links.now a.upper-values.now a.lower-links.now
-    a.lower-values.now a.leaf-values.now a.work.now
+    tables a.blocks.now a.root_links.now a.root_values.now a.upper_links.now a.upper_values.now a.lower_links.now
+    a.lower_values.now a.leaf_values.now a.work.now
 
-abbrev temperature : tie.After-first-fault → Temperature
+abbrev temperature : tie.After-first_fault-fault → Temperature
 temperature c = let a = (at-start (at-decode c)).args in heated a.offset a.scale
 
-abbrev decoded : tie.After-first-fault → Tables
+abbrev decoded : tie.After-first_fault-fault → Tables
 decoded c =
-    let (_, (blocks, (rl, (rv, (ul, (uv, (ll, (lv, (leaves, (work, _)))))))))) = (at-decode c).decode-scalar-grid.new in
-    tables blocks rl rv ul uv ll lv leaves work
+    let n = (at-decode c).decode_scalar_grid-d.new in
+    tables n.blocks n.root_links n.root_values n.upper_links n.upper_values n.lower_links n.lower_values n.leaf_values n.work
 
 abbrev cleared : tie.After-clear → Tables
 cleared c =
-    let (blocks, (rl, (rv, (ul, (uv, (ll, (lv, (leaves, (work, _))))))))) = c.clear.new in
-    tables blocks rl rv ul uv ll lv leaves work
+    let n = c.clear.new in
+    tables n.blocks n.root_links n.root_values n.upper_links n.upper_values n.lower_links n.lower_values n.leaf_values n.work
 
 -- ---- what is known there
-decode-keeps : (c : tie.After-first-fault) → Kept (lent c) (decoded c)
+decode-keeps : (c : tie.After-first_fault-fault) → Kept (lent c) (decoded c)
 decode-keeps c =
-    let (_, (blocks, (rl, (rv, (ul, (uv, (ll, (lv, (leaves, (work, _)))))))))) = (at-decode c).decode-scalar-grid.auto in
+    let k = (at-decode c).decode_scalar_grid-d.auto in
     record {
-      blocks = blocks;
-      root_links = rl;
-      root_values = rv;
-      upper_links = ul;
-      upper_values = uv;
-      lower_links = ll;
-      lower_values = lv;
-      leaf_values = leaves;
-      work = work;
+      blocks = k.blocks;
+      root_links = k.root_links;
+      root_values = k.root_values;
+      upper_links = k.upper_links;
+      upper_values = k.upper_values;
+      lower_links = k.lower_links;
+      lower_values = k.lower_values;
+      leaf_values = k.leaf_values;
+      work = k.work;
     }
 
 clear-keeps : (c : tie.After-clear) → Kept (lent (at-fault c).before) (cleared c)
 clear-keeps c =
-    let (blocks, (rl, (rv, (ul, (uv, (ll, (lv, (leaves, (work, _))))))))) = c.clear.auto in
+    let k = c.clear.auto in
     kept_on {u = decoded (at-fault c).before} (decode-keeps (at-fault c).before) (record {
-      blocks = blocks;
-      root_links = rl;
-      root_values = rv;
-      upper_links = ul;
-      upper_values = uv;
-      lower_links = ll;
-      lower_values = lv;
-      leaf_values = leaves;
-      work = work;
+      blocks = k.blocks;
+      root_links = k.root_links;
+      root_values = k.root_values;
+      upper_links = k.upper_links;
+      upper_values = k.upper_values;
+      lower_links = k.lower_links;
+      lower_values = k.lower_values;
+      leaf_values = k.leaf_values;
+      work = k.work;
     })
 
 -- tables of zeros of the lengths that were lent
@@ -79,7 +79,7 @@ zeros-are : (c : tie.After-clear) → cleared c ≡ zeros (lengths (lent (at-fau
 zeros-are c = c.clear.ensures ∙ ap zeros (same {t = lent (at-fault c).before} {u = decoded (at-fault c).before} (decode-keeps (at-fault c).before))
 
 -- ---- the ways out
-returns : tie.Need-returns
+returns : tie.Need-returns-then-fault-ne0
 returns c =
     let z = at_clear c in
     let q = at-fault z in
@@ -88,13 +88,13 @@ returns c =
     let b = (at-start d).args.bytes.now in
     let t = temperature f in
     let l = lengths (lent f) in
-    let is = d.decode-scalar-grid.ensures.0 in
-    let h = f.before.heat-fault.ensures in (
-      load_refused b t l is f.first-fault.ensures h q.if1.true c.refused.ensures,
-      left_refused b t l is f.first-fault.ensures h q.if1.true (zeros-are z),
+    let is = d.decode_scalar_grid-d.ensures.0 in
+    let h = f.before.heat_fault.ensures in (
+      load_refused b t l is f.first_fault-fault.ensures h q.if-fault-ne0.true c.refused.ensures,
+      left_refused b t l is f.first_fault-fault.ensures h q.if-fault-ne0.true (zeros-are z),
     )
 
-returns-2 : tie.Need-returns-2
+returns-2 : tie.Need-returns
 returns-2 c =
     let p = c.before in
     let f = p.before in
@@ -102,14 +102,14 @@ returns-2 c =
     let b = (at-start d).args.bytes.now in
     let t = temperature f in
     let l = lengths (lent f) in
-    let is = d.decode-scalar-grid.ensures.0 in
-    let h = f.before.heat-fault.ensures in (
-      load_accepted b t l is f.first-fault.ensures h p.if1.false c.accepted.ensures,
-      left_accepted b t l is f.first-fault.ensures h p.if1.false d.decode-scalar-grid.ensures.1,
+    let is = d.decode_scalar_grid-d.ensures.0 in
+    let h = f.before.heat_fault.ensures in (
+      load_accepted b t l is f.first_fault-fault.ensures h p.if-fault-ne0.false c.accepted.ensures,
+      left_accepted b t l is f.first_fault-fault.ensures h p.if-fault-ne0.false d.decode_scalar_grid-d.ensures.1,
     )
 
-pub load-temperature-spec : {M : Type 1} → statement M
-load-temperature-spec =
+pub load_temperature_spec : {M : Type 1} → statement M
+load_temperature_spec =
     tie.close
     (tie.spec
     (λ c κs. search rules)

@@ -16,5 +16,5 @@ returns c = λ i. record {
   temperature = record { present = false; offset = zero_literal binary32 i; scale = zero_literal binary32 i };
 }
 
-pub refused-spec : {M : Type 1} → statement M
-refused-spec = tie.close (tie.spec returns)
+pub refused_spec : {M : Type 1} → statement M
+refused_spec = tie.close (tie.spec returns)

@@ -9,19 +9,19 @@ use Rattle.smokegrid.proofs.Counting.{five, words_back}
 use Rattle.smokegrid.proofs.counted.put_read.Statement.{statement}
 use Rattle.smokegrid.proofs.counted.put_read.Tie as tie
 
-slice-write-counts : tie.Need-slice-write-counts
+slice-write-counts : tie.Need-bounds-counts-0
 slice-write-counts c = omega (arith, size _ 5 0 c.requires)
 
-slice-write-counts-2 : tie.Need-slice-write-counts-2
+slice-write-counts-2 : tie.Need-bounds-counts-1
 slice-write-counts-2 c = simp length-set (omega (arith, size _ 5 0 c.requires))
 
-slice-write-counts-3 : tie.Need-slice-write-counts-3
+slice-write-counts-3 : tie.Need-bounds-counts-2
 slice-write-counts-3 c = simp length-set (omega (arith, size _ 5 0 c.requires))
 
-slice-write-counts-4 : tie.Need-slice-write-counts-4
+slice-write-counts-4 : tie.Need-bounds-counts-3
 slice-write-counts-4 c = simp length-set (omega (arith, size _ 5 0 c.requires))
 
-slice-write-counts-5 : tie.Need-slice-write-counts-5
+slice-write-counts-5 : tie.Need-bounds-counts-4
 slice-write-counts-5 c = simp length-set (omega (arith, size _ 5 0 c.requires))
 
 -- a word is below 2^64
@@ -32,8 +32,8 @@ returns : tie.Need-returns
 returns c = five _ _ _ _ _ _ c.requires
     ∙ words_back c.args.c.roots c.args.c.upper c.args.c.lower c.args.c.high c.args.c.low (low_fits c)
 
-pub put-read-spec : {M : Type 1} → statement M
-put-read-spec =
+pub put_read_spec : {M : Type 1} → statement M
+put_read_spec =
     tie.close
     (tie.spec
     slice-write-counts

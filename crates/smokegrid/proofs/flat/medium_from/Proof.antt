@@ -11,10 +11,10 @@ use Rattle.smokegrid.proofs.flat.medium_from.Statement.{statement}
 use Rattle.smokegrid.proofs.flat.medium_from.Tie as tie
 
 -- ---- places: the start, and the six corners that were read, from the last back
-abbrev at-start : tie.After-t21 → tie.Start
+abbrev at-start : tie.After-index_low-1 → tie.Start
 at-start c = c.before.before.before.before.before.before.before.before.before
 
-abbrev at-corners : tie.After-make-medium → tie.After-t232
+abbrev at-corners : tie.After-make_medium → tie.After-index_high-3-1
 at-corners c = c.before.before.before.before.before.before.before.before.before.before.before.before.before.before.before.before
 
 returns : tie.Need-returns
@@ -25,22 +25,22 @@ returns c =
     let lx = lz.before.before in
     let a = (at-start lx).args in
     let m = medium_from a.m.now a.c.now a.n.now in
-    c.make-medium.ensures
+    c.make_medium.ensures
     ∙ (λ i. make_medium m.low m.high
     (record {
-      x = seen (get_or a.c.now 0 (pos 0)) lx.t21.given i;
-      y = seen (get_or a.c.now 1 (pos 0)) lz.before.t23.given i;
-      z = seen (get_or a.c.now 2 (pos 0)) lz.t25.given i;
+      x = seen (get_or a.c.now 0 (pos 0)) lx.index_low-1.given i;
+      y = seen (get_or a.c.now 1 (pos 0)) lz.before.index_low-2-1.given i;
+      z = seen (get_or a.c.now 2 (pos 0)) lz.index_low-3-1.given i;
     })
     (record {
-      x = seen (get_or a.c.now 3 (pos 0)) hx.t212.given i;
-      y = seen (get_or a.c.now 4 (pos 0)) hz.before.t252.given i;
-      z = seen (get_or a.c.now 5 (pos 0)) hz.t232.given i;
+      x = seen (get_or a.c.now 3 (pos 0)) hx.index_high-1.given i;
+      y = seen (get_or a.c.now 4 (pos 0)) hz.before.index_high-2-1.given i;
+      z = seen (get_or a.c.now 5 (pos 0)) hz.index_high-3-1.given i;
     })
     m.map m.translation m.cells)
 
-pub medium-from-spec : {M : Type 1} → statement M
-medium-from-spec =
+pub medium_from_spec : {M : Type 1} → statement M
+medium_from_spec =
     tie.close
     (tie.spec
     (λ c. omega arith)

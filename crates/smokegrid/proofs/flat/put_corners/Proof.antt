@@ -8,22 +8,22 @@ use Rattle.smokegrid.proofs.flat.put_corners.Statement.{statement}
 use Rattle.smokegrid.proofs.flat.put_corners.Tie as tie
 
 -- ---- the start, from each store
-abbrev start-1 : tie.After-to → tie.Start
+abbrev start-1 : tie.After-to-1 → tie.Start
 start-1 c = c.before
 
-abbrev start-2 : tie.After-to2 → tie.Start
+abbrev start-2 : tie.After-to-2-1 → tie.Start
 start-2 c = start-1 c.before
 
-abbrev start-3 : tie.After-to3 → tie.Start
+abbrev start-3 : tie.After-to-3-1 → tie.Start
 start-3 c = start-2 c.before
 
-abbrev start-4 : tie.After-to4 → tie.Start
+abbrev start-4 : tie.After-to-4-1 → tie.Start
 start-4 c = start-3 c.before
 
-abbrev start-5 : tie.After-to5 → tie.Start
+abbrev start-5 : tie.After-to-5-1 → tie.Start
 start-5 c = start-4 c.before
 
-abbrev start-6 : tie.After-to6 → tie.Start
+abbrev start-6 : tie.After-to-6-1 → tie.Start
 start-6 c = start-5 c.before
 
 returns : tie.Need-returns
@@ -33,11 +33,11 @@ returns c =
     let m = (start-6 c).args.t2 in
     six_signed _ (get_or m.index_low 0 (pos 0)) (get_or m.index_low 1 (pos 0)) (get_or m.index_low 2 (pos 0))
     (get_or m.index_high 0 (pos 0)) (get_or m.index_high 1 (pos 0)) (get_or m.index_high 2 (pos 0))
-    second.before.to.given second.to2.given fourth.before.to3.given fourth.to4.given c.before.to5.given
-    c.to6.given (start-6 c).requires
+    second.before.to-1.given second.to-2-1.given fourth.before.to-3-1.given fourth.to-4-1.given c.before.to-5-1.given
+    c.to-6-1.given (start-6 c).requires
 
-pub put-corners-spec : {M : Type 1} → statement M
-put-corners-spec =
+pub put_corners_spec : {M : Type 1} → statement M
+put_corners_spec =
     tie.close
     (tie.spec
     (λ c. search rules)

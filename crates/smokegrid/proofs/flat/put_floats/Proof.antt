@@ -5,14 +5,14 @@ use borrow.Author.Rules.{rules}
 use Rattle.smokegrid.proofs.flat.put_floats.Statement.{statement}
 use Rattle.smokegrid.proofs.flat.put_floats.Tie as tie
 
-slice-write-to-2 : tie.Need-slice-write-to-2
+slice-write-to-2 : tie.Need-bounds-to-at-2
 slice-write-to-2 c = simp length-set (omega arith)
 
-slice-write-to-3 : tie.Need-slice-write-to-3
+slice-write-to-3 : tie.Need-bounds-to-at-3
 slice-write-to-3 c = simp length-set (omega arith)
 
-pub put-floats-spec : {M : Type 1} → statement M
-put-floats-spec =
+pub put_floats_spec : {M : Type 1} → statement M
+put_floats_spec =
     tie.close
     (tie.spec
     (λ c. omega arith)

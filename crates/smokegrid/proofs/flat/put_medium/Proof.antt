@@ -9,47 +9,47 @@ use Rattle.smokegrid.proofs.flat.put_medium.Statement.{statement}
 use Rattle.smokegrid.proofs.flat.put_medium.Tie as tie
 
 -- ---- places: each call, and the one before it
-abbrev at-start : tie.After-put-floats-arg4 → tie.Start
+abbrev at-start : tie.After-put_floats-arg-4-1 → tie.Start
 at-start c = c.before.before.before.before.before
 
-abbrev at_1 : tie.After-put-floats-arg8 → tie.After-put-floats
+abbrev at_1 : tie.After-put_floats-arg-8-1 → tie.After-put_floats
 at_1 c = c.before.before.before.before.before.before
 
-abbrev at-2 : tie.After-put-floats-arg12 → tie.After-put-floats2
+abbrev at-2 : tie.After-put_floats-arg-12-1 → tie.After-put_floats-2
 at-2 c = c.before.before.before.before.before.before
 
-abbrev at-3 : tie.After-put-floats-arg16 → tie.After-put-floats3
+abbrev at-3 : tie.After-put_floats-arg-16-1 → tie.After-put_floats-3
 at-3 c = c.before.before.before.before.before.before
 
-abbrev at-4 : tie.After-put-floats-arg20 → tie.After-put-floats4
+abbrev at-4 : tie.After-put_floats-arg-20-1 → tie.After-put_floats-4
 at-4 c = c.before.before.before.before.before.before
 
-abbrev at_5 : tie.After-put-floats-arg24 → tie.After-put-floats5
+abbrev at_5 : tie.After-put_floats-arg-24-1 → tie.After-put_floats-5
 at_5 c = c.before.before.before.before.before.before
 
-abbrev at-6 : tie.After-slice-known7 → tie.After-put-floats6
+abbrev at-6 : tie.After-slice_known-7-1 → tie.After-put_floats-6
 at-6 c = c.before.before
 
 -- ---- the array keeps its eighteen places
-long-1 : (c : tie.After-put-floats) → length c.put-floats.new.0 ≡ 18
-long-1 c = c.put-floats.auto.0 ∙ size _ 18 +0 (at-start c.before).requires
+long-1 : (c : tie.After-put_floats) → length c.put_floats.new.0 ≡ 18
+long-1 c = c.put_floats.auto.0 ∙ size _ 18 +0 (at-start c.before).requires
 
-long-2 : (c : tie.After-put-floats2) → length c.put-floats2.new.0 ≡ 18
-long-2 c = c.put-floats2.auto.0 ∙ long-1 (at_1 c.before)
+long-2 : (c : tie.After-put_floats-2) → length c.put_floats-2.new.0 ≡ 18
+long-2 c = c.put_floats-2.auto.0 ∙ long-1 (at_1 c.before)
 
-long-3 : (c : tie.After-put-floats3) → length c.put-floats3.new.0 ≡ 18
-long-3 c = c.put-floats3.auto.0 ∙ long-2 (at-2 c.before)
+long-3 : (c : tie.After-put_floats-3) → length c.put_floats-3.new.0 ≡ 18
+long-3 c = c.put_floats-3.auto.0 ∙ long-2 (at-2 c.before)
 
-long-4 : (c : tie.After-put-floats4) → length c.put-floats4.new.0 ≡ 18
-long-4 c = c.put-floats4.auto.0 ∙ long-3 (at-3 c.before)
+long-4 : (c : tie.After-put_floats-4) → length c.put_floats-4.new.0 ≡ 18
+long-4 c = c.put_floats-4.auto.0 ∙ long-3 (at-3 c.before)
 
-long-5 : (c : tie.After-put-floats5) → length c.put-floats5.new.0 ≡ 18
-long-5 c = c.put-floats5.auto.0 ∙ long-4 (at-4 c.before)
+long-5 : (c : tie.After-put_floats-5) → length c.put_floats-5.new.0 ≡ 18
+long-5 c = c.put_floats-5.auto.0 ∙ long-4 (at-4 c.before)
 
-long-6 : (c : tie.After-put-floats6) → length c.put-floats6.new.0 ≡ 18
-long-6 c = c.put-floats6.auto.0 ∙ long-5 (at_5 c.before)
+long-6 : (c : tie.After-put_floats-6) → length c.put_floats-6.new.0 ≡ 18
+long-6 c = c.put_floats-6.auto.0 ∙ long-5 (at_5 c.before)
 
-same_length : tie.Need-same-length
+same_length : tie.Need-shape_of-to
 same_length c =
     let first = at_1 (at-2 (at-3 (at-4 (at_5 (at-6 c).before).before).before).before).before in
     long-6 (at-6 c) ∙ sym (size _ 18 +0 (at-start first.before).requires)
@@ -63,11 +63,11 @@ returns c =
     let third = at-3 fourth.before in
     let second = at-2 third.before in
     let first = at_1 second.before in
-    eighteen (at-start first.before).requires first.put-floats.ensures second.put-floats2.ensures third.put-floats3.ensures
-    fourth.put-floats4.ensures fifth.put-floats5.ensures sixth.put-floats6.ensures
+    eighteen (at-start first.before).requires first.put_floats.ensures second.put_floats-2.ensures third.put_floats-3.ensures
+    fourth.put_floats-4.ensures fifth.put_floats-5.ensures sixth.put_floats-6.ensures
 
-pub put-medium-spec : {M : Type 1} → statement M
-put-medium-spec =
+pub put_medium_spec : {M : Type 1} → statement M
+put_medium_spec =
     tie.close
     (tie.spec
     (λ c. search rules)

@@ -16,14 +16,14 @@ held c = to_z-of_z w32 c.args.n c.ranges.n
 sign : (c : tie.Start) → lt_z c.args.n (pos 0) ≡ lt_z (to_z w32 (of_z w32 c.args.n)) (pos 0)
 sign c = ap (λ (z : ℤ). lt_z z (pos 0)) (sym (held c))
 
-returns : tie.Need-returns
-returns c = none_below c.before.args.n (sign c.before ∙ c.if1.true)
+returns : tie.Need-returns-then-n-lt0
+returns c = none_below c.before.args.n (sign c.before ∙ c.if-n-lt0.true)
 
-cast-result : tie.Need-overflow-cast-result
-cast-result c = unsigned c.before.ranges.n (not_below c.before.args.n (sign c.before ∙ c.if1.false))
+cast-result : tie.Need-overflow_cast-result
+cast-result c = unsigned c.before.ranges.n (not_below c.before.args.n (sign c.before ∙ c.if-n-lt0.false))
 
-returns-2 : tie.Need-returns-2
-returns-2 c = ap nat_abs (held c.before) ∙ count_is c.before.args.n (not_below c.before.args.n (sign c.before ∙ c.if1.false))
+returns-2 : tie.Need-returns
+returns-2 c = ap nat_abs (held c.before) ∙ count_is c.before.args.n (not_below c.before.args.n (sign c.before ∙ c.if-n-lt0.false))
 
-pub count-of-spec : {M : Type 1} → statement M
-count-of-spec = tie.close (tie.spec returns cast-result returns-2)
+pub count_of_spec : {M : Type 1} → statement M
+count_of_spec = tie.close (tie.spec returns cast-result returns-2)

@@ -9,31 +9,31 @@ use Rattle.smokegrid.proofs.ray.put_numbers.Statement.{statement}
 use Rattle.smokegrid.proofs.ray.put_numbers.Tie as tie
 
 -- ---- the start, from each store
-abbrev start-1 : tie.After-to → tie.Start
+abbrev start-1 : tie.After-to-1 → tie.Start
 start-1 c = c.before
 
-abbrev start-2 : tie.After-to2 → tie.Start
+abbrev start-2 : tie.After-to-2-1 → tie.Start
 start-2 c = start-1 c.before
 
-abbrev start-3 : tie.After-to3 → tie.Start
+abbrev start-3 : tie.After-to-3-1 → tie.Start
 start-3 c = start-2 c.before
 
-abbrev start-4 : tie.After-to4 → tie.Start
+abbrev start-4 : tie.After-to-4-1 → tie.Start
 start-4 c = start-3 c.before
 
-abbrev start-5 : tie.After-to5 → tie.Start
+abbrev start-5 : tie.After-to-5-1 → tie.Start
 start-5 c = start-4 c.before
 
-abbrev start-6 : tie.After-to6 → tie.Start
+abbrev start-6 : tie.After-to-6-1 → tie.Start
 start-6 c = start-5 c.before
 
-abbrev start-7 : tie.After-to7 → tie.Start
+abbrev start-7 : tie.After-to-7-1 → tie.Start
 start-7 c = start-6 c.before
 
-abbrev start-8 : tie.After-to8 → tie.Start
+abbrev start-8 : tie.After-to-8-1 → tie.Start
 start-8 c = start-7 c.before
 
-abbrev start-9 : tie.After-to9 → tie.Start
+abbrev start-9 : tie.After-to-9-1 → tie.Start
 start-9 c = start-8 c.before
 
 returns : tie.Need-returns
@@ -45,12 +45,12 @@ returns c =
     nine _ (get_or r.step 0 (pos 0)) (get_or r.step 1 (pos 0)) (get_or r.step 2 (pos 0))
     (get_or r.cell 0 (pos 0)) (get_or r.cell 1 (pos 0)) (get_or r.cell 2 (pos 0))
     (get_or r.cells 0 0) (get_or r.cells 1 0) (get_or r.cells 2 0)
-    third.before.before.to.given third.before.to2.given third.to3.given
-    sixth.before.before.to4.given sixth.before.to5.given sixth.to6.given
+    third.before.before.to-1.given third.before.to-2-1.given third.to-3-1.given
+    sixth.before.before.to-4-1.given sixth.before.to-5-1.given sixth.to-6-1.given
     s.requires.1.0 s.requires.1.1.0 s.requires.1.1.1 s.requires.0
 
-pub put-numbers-spec : {M : Type 1} → statement M
-put-numbers-spec =
+pub put_numbers_spec : {M : Type 1} → statement M
+put_numbers_spec =
     tie.close
     (tie.spec
     (λ c. search rules)

@@ -9,29 +9,29 @@ use Rattle.smokegrid.proofs.ray.put_times.Statement.{statement}
 use Rattle.smokegrid.proofs.ray.put_times.Tie as tie
 
 -- ---- the start, from each store
-abbrev start-1 : tie.After-to → tie.Start
+abbrev start-1 : tie.After-to-1 → tie.Start
 start-1 c = c.before
 
-abbrev start-2 : tie.After-to2 → tie.Start
+abbrev start-2 : tie.After-to-2-1 → tie.Start
 start-2 c = start-1 c.before
 
-abbrev start-3 : tie.After-to3 → tie.Start
+abbrev start-3 : tie.After-to-3-1 → tie.Start
 start-3 c = start-2 c.before
 
-abbrev start-4 : tie.After-to4 → tie.Start
+abbrev start-4 : tie.After-to-4-1 → tie.Start
 start-4 c = start-3 c.before
 
-abbrev start-5 : tie.After-to5 → tie.Start
+abbrev start-5 : tie.After-to-5-1 → tie.Start
 start-5 c = start-4 c.before
 
-abbrev start-6 : tie.After-to6 → tie.Start
+abbrev start-6 : tie.After-to-6-1 → tie.Start
 start-6 c = start-5 c.before
 
 returns : tie.Need-returns
 returns c = eight _ +0 _ _ _ _ _ _ _ _ (start-6 c).requires
 
-pub put-times-spec : {M : Type 1} → statement M
-put-times-spec =
+pub put_times_spec : {M : Type 1} → statement M
+put_times_spec =
     tie.close
     (tie.spec
     (λ c. omega (arith, size _ 8 +0 c.requires))

@@ -12,10 +12,10 @@ use Rattle.smokegrid.proofs.ray.ray_from.Statement.{statement}
 use Rattle.smokegrid.proofs.ray.ray_from.Tie as tie
 
 -- ---- places: the start, and the six numbers with a sign that were read, from the last back
-abbrev at-start : tie.After-t22 → tie.Start
+abbrev at-start : tie.After-result-1 → tie.Start
 at-start c = c.before.before.before.before.before.before.before.before.before.before
 
-abbrev at-numbers : tie.After-count-of3 → tie.After-t33
+abbrev at-numbers : tie.After-count_of-3 → tie.After-result-6-1
 at-numbers c = c.before.before.before.before.before.before
 
 returns : tie.Need-returns
@@ -26,39 +26,39 @@ returns c =
     let sx = sz.before.before in
     let a = (at-start sx).args in
     let n = a.n.now in
-    let z = c.count-of3.ensures ∙ ap count_of (seen (get_or n 8 (pos 0)) c.before.count-of-arg3.given) in
+    let z = c.count_of-3.ensures ∙ ap count_of (seen (get_or n 8 (pos 0)) c.before.count_of-arg-3-1.given) in
     let second = c.before.before in
-    let y = second.count-of2.ensures ∙ ap count_of (seen (get_or n 7 (pos 0)) second.before.count-of-arg2.given) in
+    let y = second.count_of-2.ensures ∙ ap count_of (seen (get_or n 7 (pos 0)) second.before.count_of-arg-2-1.given) in
     let first = second.before.before in
-    let x = first.count_of.ensures ∙ ap count_of (seen (get_or n 6 (pos 0)) first.before.count-of-arg.given) in
+    let x = first.count_of.ensures ∙ ap count_of (seen (get_or n 6 (pos 0)) first.before.count_of-arg-1.given) in
     λ i. record {
       t_min = get_or a.t.now 0 nan;
       t_max = get_or a.t.now 1 nan;
       x = record {
         next = get_or a.t.now 2 nan;
         delta = get_or a.t.now 5 nan;
-        step = seen (get_or n 0 (pos 0)) sx.t22.given i;
-        cell = seen (get_or n 3 (pos 0)) cx.t29.given i;
+        step = seen (get_or n 0 (pos 0)) sx.result-1.given i;
+        cell = seen (get_or n 3 (pos 0)) cx.result-4-1.given i;
         cells = x i;
       };
       y = record {
         next = get_or a.t.now 3 nan;
         delta = get_or a.t.now 6 nan;
-        step = seen (get_or n 1 (pos 0)) sz.before.t24.given i;
-        cell = seen (get_or n 4 (pos 0)) cz.before.t31.given i;
+        step = seen (get_or n 1 (pos 0)) sz.before.result-2-1.given i;
+        cell = seen (get_or n 4 (pos 0)) cz.before.result-5-1.given i;
         cells = y i;
       };
       z = record {
         next = get_or a.t.now 4 nan;
         delta = get_or a.t.now 7 nan;
-        step = seen (get_or n 2 (pos 0)) sz.t26.given i;
-        cell = seen (get_or n 5 (pos 0)) cz.t33.given i;
+        step = seen (get_or n 2 (pos 0)) sz.result-3-1.given i;
+        cell = seen (get_or n 5 (pos 0)) cz.result-6-1.given i;
         cells = z i;
       };
     }
 
-pub ray-from-spec : {M : Type 1} → statement M
-ray-from-spec =
+pub ray_from_spec : {M : Type 1} → statement M
+ray_from_spec =
     tie.close
     (tie.spec
     (λ c. omega arith)

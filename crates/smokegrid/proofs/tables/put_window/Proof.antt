@@ -9,8 +9,8 @@ use Rattle.smokegrid.proofs.tables.put_window.Tie as tie
 returns : tie.Need-returns
 returns c = six _ 0 _ _ _ _ _ _ c.requires
 
-pub put-window-spec : {M : Type 1} → statement M
-put-window-spec =
+pub put_window_spec : {M : Type 1} → statement M
+put_window_spec =
     tie.close
     (tie.spec
     (λ c. omega (arith, size _ 6 0 c.requires))
