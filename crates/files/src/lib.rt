@@ -1,5 +1,6 @@
 // A grid out of a .nvdb file: the decode of its part into lent tables.
 #![tactic(auto)]
+
 ghost use Rattle.std.specs.Prelude.{◌≡◌};
 ghost use Rattle.nanovdb.specs.Decode.{decode_density};
 ghost use Rattle.nanovdb.specs.Lent.{tables, lengths, answer_of, left_of};

@@ -6,21 +6,21 @@ use Rattle.files.proofs.decode_grid_of_file.Statement.{statement}
 use Rattle.files.proofs.decode_grid_of_file.Tie as tie
 
 -- ---- places: the three calls, and the start
-abbrev at-decode : tie.After-first-fault → tie.After-decode-density-grid
+abbrev at-decode : tie.After-first_fault → tie.After-decode_density_grid-d
 at-decode c = c.before.before.before.before.before.before.before.before.before.before.before.before.before.before.before.before.before.before.before
 
-abbrev at_part : tie.After-decode-density-grid → tie.After-part
+abbrev at_part : tie.After-decode_density_grid-d → tie.After-part-part
 at_part c = c.before.before.before.before.before.before.before.before.before.before
 
-abbrev at-start : tie.After-grid-part → tie.Start
+abbrev at-start : tie.After-grid_part-found → tie.Start
 at-start c = c.before.before.before.before.before.before.before.before.before.before
 
 -- the tables as they are lent
 abbrev lent : tie.Start → Tables
 lent c =
     let a = c.args in
-    tables a.blocks.now a.root-links.now a.root-values.now a.upper-links.now a.upper-values.now a.lower-links.now
-    a.lower-values.now a.leaf-values.now a.work.now
+    tables a.blocks.now a.root_links.now a.root_values.now a.upper_links.now a.upper_values.now a.lower_links.now
+    a.lower_values.now a.leaf_values.now a.work.now
 
 returns : tie.Need-returns
 returns c =
@@ -29,13 +29,13 @@ returns c =
     let s = at-start p.before in
     let b = s.args.file.now in
     let n = s.args.n in
-    let e = d.decode-density-grid.ensures in (
-      answered b n (lengths (lent s)) p.part.ensures p.before.grid-part.ensures e.0 c.first-fault.ensures,
-      left b n (lengths (lent s)) p.part.ensures e.1,
+    let e = d.decode_density_grid-d.ensures in (
+      answered b n (lengths (lent s)) p.part-part.ensures p.before.grid_part-found.ensures e.0 c.first_fault.ensures,
+      left b n (lengths (lent s)) p.part-part.ensures e.1,
     )
 
-pub decode-grid-of-file-spec : {M : Type 1} → statement M
-decode-grid-of-file-spec =
+pub decode_grid_of_file_spec : {M : Type 1} → statement M
+decode_grid_of_file_spec =
     tie.close
     (tie.spec
     (λ c κs. search rules)

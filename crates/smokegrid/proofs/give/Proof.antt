@@ -11,7 +11,7 @@ use Rattle.smokegrid.proofs.give.Tie as tie
 
 returns-2 : tie.Need-returns-in-Refused
 returns-2 c =
-    let e = ap outcome (sym c.before.found-in-Refused-1.given.1) in
+    let e = ap outcome (sym c.in-Refused.is) in
     (ap number_of e, zero_literal binary32 ∙ ap (value_or +0) e)
 
 pub give_spec : {M : Type 1} → statement M

@@ -18,12 +18,12 @@ level_in r = level_number (value_or unspoken r).level
 
 returns : tie.Need-returns-in-Value
 returns c =
-    let e = ap heard (sym c.before.before.found-1.given.1) in
+    let e = ap heard (sym c.in-Value.is) in
     (ap number_of e, (ap value_in e, c.level_number.ensures ∙ ap level_in e))
 
 returns-2 : tie.Need-returns-in-Refused
 returns-2 c =
-    let e = ap heard (sym c.before.found-in-Refused-1.given.1) in
+    let e = ap heard (sym c.in-Refused.is) in
     (ap number_of e, (zero_literal binary32 ∙ ap value_in e, ap level_in e))
 
 pub give_reading_spec : {M : Type 1} → statement M

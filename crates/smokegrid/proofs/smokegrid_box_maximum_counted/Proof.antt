@@ -22,13 +22,13 @@ abbrev at-zeros : tie.After-slice_known-2-1 → tie.After-zero_u64
 at-zeros c = c.before.before
 
 abbrev at_value : tie.After-put_read-arg-1 → tie.After-box_maximum_counted
-at_value c = c.before.before.before.before
+at_value c = c.before.before
 
-abbrev at_c : tie.After-put_read-arg-1 → tie.In-Value-2
-at_c c = c.before.before
+abbrev at_c : tie.After-put_read-arg-1 → tie.In-Value
+at_c c = c.before
 
 abbrev at-number : tie.In-Refused → tie.After-box_maximum_counted
-at-number c = c.before.before.before
+at-number c = c.before
 
 abbrev start : tie.After-box_maximum_counted → tie.Start
 start c = at-start (at-zeros c.before.before)
@@ -47,7 +47,7 @@ places c = length c.args.counts.now
 
 -- ---- what is known there: five places, and the answer, whose corners were handed on as they are
 five_long : (c : tie.After-box_maximum_counted) → places (start c) ≡ 5
-five_long c = sym (at-zeros c.before.before).zero_u64.auto.0 ∙ c.before.if-counts-ne5.false
+five_long c = sym (at-zeros c.before.before).zero_u64.auto.words ∙ c.before.if-counts-ne5.false
 
 outcome-is : (c : tie.After-box_maximum_counted) → counted_outcome c.box_maximum_counted.result ≡ public_counted (grid (start c)) (corners (start c))
 outcome-is c =
@@ -67,7 +67,7 @@ returns : tie.Need-returns-then-counts-ne5
 returns c =
     let z = at-zeros c.before in
     let s = at-start z in
-    other_length (grid s) (corners s) (places s) (ne_eqb (places s) 5 (λ e. c.if-counts-ne5.true (z.zero_u64.kept.0 ∙ e))) z.zero_u64.ensures
+    other_length (grid s) (corners s) (places s) (ne_eqb (places s) 5 (λ e. c.if-counts-ne5.true (z.zero_u64.auto.words ∙ e))) z.zero_u64.ensures
 
 returns-2 : tie.Need-returns-in-Value
 returns-2 c =
@@ -75,14 +75,14 @@ returns-2 c =
     let m = at_value r.before in
     let s = start m in
     answered (grid s) (corners s) (places s) (eq-eqb (places s) 5 (five_long m))
-    (ap counted_outcome (sym (at_c r.before).c-1.given.1) ∙ outcome-is m) r.put_read.ensures
+    (ap counted_outcome (sym c.in-Value.is) ∙ outcome-is m) r.put_read.ensures
 
 returns-3 : tie.Need-returns-in-Refused
 returns-3 c =
     let m = at-number c in
     let s = start m in
     stopped (grid s) (corners s) (places s) (eq-eqb (places s) 5 (five_long m))
-    (ap counted_outcome (sym c.before.number-1.given.1) ∙ outcome-is m) (at-zeros m.before.before).zero_u64.ensures
+    (ap counted_outcome (sym c.in-Refused.is) ∙ outcome-is m) (at-zeros m.before.before).zero_u64.ensures
 
 pub smokegrid_box_maximum_counted_spec : {M : Type 1} → statement M
 smokegrid_box_maximum_counted_spec =

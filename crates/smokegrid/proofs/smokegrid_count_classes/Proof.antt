@@ -50,7 +50,7 @@ places c = length c.args.counts.now
 
 -- 17 places
 long : (c : tie.After-count_classes-r) → places (start c) ≡ 17
-long c = sym (at-zeros c.before.before).zero_u64.auto.0 ∙ c.before.if-counts-ne17.false
+long c = sym (at-zeros c.before.before).zero_u64.auto.words ∙ c.before.if-counts-ne17.false
 
 -- what `count_classes` answers, whose corners were handed on as they are
 answers : (c : tie.After-count_classes-r) →
@@ -69,7 +69,7 @@ returns : tie.Need-returns-then-counts-ne17
 returns c =
     let z = at-zeros c.before in
     let s = at-start z in
-    other_length (grid s) s.args.limits.now (corners s) (places s) (ne_eqb (places s) 17 (λ e. c.if-counts-ne17.true (z.zero_u64.kept.0 ∙ e)))
+    other_length (grid s) s.args.limits.now (corners s) (places s) (ne_eqb (places s) 17 (λ e. c.if-counts-ne17.true (z.zero_u64.auto.words ∙ e)))
     z.zero_u64.ensures
 
 returns-2 : tie.Need-returns
@@ -79,7 +79,7 @@ returns-2 c =
     let s = start m in
     let a = answers m in
     counted (grid s) s.args.limits.now (corners s) (places s) (eq-eqb (places s) 17 (long m)) a.0 a.1
-    (p.put_classes.auto.0 ∙ (at-zeros m.before.before).zero_u64.auto.0) p.put_classes.ensures
+    (p.put_classes.auto.counts ∙ (at-zeros m.before.before).zero_u64.auto.words) p.put_classes.ensures
 
 pub smokegrid_count_classes_spec : {M : Type 1} → statement M
 smokegrid_count_classes_spec =

@@ -53,10 +53,10 @@ abbrev corners-at : tie.After-put_three → tie.After-put_corners
 corners-at c = at-put-corners c.before
 
 abbrev medium-at : tie.After-put_three → tie.After-put_medium
-medium-at c = at-put-medium (corners-at c).before
+medium-at c = at-put-medium (corners-at c).before.before
 
 abbrev counts-at : tie.After-put_three → tie.After-put_counts
-counts-at c = at-put-counts (medium-at c).before
+counts-at c = at-put-counts (medium-at c).before.before
 
 abbrev decode-at : tie.After-put_three → tie.After-decode_density_grid-d
 decode-at c = at-decode (counts-at c).before
@@ -71,8 +71,8 @@ start c = at-start (at-counts (at-medium (at-corners (at_cells c))))
 abbrev lent : tie.After-flat_fault-fault → Tables
 lent c =
     let a = (start c).args in
-    tables a.blocks.now a.root_links-1.now a.root_values-1.now a.upper_links-1.now a.upper_values-1.now
-    a.lower_links-1.now a.lower_values-1.now a.leaf_values-1.now a.work.now
+    tables a.blocks.now a.root_links.now a.root_values.now a.upper_links.now a.upper_values.now
+    a.lower_links.now a.lower_values.now a.leaf_values.now a.work.now
 
 abbrev handed : tie.After-flat_fault-fault → Handed
 handed c =
@@ -91,43 +91,43 @@ handed c =
 -- ---- the tables as each call leaves them
 abbrev cleared : tie.After-clear → Tables
 cleared c =
-    let (blocks, (rl, (rv, (ul, (uv, (ll, (lv, (leaves, (work, _))))))))) = c.clear.new in
-    tables blocks rl rv ul uv ll lv leaves work
+    let n = c.clear.new in
+    tables n.blocks n.root_links n.root_values n.upper_links n.upper_values n.lower_links n.lower_values n.leaf_values n.work
 
 abbrev decoded : tie.After-decode_density_grid-d → Tables
 decoded c =
-    let (_, (blocks, (rl, (rv, (ul, (uv, (ll, (lv, (leaves, (work, _)))))))))) = c.decode_density_grid-d.new in
-    tables blocks rl rv ul uv ll lv leaves work
+    let n = c.decode_density_grid-d.new in
+    tables n.blocks n.root_links n.root_values n.upper_links n.upper_values n.lower_links n.lower_values n.leaf_values n.work
 
 -- ---- what is known there
 clear-keeps : (c : tie.After-clear) → Kept (lent (at-fault c).before) (cleared c)
 clear-keeps c =
-    let (blocks, (rl, (rv, (ul, (uv, (ll, (lv, (leaves, (work, _))))))))) = c.clear.auto in
+    let k = c.clear.auto in
     record {
-      blocks = blocks;
-      root_links = rl;
-      root_values = rv;
-      upper_links = ul;
-      upper_values = uv;
-      lower_links = ll;
-      lower_values = lv;
-      leaf_values = leaves;
-      work = work;
+      blocks = k.blocks;
+      root_links = k.root_links;
+      root_values = k.root_values;
+      upper_links = k.upper_links;
+      upper_values = k.upper_values;
+      lower_links = k.lower_links;
+      lower_values = k.lower_values;
+      leaf_values = k.leaf_values;
+      work = k.work;
     }
 
 decode-keeps : (c : tie.After-decode_density_grid-d) → Kept (lent (at-pass c).before) (decoded c)
 decode-keeps c =
-    let (_, (blocks, (rl, (rv, (ul, (uv, (ll, (lv, (leaves, (work, _)))))))))) = c.decode_density_grid-d.auto in
+    let k = c.decode_density_grid-d.auto in
     record {
-      blocks = blocks;
-      root_links = rl;
-      root_values = rv;
-      upper_links = ul;
-      upper_values = uv;
-      lower_links = ll;
-      lower_values = lv;
-      leaf_values = leaves;
-      work = work;
+      blocks = k.blocks;
+      root_links = k.root_links;
+      root_values = k.root_values;
+      upper_links = k.upper_links;
+      upper_values = k.upper_values;
+      lower_links = k.lower_links;
+      lower_values = k.lower_values;
+      leaf_values = k.leaf_values;
+      work = k.work;
     }
 
 -- the fills keep the lengths, so `flat_fault` answers for the arrays as they were handed over
@@ -137,10 +137,10 @@ fault-is c =
     let corners = at-corners cells in
     let medium = at-medium corners in
     c.flat_fault-fault.ensures ∙ (λ i. flat_fault (record {
-      counts = (at-counts medium).zero_u64.kept.0 i;
-      medium = medium.zero_f32.kept.0 i;
-      corners = corners.zero_i32.kept.0 i;
-      cells = cells.zero_u32.kept.0 i;
+      counts = (at-counts medium).zero_u64.auto.words i;
+      medium = medium.zero_f32.auto.values i;
+      corners = corners.zero_i32.auto.numbers i;
+      cells = cells.zero_u32.auto.links i;
     }))
 
 fits : (c : tie.Else-fault-ne0) → fault_of (handed c.before) ≡ 0
@@ -154,17 +154,17 @@ put-counts-requires c κs =
 
 put-medium-requires : tie.Need-put_medium-requires
 put-medium-requires c κs =
-    let pass = at-pass (at-decode (at-put-counts c).before) in
+    let pass = at-pass (at-decode (at-put-counts c.before).before) in
     zero_medium (handed pass.before) (fits pass) (at-medium (at-corners (at_cells pass.before))).zero_f32.ensures
 
 put-corners-requires : tie.Need-put_corners-requires
 put-corners-requires c κs =
-    let pass = at-pass (at-decode (at-put-counts (at-put-medium c).before).before) in
+    let pass = at-pass (at-decode (at-put-counts (at-put-medium c.before).before.before).before) in
     zero_corners (handed pass.before) (fits pass) (at-corners (at_cells pass.before)).zero_i32.ensures
 
 put-three-requires : tie.Need-put_three-requires
 put-three-requires c κs =
-    let pass = at-pass (at-decode (at-put-counts (at-put-medium (at-put-corners c).before).before).before) in
+    let pass = at-pass (at-decode (at-put-counts (at-put-medium (at-put-corners c).before.before).before.before).before) in
     zero_cells (handed pass.before) (fits pass) (at_cells pass.before).zero_u32.ensures
 
 -- ---- the ways out: a flat array of another length, and the decode's answer
@@ -194,16 +194,16 @@ abbrev zeros-at : tie.After-put_three → tie.After-zero_u32
 zeros-at c = at_cells (at-pass (decode-at c)).before
 
 counts_same : tie.Need-shape_of-counts
-counts_same c = let put = put-at c in (counts-at put).put_counts.kept.0 ∙ (at-counts (at-medium (at-corners (zeros-at put)))).zero_u64.auto.0
+counts_same c = let put = put-at c in (counts-at put).put_counts.auto.counts ∙ (at-counts (at-medium (at-corners (zeros-at put)))).zero_u64.auto.words
 
 medium-same : tie.Need-shape_of-medium
-medium-same c = let put = put-at c in (medium-at put).put_medium.kept.0 ∙ (at-medium (at-corners (zeros-at put))).zero_f32.auto.0
+medium-same c = let put = put-at c in (medium-at put).put_medium.auto.to ∙ (at-medium (at-corners (zeros-at put))).zero_f32.auto.values
 
 corners-same : tie.Need-shape_of-corners
-corners-same c = let put = put-at c in (corners-at put).put_corners.kept.0 ∙ (at-corners (zeros-at put)).zero_i32.auto.0
+corners-same c = let put = put-at c in (corners-at put).put_corners.auto.to ∙ (at-corners (zeros-at put)).zero_i32.auto.numbers
 
 cells_same : tie.Need-shape_of-cells
-cells_same c = let put = put-at c in put.put_three.kept.0 ∙ (zeros-at put).zero_u32.kept.0
+cells_same c = let put = put-at c in put.put_three.auto.to ∙ (zeros-at put).zero_u32.auto.links
 
 pub smokegrid_decode_density_grid_spec : {M : Type 1} → statement M
 smokegrid_decode_density_grid_spec =
@@ -224,10 +224,10 @@ smokegrid_decode_density_grid_spec =
     (λ c. (clear-keeps (at_clear c)).lower_values)
     (λ c. (clear-keeps (at_clear c)).leaf_values)
     (λ c. (clear-keeps (at_clear c)).work)
-    (λ c. (at-counts (at-medium (at-corners (fills-at c)))).zero_u64.auto.0)
-    (λ c. (at-medium (at-corners (fills-at c))).zero_f32.auto.0)
-    (λ c. (at-corners (fills-at c)).zero_i32.auto.0)
-    (λ c. (fills-at c).zero_u32.auto.0)
+    (λ c. (at-counts (at-medium (at-corners (fills-at c)))).zero_u64.auto.words)
+    (λ c. (at-medium (at-corners (fills-at c))).zero_f32.auto.values)
+    (λ c. (at-corners (fills-at c)).zero_i32.auto.numbers)
+    (λ c. (fills-at c).zero_u32.auto.links)
     returns
     (λ c κs. search rules)
     put-counts-requires

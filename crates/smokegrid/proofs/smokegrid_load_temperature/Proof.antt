@@ -40,8 +40,8 @@ at-put c = c.before.before
 abbrev lent : tie.After-zero_u64 → Tables
 lent c =
     let a = (at-start c).args in
-    tables a.blocks.now a.root_links-1.now a.root_values-1.now a.upper_links-1.now a.upper_values-1.now
-    a.lower_links-1.now a.lower_values-1.now a.leaf_values-1.now a.work.now
+    tables a.blocks.now a.root_links.now a.root_values.now a.upper_links.now a.upper_values.now
+    a.lower_links.now a.lower_values.now a.leaf_values.now a.work.now
 
 abbrev handed : tie.After-zero_u64 → HeatHanded
 handed c =
@@ -51,48 +51,48 @@ handed c =
 -- ---- the tables as each call leaves them
 abbrev cleared : tie.After-clear → Tables
 cleared c =
-    let (blocks, (rl, (rv, (ul, (uv, (ll, (lv, (leaves, (work, _))))))))) = c.clear.new in
-    tables blocks rl rv ul uv ll lv leaves work
+    let n = c.clear.new in
+    tables n.blocks n.root_links n.root_values n.upper_links n.upper_values n.lower_links n.lower_values n.leaf_values n.work
 
 abbrev loaded : tie.After-load_temperature-a → Tables
 loaded c =
-    let (_, (_, (_, (blocks, (rl, (rv, (ul, (uv, (ll, (lv, (leaves, (work, _)))))))))))) = c.load_temperature-a.new in
-    tables blocks rl rv ul uv ll lv leaves work
+    let n = c.load_temperature-a.new in
+    tables n.blocks n.root_links n.root_values n.upper_links n.upper_values n.lower_links n.lower_values n.leaf_values n.work
 
 -- ---- what is known there
 clear-keeps : (c : tie.After-clear) → Kept (lent (at-counts (at-fault c))) (cleared c)
 clear-keeps c =
-    let (blocks, (rl, (rv, (ul, (uv, (ll, (lv, (leaves, (work, _))))))))) = c.clear.auto in
+    let k = c.clear.auto in
     record {
-      blocks = blocks;
-      root_links = rl;
-      root_values = rv;
-      upper_links = ul;
-      upper_values = uv;
-      lower_links = ll;
-      lower_values = lv;
-      leaf_values = leaves;
-      work = work;
+      blocks = k.blocks;
+      root_links = k.root_links;
+      root_values = k.root_values;
+      upper_links = k.upper_links;
+      upper_values = k.upper_values;
+      lower_links = k.lower_links;
+      lower_values = k.lower_values;
+      leaf_values = k.leaf_values;
+      work = k.work;
     }
 
 load-keeps : (c : tie.After-load_temperature-a) → Kept (lent (at-counts₂ (at-pass c))) (loaded c)
 load-keeps c =
-    let (_, (_, (_, (blocks, (rl, (rv, (ul, (uv, (ll, (lv, (leaves, (work, _)))))))))))) = c.load_temperature-a.auto in
+    let k = c.load_temperature-a.auto in
     record {
-      blocks = blocks;
-      root_links = rl;
-      root_values = rv;
-      upper_links = ul;
-      upper_values = uv;
-      lower_links = ll;
-      lower_values = lv;
-      leaf_values = leaves;
-      work = work;
+      blocks = k.blocks;
+      root_links = k.root_links;
+      root_values = k.root_values;
+      upper_links = k.upper_links;
+      upper_values = k.upper_values;
+      lower_links = k.lower_links;
+      lower_values = k.lower_values;
+      leaf_values = k.leaf_values;
+      work = k.work;
     }
 
 -- the fill keeps the length, so the test is of the counts as they were handed over
 four : (c : tie.Else-counts-ne4) → (handed (at-counts₂ c)).counts ≡ 4
-four c = sym (at-counts₂ c).zero_u64.auto.0 ∙ c.if-counts-ne4.false
+four c = sym (at-counts₂ c).zero_u64.auto.words ∙ c.if-counts-ne4.false
 
 -- ---- the calls
 put-four-requires : tie.Need-put_four-requires
@@ -106,7 +106,7 @@ returns c =
     let clear = at_clear c in
     let fault = at-fault clear in
     let counts = at-counts fault in
-    heat_sized (handed counts) (λ e. fault.if-counts-ne4.true (counts.zero_u64.kept.0 ∙ e)) clear.clear.ensures counts.zero_u64.ensures
+    heat_sized (handed counts) (λ e. fault.if-counts-ne4.true (counts.zero_u64.auto.words ∙ e)) clear.clear.ensures counts.zero_u64.ensures
     (zero_literal binary32)
 
 returns-2 : tie.Need-returns
@@ -121,7 +121,7 @@ returns-2 c =
 counts_same : tie.Need-shape_of-counts
 counts_same c =
     let put = at-put c in
-    put.put_four.kept.0 ∙ (at-counts₂ (at-pass (at_load put.before))).zero_u64.auto.0
+    put.put_four.auto.counts ∙ (at-counts₂ (at-pass (at_load put.before))).zero_u64.auto.words
 
 abbrev load_at : tie.After-slice_known-19-1 → tie.After-load_temperature-a
 load_at c = at_load (at-put c).before
@@ -141,7 +141,7 @@ smokegrid_load_temperature_spec =
     (λ c. (clear-keeps (at_clear c)).lower_values)
     (λ c. (clear-keeps (at_clear c)).leaf_values)
     (λ c. (clear-keeps (at_clear c)).work)
-    (λ c. (at-counts (at-fault (at_clear c))).zero_u64.auto.0)
+    (λ c. (at-counts (at-fault (at_clear c))).zero_u64.auto.words)
     returns
     (λ c κs. search rules)
     put-four-requires

@@ -22,7 +22,7 @@ abbrev at-start : tie.After-ray_fault-fault → tie.Start
 at-start c = c.before.before.before
 
 abbrev at-lengths : tie.After-next_piece-s → tie.Else-fault-ne0
-at-lengths c = c.before.before.before.before
+at-lengths c = c.before.before
 
 abbrev at-times : tie.After-put_times-arg-1 → tie.After-zero_f32-2
 at-times c = c.before.before.before.before.before.before
@@ -34,10 +34,10 @@ abbrev at-unfit : tie.After-zero_i32 → tie.After-zero_f32
 at-unfit c = c.before.before.before.before
 
 abbrev at-zeros : tie.After-put_numbers-arg-1 → tie.After-put_times-arg-1
-at-zeros c = c.before.before.before.before
+at-zeros c = c.before.before.before.before.before
 
 abbrev at-put : tie.After-one_if → tie.After-put_numbers-arg-1
-at-put c = c.before.before.before
+at-put c = c.before.before.before.before
 
 -- ---- values: what is handed over
 abbrev times : tie.After-next_piece-s → List Float
@@ -67,21 +67,21 @@ few c =
 
 times-requires : tie.Need-put_times-requires
 times-requires c κs =
-    let z = at-times c in
+    let z = at-times c.before in
     z.zero_f32-2.ensures ∙ ap (λ (n : ℕ). replicate n +0) (lengths (at_piece z)).times_is
 
 numbers-requires : tie.Need-put_numbers-requires
 numbers-requires c κs =
-    let z = at-zeros c in
+    let z = at-zeros c.before in
     let p = at_piece (at-times z) in
     let w = few p in
     (z.before.before.zero_i32-2.ensures ∙ ap (λ (n : ℕ). replicate n (pos 0)) (lengths p).numbers_is, (w.x, (w.y, w.z)))
 
 times-same : tie.Need-shape_of-ray_times
-times-same c = let z = at-zeros (at-put c) in (at-put c).before.before.before.put_times.auto.0 ∙ (at-times z).zero_f32-2.kept.0
+times-same c = let z = at-zeros (at-put c) in (at-put c).before.before.before.put_times.auto.to ∙ (at-times z).zero_f32-2.auto.values
 
 numbers-same : tie.Need-shape_of-ray_cells
-numbers-same c = let z = at-zeros (at-put c) in c.before.before.put_numbers.auto.0 ∙ z.before.before.zero_i32-2.kept.0
+numbers-same c = let z = at-zeros (at-put c) in c.before.before.put_numbers.auto.to ∙ z.before.before.zero_i32-2.auto.numbers
 
 -- ---- the ways out
 lengths_out : tie.Need-returns-then-fault-ne0
@@ -110,7 +110,7 @@ smokegrid_ray_next_spec =
     (λ c. search rules)
     (λ c. search rules)
     lengths_out
-    (λ c κs. let z = sized _ _ (fits c.before.before) in (z.times_is, z.numbers_is))
+    (λ c κs. let z = sized _ _ (fits c) in (z.times_is, z.numbers_is))
     (λ c κs. search rules)
     (λ c κs. search rules)
     (λ c κs. search rules)

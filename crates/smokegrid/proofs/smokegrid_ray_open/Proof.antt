@@ -33,7 +33,7 @@ abbrev at-lengths : tie.After-open_ray-o → tie.Else-fault-ne0
 at-lengths c = c.before.before.before
 
 abbrev at_open : tie.After-put_numbers-arg-1 → tie.After-open_ray-o
-at_open c = c.before.before.before.before.before
+at_open c = c.before.before.before.before.before.before
 
 abbrev start : tie.After-zero_i32 → tie.Start
 start z = at-start (at-times z)
@@ -55,11 +55,11 @@ abbrev asked : tie.After-open_ray-o → Beam
 asked c = let a = (start (zeros c)).args in beam a.ox a.oy a.oz a.dx a.dy a.dz a.t_min a.t_max
 
 -- ---- facts: the lengths, the answer, and the numbers of cells in it
-times-len : (z : tie.After-zero_i32) → length (at-times z).zero_f32.new.0 ≡ length (start z).args.ray_times.now
-times-len z = (at-times z).zero_f32.auto.0
+times-len : (z : tie.After-zero_i32) → length (at-times z).zero_f32.new.values ≡ length (start z).args.ray_times.now
+times-len z = (at-times z).zero_f32.auto.values
 
-numbers-len : (z : tie.After-zero_i32) → length z.zero_i32.new.0 ≡ length (start z).args.ray_cells.now
-numbers-len z = z.zero_i32.auto.0
+numbers-len : (z : tie.After-zero_i32) → length z.zero_i32.new.numbers ≡ length (start z).args.ray_cells.now
+numbers-len z = z.zero_i32.auto.numbers
 
 fault-is : (c : tie.After-ray_fault-fault) → c.ray_fault-fault.result
     ≡ ray_fault (length (start (at-zeros c)).args.ray_times.now) (length (start (at-zeros c)).args.ray_cells.now)
@@ -79,20 +79,20 @@ few c =
 
 times-requires : tie.Need-put_times-requires
 times-requires c κs =
-    let o = c.before in
+    let o = c.before.before in
     (at-times (zeros o)).zero_f32.ensures ∙ ap (λ (n : ℕ). replicate n +0) (lengths (at-lengths o)).times_is
 
 numbers-requires : tie.Need-put_numbers-requires
 numbers-requires c κs =
-    let o = at_open c in
+    let o = at_open c.before in
     let w = few o in
     ((zeros o).zero_i32.ensures ∙ ap (λ (n : ℕ). replicate n (pos 0)) (lengths (at-lengths o)).numbers_is, (w.x, (w.y, w.z)))
 
 times-same : tie.Need-shape_of-ray_times
-times-same c = let p = c.before.before in p.before.before.before.put_times.auto.0 ∙ times-len (zeros (at_open p))
+times-same c = let p = c.before.before in p.before.before.before.put_times.auto.to ∙ times-len (zeros (at_open p.before))
 
 numbers-same : tie.Need-shape_of-ray_cells
-numbers-same c = let p = c.before.before in c.before.put_numbers.auto.0 ∙ numbers-len (zeros (at_open p))
+numbers-same c = let p = c.before.before in c.before.put_numbers.auto.to ∙ numbers-len (zeros (at_open p.before))
 
 -- ---- the ways out
 medium-out : tie.Need-returns-then-medium-ne18
@@ -110,7 +110,7 @@ state-out c =
 opened_out : tie.Need-returns
 opened_out c =
     let p = c.before.before in
-    let o = at_open p in
+    let o = at_open p.before in
     let e = at-lengths o in
     open_fit (medium o) (cells o) (asked o) (length (table o)) _ _ e.before.before.before.if-medium-ne18.false e.before.before.if-cells-ne3.false (lengths e)
     (answered o) p.before.before.before.put_times.ensures c.before.put_numbers.ensures

@@ -40,7 +40,7 @@ places c = length (at-start (at-zeros c)).args.window.now
 
 -- ---- what is known there: the test is of these lengths
 tested : (c : tie.After-both) → c.both.result ≡ sized (numbers c) (places c)
-tested c = c.both.ensures ∙ ap (λ (n : ℕ). eqb (length (numbers c)) 3 && eqb n 6) (at-zeros c).zero_u32.auto.0
+tested c = c.both.ensures ∙ ap (λ (n : ℕ). eqb (length (numbers c)) 3 && eqb n 6) (at-zeros c).zero_u32.auto.links
 
 fits : (c : tie.Else-not-both) → sized (numbers c.before) (places c.before) ≡ true
 fits c = sym (tested c.before) ∙ c.if-not-both.false
@@ -50,7 +50,7 @@ three c = numbers_long (numbers c.before) (places c.before) (fits c)
 
 put-window-requires : tie.Need-put_window-requires
 put-window-requires c κs =
-    let p = at-sized (at_open c).before in
+    let p = at-sized (at_open c.before).before in
     (at-zeros p.before).zero_u32.ensures ∙ ap (λ (n : ℕ). replicate n 0) (window_long (numbers p.before) (places p.before) (fits p))
 
 -- ---- the ways out
@@ -65,8 +65,8 @@ returns c =
 returns-2 : tie.Need-returns
 returns-2 c =
     let p = c.before.before in
-    let o = at_open p.before in
-    open_taken (fits (at-sized o.before)) o.«open».ensures.0 o.«open».ensures.1 p.put_window.ensures
+    let o = at_open p.before.before in
+    open_taken (fits (at-sized o.before)) o.open-opened.ensures.0 o.open-opened.ensures.1 p.put_window.ensures
 
 pub smokegrid_window_open_spec : {M : Type 1} → statement M
 smokegrid_window_open_spec =

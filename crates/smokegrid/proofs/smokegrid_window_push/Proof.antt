@@ -19,7 +19,7 @@ abbrev at-start : tie.After-both → tie.Start
 at-start c = c.before.before.before.before.before.before
 
 abbrev at-sized : tie.After-window_from-before → tie.Else-not-both
-at-sized c = c.before.before
+at-sized c = c.before
 
 abbrev at-window : tie.After-push-pushed → tie.After-window_from-before
 at-window c = c.before.before.before.before.before.before
@@ -66,8 +66,8 @@ number c =
 
 state : (c : tie.After-push-pushed)
     → let b = (first c).before in
-    let (_, (_, (_, (_, (_, (m, (a, _))))))) = c.push-pushed.new in
-    state_of c.push-pushed.result.window m a ≡ push (state_from (before b)) (table_from (numbers b) (at-start b).args.majorants.now)
+    let n = c.push-pushed.new in
+    state_of c.push-pushed.result.window n.memory n.answer ≡ push (state_from (before b)) (table_from (numbers b) (at-start b).args.majorants.now)
 state c =
     let b = (first c).before in
     let t = table_from (numbers b) (at-start b).args.majorants.now in
@@ -76,7 +76,7 @@ state c =
 
 put-window-requires : tie.Need-put_window-requires
 put-window-requires c κs =
-    let z = at-zeros c in
+    let z = at-zeros c.before in
     z.zero_u32.ensures ∙ ap (λ (n : ℕ). replicate n 0) (six (first (at-taken (at_pushed z))))
 
 -- ---- the ways out
@@ -89,7 +89,7 @@ returns-2 c = let p = at-refused c in push_refused (fits (first p)) (number p) c
 returns-3 : tie.Need-returns
 returns-3 c =
     let w = c.before.before in
-    let e = at_pushed (at-zeros w.before) in
+    let e = at_pushed (at-zeros w.before.before) in
     let p = at-taken e in
     push_taken (fits (first p)) (number p) e.if-pushed-ne0.false (state p) w.put_window.ensures
 
@@ -99,7 +99,7 @@ smokegrid_window_push_spec =
     (tie.spec
     (λ c κs. search rules)
     returns
-    (λ c κs. six c.before)
+    (λ c κs. six c)
     (λ c. omega (arith, three (at-sized c.before))) (λ c. omega (arith, three (at-sized c.before.before)))
     (λ c. omega (arith, three (at-sized c.before.before.before)))
     (λ c κs. search rules)

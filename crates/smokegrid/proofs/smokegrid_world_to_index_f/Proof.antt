@@ -20,7 +20,7 @@ at-else c = c.before.before.before.before.before.before
 
 -- there are three words
 three : (c : tie.Else-index_bits-ne3) → length (at-start (at-zeros c.before)).args.index_bits.now ≡ 3
-three c = sym (at-zeros c.before).zero_u32.auto.0 ∙ c.if-index_bits-ne3.false
+three c = sym (at-zeros c.before).zero_u32.auto.links ∙ c.if-index_bits-ne3.false
 
 put-three-requires : tie.Need-put_three-requires
 put-three-requires c κs =
@@ -30,7 +30,7 @@ put-three-requires c κs =
 words_same : tie.Need-shape_of-index_bits
 words_same c =
     let p = c.before.before in
-    p.put_three.auto.0 ∙ (at-zeros (at-else p.before).before).zero_u32.auto.0
+    p.put_three.auto.to ∙ (at-zeros (at-else p.before).before).zero_u32.auto.links
 
 -- ---- the ways out
 medium-out : tie.Need-returns-then-medium-ne18
@@ -39,7 +39,7 @@ medium-out c = out_medium c.if-medium-ne18.true c.before.before.before.zero_u32.
 places-out : tie.Need-returns-then-index_bits-ne3
 places-out c =
     let z = at-zeros c.before in
-    out_places c.before.if-medium-ne18.false (λ e. c.if-index_bits-ne3.true (z.zero_u32.kept.0 ∙ e)) z.zero_u32.ensures
+    out_places c.before.if-medium-ne18.false (λ e. c.if-index_bits-ne3.true (z.zero_u32.auto.links ∙ e)) z.zero_u32.ensures
 
 position-out : tie.Need-returns
 position-out c =

@@ -22,7 +22,7 @@ place c = omega (arith, c.loop-i-test.true, c.before.loop-i.invariant.1, c.befor
 loop-again : tie.Need-loop-i-preserved invariant-loop decreases-loop
 loop-again c =
     let w = c.before.loop-i in
-    let a = c.before.before.args.t2 in
+    let a = c.before.before.args.c in
     let v = get_or a w.i 0 in (
       omega (arith, c.loop-i-test.true),
       length-set w.counts w.i v ∙ w.invariant.1,

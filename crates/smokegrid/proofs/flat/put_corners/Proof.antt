@@ -30,7 +30,7 @@ returns : tie.Need-returns
 returns c =
     let fourth = c.before.before in
     let second = fourth.before.before in
-    let m = (start-6 c).args.t2 in
+    let m = (start-6 c).args.m in
     six_signed _ (get_or m.index_low 0 (pos 0)) (get_or m.index_low 1 (pos 0)) (get_or m.index_low 2 (pos 0))
     (get_or m.index_high 0 (pos 0)) (get_or m.index_high 1 (pos 0)) (get_or m.index_high 2 (pos 0))
     second.before.to-1.given second.to-2-1.given fourth.before.to-3-1.given fourth.to-4-1.given c.before.to-5-1.given

@@ -31,23 +31,23 @@ abbrev at-6 : tie.After-slice_known-7-1 → tie.After-put_floats-6
 at-6 c = c.before.before
 
 -- ---- the array keeps its eighteen places
-long-1 : (c : tie.After-put_floats) → length c.put_floats.new.0 ≡ 18
-long-1 c = c.put_floats.auto.0 ∙ size _ 18 +0 (at-start c.before).requires
+long-1 : (c : tie.After-put_floats) → length c.put_floats.new.to ≡ 18
+long-1 c = c.put_floats.auto.to ∙ size _ 18 +0 (at-start c.before).requires
 
-long-2 : (c : tie.After-put_floats-2) → length c.put_floats-2.new.0 ≡ 18
-long-2 c = c.put_floats-2.auto.0 ∙ long-1 (at_1 c.before)
+long-2 : (c : tie.After-put_floats-2) → length c.put_floats-2.new.to ≡ 18
+long-2 c = c.put_floats-2.auto.to ∙ long-1 (at_1 c.before)
 
-long-3 : (c : tie.After-put_floats-3) → length c.put_floats-3.new.0 ≡ 18
-long-3 c = c.put_floats-3.auto.0 ∙ long-2 (at-2 c.before)
+long-3 : (c : tie.After-put_floats-3) → length c.put_floats-3.new.to ≡ 18
+long-3 c = c.put_floats-3.auto.to ∙ long-2 (at-2 c.before)
 
-long-4 : (c : tie.After-put_floats-4) → length c.put_floats-4.new.0 ≡ 18
-long-4 c = c.put_floats-4.auto.0 ∙ long-3 (at-3 c.before)
+long-4 : (c : tie.After-put_floats-4) → length c.put_floats-4.new.to ≡ 18
+long-4 c = c.put_floats-4.auto.to ∙ long-3 (at-3 c.before)
 
-long-5 : (c : tie.After-put_floats-5) → length c.put_floats-5.new.0 ≡ 18
-long-5 c = c.put_floats-5.auto.0 ∙ long-4 (at-4 c.before)
+long-5 : (c : tie.After-put_floats-5) → length c.put_floats-5.new.to ≡ 18
+long-5 c = c.put_floats-5.auto.to ∙ long-4 (at-4 c.before)
 
-long-6 : (c : tie.After-put_floats-6) → length c.put_floats-6.new.0 ≡ 18
-long-6 c = c.put_floats-6.auto.0 ∙ long-5 (at_5 c.before)
+long-6 : (c : tie.After-put_floats-6) → length c.put_floats-6.new.to ≡ 18
+long-6 c = c.put_floats-6.auto.to ∙ long-5 (at_5 c.before)
 
 same_length : tie.Need-shape_of-to
 same_length c =

@@ -41,7 +41,7 @@ returns c =
     let sixth = c.before.before.before in
     let third = sixth.before.before.before in
     let s = start-9 c in
-    let r = s.args.t2 in
+    let r = s.args.r in
     nine _ (get_or r.step 0 (pos 0)) (get_or r.step 1 (pos 0)) (get_or r.step 2 (pos 0))
     (get_or r.cell 0 (pos 0)) (get_or r.cell 1 (pos 0)) (get_or r.cell 2 (pos 0))
     (get_or r.cells 0 0) (get_or r.cells 1 0) (get_or r.cells 2 0)
