@@ -1,5 +1,5 @@
 -- How long the text of the classes can be, and that 65,536 bytes hold either text. Assumes nothing.
-use Rattle.std.specs.Prelude.{◌≡◌, refl, Bool, true, false, cond, List, [], ℕ, zero, suc, ◌+◌, ◌*◌, ◌^◌, ◌≤◌, ◌<◌, ℤ, eqb, leb, length, get_or}
+use Rattle.std.specs.Prelude.{◌≡◌, refl, Bool, true, false, cond, List, [], ℕ, ◌^◌, ◌≤◌, ◌<◌, ℤ, eqb, leb, length, get_or}
 use Rattle.std.proofs.Common.{sym, subst, mul-le-mul, arith, leb→le, eqb-true, le-leb}
 use Rattle.refusals.specs.Results.{Result, ok, refused}
 use Rattle.refusals.specs.Faults.{◌then◌, unless}
@@ -10,7 +10,7 @@ use Rattle.sparse_grid.specs.Count.{sum}
 use Rattle.nanovdb.specs.Decode.{Accepted, decode_density}
 use Rattle.nanovdb.specs.Lent.{Answer, answer_of, decode_into}
 use Rattle.boxes.specs.Boxes.{Box, span}
-use Rattle.walk.specs.Classes.{class_count, box_size, class_total, side_fault, sides_fault}
+use Rattle.walk.specs.Classes.{class_count, box_size, side_fault, sides_fault}
 use Rattle.walk.specs.ClassLaws.{class_size, total_size}
 use Rattle.report.specs.Report.{refused_line, long_line, lent, result_text, printed_of}
 use Rattle.report.specs.ClassReport.{class_word, total_word, limits, index_box, class_line, class_lines, total_line, count_lines, class_text}

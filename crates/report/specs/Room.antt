@@ -1,10 +1,10 @@
 -- How long the text can be: 65,536 bytes hold it. Assumes nothing.
 use Rattle.std.specs.Prelude.{◌≡◌, refl, Bool, true, false, cond, List, ◌++◌, ℕ, zero, suc, ◌+◌, ◌-◌, ◌*◌, ◌/◌, ◌^◌, ◌≤◌, ◌<◌, ℤ, pos, negsuc, T, ltb, leb, length, get_or, Float}
-use Rattle.std.proofs.Common.{sym, subst, arith, leb→le, length-append, ltb-true, ltb-false, leb-true, le-leb}
+use Rattle.std.proofs.Common.{sym, subst, arith, leb→le, length-append, ltb-true, ltb-false, leb-true}
 use Rattle.std.specs.Int.Signed.{mag}
 use Rattle.std.specs.Float.{binary32}
 use Rattle.std.specs.Float.Ieee.{to_bits}
-use Rattle.refusals.specs.Results.{Result, ok, refused}
+use Rattle.refusals.specs.Results.{ok}
 use Rattle.refusals.specs.FaultLaws.{passing_ok}
 use Rattle.refusals.specs.TestLaws.{and_l}
 use Rattle.float.specs.Zero.{+0}

@@ -1,5 +1,6 @@
 // The text that says what a grid holds, or why it was refused (document 01, `gridreport`), and that of its classes (document 02, A9, `gridclasses`).
 #![tactic(auto)]
+
 ghost use Rattle.std.specs.Prelude.{◌≡◌, ◌++◌, ◌≤◌, min, length, take, drop};
 ghost use Rattle.decode.specs.Answers.{answer};
 ghost use Rattle.text.specs.Page.{page, puts};
