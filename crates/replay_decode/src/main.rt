@@ -351,10 +351,15 @@ fn count_one(yes: bool) -> u32
     if yes { 1 } else { 0 }
 }
 
+// Zeros for the bytes of a case.
+fn empty_bytes() -> [u8; 655360] {
+    [0; 655360]
+}
+
 fn replay(list: &mut Listing<'_>) -> Counted
     ensures { (result.differ ≤ 1) × (result.smoky ≤ 1) × (result.unbuilt ≤ 1) }
 {
-    let mut bytes = [0u8; 655360];
+    let mut bytes = empty_bytes();
     let length = read_word(list) as usize;
     let n = read_word(list);
     fill_bytes(list, n, &mut bytes);
