@@ -1,4 +1,4 @@
-//! Finds the static library: in SMOKEGRID_LIB_DIR, or where `rt staticlib smokegrid` leaves it.
+//! Finds the static library: in SMOKEGRID_LIB_DIR, or where `rust/library` leaves it.
 
 use std::env;
 use std::path::PathBuf;
@@ -15,7 +15,7 @@ fn main() {
     println!("cargo:rerun-if-changed={}", library.display());
     if !library.is_file() {
         eprintln!("{} is not there.", library.display());
-        eprintln!("Make it with `rt staticlib smokegrid` in the repository's root,");
+        eprintln!("Make it with `rust/library` in the repository's root,");
         eprintln!("or name the folder that holds {LIBRARY} in SMOKEGRID_LIB_DIR.");
         std::process::exit(1);
     }

@@ -1,4 +1,4 @@
-// The C interface (include/smokegrid.h). A slice passes as a pointer and a length, a `&mut f32` as a pointer; each function may be called with anything.
+// The functions of the C interface (include/smokegrid.h), which `smokegrid_c` exports. Each may be called with anything.
 #![tactic(auto)]
 
 ghost use Rattle.std.specs.Prelude.{◌≡◌, length};
@@ -94,8 +94,7 @@ fn give_reading(found: Reading, value: &mut f32, level: &mut u32) -> u32
 }
 
 // Decodes a density grid into the lent tables: 0, or the number of the refusal. Counts, background, medium and corners are written through their pointers.
-#[unsafe(no_mangle)]
-pub extern "C" fn smokegrid_decode_density_grid(
+pub fn smokegrid_decode_density_grid(
     bytes: &[u8],
     blocks: &mut [i32],
     root_links: &mut [u32],
@@ -178,8 +177,7 @@ pub extern "C" fn smokegrid_decode_density_grid(
 }
 
 // The number of the first fault, and 0 for none.
-#[unsafe(no_mangle)]
-pub extern "C" fn smokegrid_validate(
+pub fn smokegrid_validate(
     background: f32,
     blocks: &[i32],
     root_links: &[u32],
@@ -209,8 +207,7 @@ pub extern "C" fn smokegrid_validate(
 }
 
 // `smokegrid_validate`, and then 15 for a value below zero.
-#[unsafe(no_mangle)]
-pub extern "C" fn smokegrid_validate_density(
+pub fn smokegrid_validate_density(
     background: f32,
     blocks: &[i32],
     root_links: &[u32],
@@ -240,8 +237,7 @@ pub extern "C" fn smokegrid_validate_density(
 }
 
 // The value at a coordinate, through `value`, and 0; or the number of the refusal, and +0.0 for the value.
-#[unsafe(no_mangle)]
-pub extern "C" fn smokegrid_get_value(
+pub fn smokegrid_get_value(
     background: f32,
     blocks: &[i32],
     root_links: &[u32],
@@ -279,8 +275,7 @@ pub extern "C" fn smokegrid_get_value(
 }
 
 // The same with the level that spoke, through `level`: 0 background, 1 root tile, 2 upper tile, 3 lower tile, 4 leaf.
-#[unsafe(no_mangle)]
-pub extern "C" fn smokegrid_get_reading(
+pub fn smokegrid_get_reading(
     background: f32,
     blocks: &[i32],
     root_links: &[u32],
@@ -319,8 +314,7 @@ pub extern "C" fn smokegrid_get_reading(
 }
 
 // Loads a temperature grid into the lent tables: 0, or the number of the refusal. Counts and background are written through their pointers.
-#[unsafe(no_mangle)]
-pub extern "C" fn smokegrid_load_temperature(
+pub fn smokegrid_load_temperature(
     bytes: &[u8],
     offset: f32,
     scale: f32,
@@ -387,8 +381,7 @@ pub extern "C" fn smokegrid_load_temperature(
 
 // The bits of the temperature at a coordinate, through `value_bits`, and 0, also where `present` is 0 and there is no grid; or the number of the
 // refusal, and 0 for the bits.
-#[unsafe(no_mangle)]
-pub extern "C" fn smokegrid_get_temperature(
+pub fn smokegrid_get_temperature(
     present: u32,
     background: f32,
     blocks: &[i32],
@@ -436,8 +429,7 @@ pub extern "C" fn smokegrid_get_temperature(
 }
 
 // The greatest of +0.0 and the values of a box, ends included, through `value`, and 0; or the number of the refusal, and +0.0. The grid is validated first.
-#[unsafe(no_mangle)]
-pub extern "C" fn smokegrid_box_maximum(
+pub fn smokegrid_box_maximum(
     background: f32,
     blocks: &[i32],
     root_links: &[u32],
@@ -482,8 +474,7 @@ pub extern "C" fn smokegrid_box_maximum(
 
 // The box maximum, by the same walk, through `value`, what it read after `validate` into `counts` (root entries, upper entries, lower entries, and the
 // high and the low word of the leaf values), and 0; or the number of the refusal, and zeros: 18 first, for counts of another length than five.
-#[unsafe(no_mangle)]
-pub extern "C" fn smokegrid_box_maximum_counted(
+pub fn smokegrid_box_maximum_counted(
     background: f32,
     blocks: &[i32],
     root_links: &[u32],
@@ -540,8 +531,7 @@ pub extern "C" fn smokegrid_box_maximum_counted(
 
 // How many coordinates from the low corner to the high one lie in each class into `counts` (17, zero past the last class), and 0; or the number of the
 // refusal, and zeros: 18 first, for counts of another length than 17.
-#[unsafe(no_mangle)]
-pub extern "C" fn smokegrid_count_classes(
+pub fn smokegrid_count_classes(
     background: f32,
     blocks: &[i32],
     root_links: &[u32],
@@ -594,8 +584,7 @@ pub extern "C" fn smokegrid_count_classes(
 
 // The greatest of +0.0 and the values of each box of a list (six numbers a box, minima first) into `maxima`, the greatest of the list through `greatest`,
 // and 0; or the number of the refusal, and zeros. The grid is validated once.
-#[unsafe(no_mangle)]
-pub extern "C" fn smokegrid_box_maxima(
+pub fn smokegrid_box_maxima(
     background: f32,
     blocks: &[i32],
     root_links: &[u32],
@@ -631,8 +620,7 @@ pub extern "C" fn smokegrid_box_maxima(
 }
 
 // The index position of a world point, as the bits of three floats, and 0; or the number of the refusal, and zeros.
-#[unsafe(no_mangle)]
-pub extern "C" fn smokegrid_world_to_index_f(
+pub fn smokegrid_world_to_index_f(
     medium: &[f32],
     x: f32,
     y: f32,
@@ -658,8 +646,7 @@ pub extern "C" fn smokegrid_world_to_index_f(
 }
 
 // The density at a world point, mixed from the eight voxels around it, through `value`, and 0; or the number of the refusal, and +0.0.
-#[unsafe(no_mangle)]
-pub extern "C" fn smokegrid_mix(
+pub fn smokegrid_mix(
     background: f32,
     blocks: &[i32],
     root_links: &[u32],
@@ -704,8 +691,7 @@ pub extern "C" fn smokegrid_mix(
 }
 
 // The figures of the cells, and 0; or the number of the refusal, and a table of zeros.
-#[unsafe(no_mangle)]
-pub extern "C" fn smokegrid_build_majorant(
+pub fn smokegrid_build_majorant(
     background: f32,
     blocks: &[i32],
     root_links: &[u32],
@@ -764,24 +750,21 @@ fn give_part(found: Picked, start: &mut u64, length: &mut u64) -> u32
 }
 
 // The part of a file that holds grid n, counted from 0 through all segments, through `start` and `length`, and 0; or the number of the refusal, and zeros.
-#[unsafe(no_mangle)]
-pub extern "C" fn smokegrid_grid_part(file: &[u8], n: u64, start: &mut u64, length: &mut u64) -> u32
+pub fn smokegrid_grid_part(file: &[u8], n: u64, start: &mut u64, length: &mut u64) -> u32
     ensures { GivesPart (pick file.now n) result start.new length.new }
 {
     give_part(contents::grid_part(file, n as usize), start, length)
 }
 
 // The part that holds the name of grid n.
-#[unsafe(no_mangle)]
-pub extern "C" fn smokegrid_grid_name(file: &[u8], n: u64, start: &mut u64, length: &mut u64) -> u32
+pub fn smokegrid_grid_name(file: &[u8], n: u64, start: &mut u64, length: &mut u64) -> u32
     ensures { GivesPart (pick_name file.now n) result start.new length.new }
 {
     give_part(contents::name_part(file, n as usize), start, length)
 }
 
 // A ray from a point in a direction through a table, opened into its state, and 0; or the number of the refusal, and a state of zeros.
-#[unsafe(no_mangle)]
-pub extern "C" fn smokegrid_ray_open(
+pub fn smokegrid_ray_open(
     medium: &[f32],
     cells: &[u32],
     majorants: &[f32],
@@ -822,8 +805,7 @@ pub extern "C" fn smokegrid_ray_open(
 
 // The next piece of a ray: `more` is 1, and the piece and the figure of its cell stand behind the other pointers; or 0 and zeros at the ray's end. The
 // state is written anew; after a refusal it is zeros, and all else too.
-#[unsafe(no_mangle)]
-pub extern "C" fn smokegrid_ray_next(
+pub fn smokegrid_ray_next(
     majorants: &[f32],
     ray_times: &mut [f32],
     ray_cells: &mut [i32],
@@ -864,8 +846,7 @@ pub extern "C" fn smokegrid_ray_next(
 }
 
 // A layer of a table of cells as text, its length, and 0; or the number of the refusal, and zeros.
-#[unsafe(no_mangle)]
-pub extern "C" fn smokegrid_print_layer(
+pub fn smokegrid_print_layer(
     majorants: &[f32],
     cells: &[u32],
     layer: u32,
@@ -886,8 +867,7 @@ pub extern "C" fn smokegrid_print_layer(
 }
 
 // A window that holds no table yet, with memory and answer zeroed, and 0; or the number of the refusal, and zeros in all three.
-#[unsafe(no_mangle)]
-pub extern "C" fn smokegrid_window_open(
+pub fn smokegrid_window_open(
     w: u32,
     cells: &[u32],
     window: &mut [u32],
@@ -909,8 +889,7 @@ pub extern "C" fn smokegrid_window_open(
 }
 
 // One table more, the answer of the tables that are held, and 0; or the number of the refusal, and everything as it was.
-#[unsafe(no_mangle)]
-pub extern "C" fn smokegrid_window_push(
+pub fn smokegrid_window_push(
     majorants: &[f32],
     cells: &[u32],
     window: &mut [u32],

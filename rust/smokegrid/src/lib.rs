@@ -1,6 +1,6 @@
 //! A proved loader of NanoVDB density grids (ABI 32) and of the majorant cells built over them. The
-//! work is done by the static library that `rt staticlib smokegrid` makes; here stand the types. It
-//! is looked for in target/staticlib of the repository, or in the folder SMOKEGRID_LIB_DIR.
+//! work is done by the static library that `rust/library` makes; here stand the types. It is looked
+//! for in target/staticlib of the repository, or in the folder SMOKEGRID_LIB_DIR.
 //!
 //! ```no_run
 //! let bytes = std::fs::read("hall.grid")?;
