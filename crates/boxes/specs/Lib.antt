@@ -6,15 +6,3 @@ pub mod Cuts
 pub mod Most
 pub mod RangeMax
 pub mod Columns
--- Laws.
-pub mod Offsets
-pub mod Maximum
-pub mod Greatest
-pub mod MostLaws
-pub mod JoinedLaws
-pub mod ColumnLaws
-pub mod NodeCells
-pub mod RootReads
-pub mod CutLaws
--- Worked examples.
-pub mod CutExamples

@@ -5,7 +5,7 @@ use Prim.Native.Nat.{ℕ}
 use lib.Dec.{eqb}
 use borrow.Author.Tests.{eq-eqb, ne_eqb}
 use Rattle.refusals.specs.Faults.{unless}
-use Rattle.refusals.specs.FaultSteps.{then_next, then_stop}
+use Rattle.refusals.proofs.FaultSteps.{then_next, then_stop}
 use Rattle.refusals.specs.TestLaws.{and_same}
 use Rattle.cells.specs.Cells.{Cells, some_cells, cells_fault, cell_count, table_fault, table_length}
 use Rattle.cells.specs.Counted.{length_is}

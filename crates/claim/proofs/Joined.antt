@@ -18,24 +18,24 @@ use Rattle.medium.specs.Alike.{alike_same}
 use Rattle.nanovdb.specs.Decode.{Accepted, decode_density, medium_of}
 use Rattle.nanovdb.specs.Lent as Lent
 use Rattle.nanovdb.specs.Lent.{Lent, Tables, tables, places_of, decode_into, answer_of, left_of, Used, used_of}
-use Rattle.nanovdb.specs.Numbers as Numbers
-use Rattle.nanovdb.specs.Numbers.{Numbered, numbered, not_zero}
-use Rattle.nanovdb.specs.UsedLaws.{accepts, used_parts, used_room}
+use Rattle.nanovdb.proofs.Numbers as Numbers
+use Rattle.nanovdb.proofs.Numbers.{Numbered, numbered, not_zero}
+use Rattle.nanovdb.proofs.UsedLaws.{accepts, used_parts, used_room}
 use Rattle.index.specs.Found.{cell_at}
-use Rattle.index.specs.Enclosed as Cells
-use Rattle.index.specs.Enclosed.{cell_found, cell_encloses}
+use Rattle.index.proofs.Enclosed as Cells
+use Rattle.index.proofs.Enclosed.{cell_found, cell_encloses}
 use Rattle.boxes.specs.Boxes.{box_maximum}
-use Rattle.majorant.specs.Bounded.{built}
+use Rattle.majorant.proofs.Bounded.{built}
 use Rattle.majorant.specs.Build.{build_into}
-use Rattle.majorant.specs.Accepted as Built
+use Rattle.majorant.proofs.Accepted as Built
 use Rattle.claim.specs.Claim.{Inside, Bounds}
-use Rattle.claim.specs.Points.{fitting}
-use Rattle.claim.specs.Theorem.{demand3}
+use Rattle.claim.proofs.Points.{fitting}
+use Rattle.claim.proofs.Theorem.{demand3}
 use Rattle.claim.specs.Load as Load
 use Rattle.claim.specs.Load.{with_build, load, load_answer, Claimed, Loads}
 use Rattle.claim.specs.Ask.{Question, Answer, answer}
 use Rattle.claim.specs.Answered.{Figured, Answered, Asks}
-use Rattle.claim.specs.ContractLaws.{looked, same_medium, through_contracts}
+use Rattle.claim.proofs.ContractLaws.{looked, same_medium, through_contracts}
 use Rattle.claim.specs.Inner.{Small, build_in, seen_in, found_in}
 use Rattle.claim.specs.declared.Seen.{Seen}
 use Rattle.claim.specs.declared.Found.{Found}

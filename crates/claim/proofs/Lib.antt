@@ -1,1 +1,7 @@
 pub mod Joined
+pub mod Bench
+pub mod ContractLaws
+pub mod Lists
+pub mod MixTheorem
+pub mod Points
+pub mod Theorem

@@ -8,10 +8,3 @@ pub mod Answered
 pub mod Asked
 -- Definitions that only contracts within the crate cite.
 pub mod Inner
--- Laws.
-pub mod Points
-pub mod Theorem
-pub mod Lists
-pub mod ContractLaws
-pub mod MixTheorem
-pub mod Bench

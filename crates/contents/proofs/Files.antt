@@ -7,10 +7,10 @@ use lib.ListN.{length}
 use borrow.Author.Tests.{lt-ltb, le-ltb}
 use Rattle.refusals.specs.Results.{Result, ok, refused}
 use Rattle.refusals.specs.Faults.{◌then◌, passing}
-use Rattle.refusals.specs.FaultSteps.{then_next, then_stop, passing_stop}
+use Rattle.refusals.proofs.FaultSteps.{then_next, then_stop, passing_stop}
 use Rattle.contents.specs.Segments.{Grid, count, grid_at, segment_end, segment_fault}
 use Rattle.contents.specs.Contents.{segments_from, segments_fault, grid_of, file_fault, located}
-use Rattle.contents.specs.ContentsLaws.{segments_end, segments_step}
+use Rattle.contents.proofs.ContentsLaws.{segments_end, segments_step}
 use Rattle.contents.specs.declared.Search.{Search}
 use Rattle.contents.specs.declared.Search.TheVariants.{Left, Found}
 use Rattle.contents.specs.declared.segment.Grid as Code

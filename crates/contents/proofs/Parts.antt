@@ -7,7 +7,7 @@ use lib.ListN.{length, take, drop}
 use Rattle.refusals.specs.Results.{Result, ok, refused}
 use Rattle.contents.specs.Segments.{Part, part}
 use Rattle.contents.specs.Contents.{located, pick, pick_name, loaded}
-use Rattle.contents.specs.ContentsLaws.{pick_inside, pick_name_inside}
+use Rattle.contents.proofs.ContentsLaws.{pick_inside, pick_name_inside}
 use Rattle.contents.specs.declared.Located.{Located}
 use Rattle.contents.specs.declared.Located.TheVariants.{Refused, At}
 use Rattle.contents.specs.declared.Picked.{Picked}

@@ -4,7 +4,7 @@ use mathlib.Core.Bool.{Bool, true, false, ◌&&◌, true≢false}
 use Prim.Native.Nat.{ℕ, ◌+◌, ◌<◌}
 use native.Mathlib.Omega.{arith}
 use Rattle.refusals.specs.Faults.{unless, first_fault}
-use Rattle.refusals.specs.FaultSteps.{first_fault_next, first_fault_at}
+use Rattle.refusals.proofs.FaultSteps.{first_fault_next, first_fault_at}
 
 -- a program that goes on where its first test r passed
 pub goes_on_lem : (t y : Bool) {r x : Bool} → r ≡ t → r ≡ true → x ≡ y → x ≡ (t && y)

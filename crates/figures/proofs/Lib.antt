@@ -1,1 +1,4 @@
 pub mod Tested
+pub mod Examples
+pub mod FigureLaws
+pub mod Parts

@@ -9,7 +9,7 @@ use Rattle.contents.specs.declared.Picked.{Picked}
 use Rattle.nanovdb.specs.Decode.{decode_density}
 use Rattle.nanovdb.specs.Lent.{Lent, Answer, Tables, decode_into, answer_of, left_of}
 use Rattle.files.specs.OfFile.{decode_part}
-use Rattle.files.specs.Alone.{numbered, after, answer_of_file, left_of_file}
+use Rattle.files.proofs.Alone.{numbered, after, answer_of_file, left_of_file}
 
 module _ (b : List ℕ) (n : ℕ) (l : Lent) {part : List ℕ} (part_is : part ≡ loaded b (pick b n)) where
   pub answered : {found : Picked} {a : Answer} {number : ℕ} → found ≡ picked (pick b n) → a ≡ answer_of (decode_into decode_density part l)

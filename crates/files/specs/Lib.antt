@@ -1,7 +1,3 @@
 pub mod OfFile
 -- The claim.
 pub mod ThroughFile
--- Laws.
-pub mod Alone
--- Worked examples.
-pub mod Examples

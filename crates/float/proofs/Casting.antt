@@ -5,11 +5,11 @@ use lib.Signed.{mag}
 use lib.Ieee.{Float, nan, inf, fin, up, down, le, lt, eq, is_nan, to_signed}
 use lib.Ieee.Fits.{down_pos}
 use lib.Ieee.Casts.{to_signed_in}
-use Rattle.float.specs.Tests.{yes, clash}
-use Rattle.float.specs.Rising.{le→signed}
-use Rattle.float.specs.Ordered.{le_through, lt_through, not_lt→le, lt_le}
+use Rattle.float.proofs.Tests.{yes, clash}
+use Rattle.float.proofs.Rising.{le→signed}
+use Rattle.float.proofs.Ordered.{le_through, lt_through, not_lt→le, lt_le}
 use Rattle.float.specs.Saturated.{saturated}
-use Rattle.float.specs.SaturatedLaws.{saturated_is}
+use Rattle.float.proofs.SaturatedLaws.{saturated_is}
 use Rattle.float.proofs.Ranged.{quotient_le, neg_range}
 
 -- -2 ^ 31 and 2 ^ 31

@@ -6,9 +6,9 @@ use lib.Ieee.Fits.{down_pos}
 use lib.Ieee.Bits.{cond_no}
 use lib.Ieee.Exact.{HasValue, odd_sign}
 use lib.Ieee.Scale.{finite, round_same}
-use Rattle.float.specs.Tests.{decide}
+use Rattle.float.proofs.Tests.{decide}
 use Rattle.float.specs.Fused.{narrow}
-use Rattle.float.specs.Zeros.{round_none}
+use Rattle.float.proofs.Zeros.{round_none}
 use Rattle.float.specs.Fields.{field_of, digits_of, place_of}
 
 neq : (a b : ℕ) → a < b → T (not (eqb a b))

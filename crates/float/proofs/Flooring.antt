@@ -7,8 +7,8 @@ use lib.Ieee.Fits.{down_pos}
 use lib.Ieee.Exact.{HasValue}
 use lib.Ieee.Scale.{round_same}
 use Rattle.float.specs.Fused.{trunc, floor}
-use Rattle.float.specs.Sums.{sum_alike}
-use Rattle.float.specs.Exactly.{whole_value}
+use Rattle.float.proofs.Sums.{sum_alike}
+use Rattle.float.proofs.Exactly.{whole_value}
 
 -- n is the whole part of a / c
 up_then : (n a c : ℕ) → 0 < c → a / c ≡ n → n * c < a → (a + (c - 1)) / c ≡ suc n

@@ -6,7 +6,7 @@ use lib.Ieee.Exact.{HasValue}
 use Rattle.float.specs.Fused.{plus, fma}
 use Rattle.float.specs.Fields.{field_of, digits_of, place_of}
 use Rattle.float.proofs.Decode.{bits_value}
-use Rattle.float.specs.Sums.{sum_same}
+use Rattle.float.proofs.Sums.{sum_same}
 
 product : (X Y G L A B D E : ℕ) → X * L ≡ A * D → Y * L ≡ B * E → X * Y * G * (L * L) ≡ A * B * (D * E * G)
 product X Y G L A B D E p q =

@@ -5,8 +5,8 @@ use lib.Pow.{mod-mod-pow}
 use lib.Ieee.{Format, binary32, prec, size, round, sum}
 use lib.Ieee.Digits.{size-lt, size_reaches}
 use Rattle.float.specs.Shifts.{sticky, Raised}
-use Rattle.float.specs.Tests.{yes_or_no}
-use Rattle.float.specs.Sums.{sub_mul}
+use Rattle.float.proofs.Tests.{yes_or_no}
+use Rattle.float.proofs.Sums.{sub_mul}
 use Rattle.float.proofs.Sticky.{Sticky, Between, sticky_cut, sticky_add, sticky_sub, sticky_round}
 
 -- with the number of W's digits found

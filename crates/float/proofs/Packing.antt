@@ -8,8 +8,8 @@ use lib.Ieee.Fits.{round_is, two, reach, two-le_pos, kept-lt, nearest-le}
 use lib.Ieee.Exact.{HasValue, odd_sign}
 use lib.Ieee.Nearest.{closest, closest_same, nearest-ge}
 use lib.Ieee.Order.{drop, kept}
-use Rattle.float.specs.Exactly.{bits_at}
-use Rattle.float.specs.Tests.{yes_or_no}
+use Rattle.float.proofs.Exactly.{bits_at}
+use Rattle.float.proofs.Tests.{yes_or_no}
 
 -- ---- digits
 

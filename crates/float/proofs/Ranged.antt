@@ -6,8 +6,8 @@ use lib.Ieee.Bits.{is_true}
 use lib.Ieee.Scale.{finite}
 use Rattle.refusals.specs.Results.{ok, refused, need}
 use Rattle.float.specs.Coordinate.{coordinate}
-use Rattle.float.specs.Tests.{yes, or_l}
-use Rattle.float.specs.Rising.{le→signed, finite_between}
+use Rattle.float.proofs.Tests.{yes, or_l}
+use Rattle.float.proofs.Rising.{le→signed, finite_between}
 
 -- a / c is at most k
 pub quotient_le : (a c k : ℕ) → 0 < c → a ≤ k * c → a / c ≤ k

@@ -7,10 +7,10 @@ use lib.Ieee.{Format, prec, low, units, nearest, round}
 use lib.Ieee.Fits.{round_is}
 use lib.Ieee.Nearest.{closest, closest_same}
 use lib.Ieee.Order.{drop}
-use Rattle.float.specs.Sums.{sub_mul}
+use Rattle.float.proofs.Sums.{sub_mul}
 use Rattle.float.proofs.Near.{cmp_lt, cmp_gt, closest_digits}
 use Rattle.float.proofs.Packing.{size_div}
-use Rattle.float.specs.Tests.{yes_or_no}
+use Rattle.float.proofs.Tests.{yes_or_no}
 
 abbrev pub Between : ℕ → ℕ → ℕ → Type 0
 Between W X E = (u : ℕ) × (W ≡ 2 * u + 1) × (2 * u * E < X) × (X < (2 * u + 2) * E)

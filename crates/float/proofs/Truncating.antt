@@ -12,8 +12,8 @@ use lib.Ieee.Nearest.{div_same}
 use lib.Ieee.Scale.{round_same}
 use Rattle.float.specs.Fused.{trunc}
 use Rattle.float.proofs.Packing.{word_of}
-use Rattle.float.specs.Tests.{yes_or_no}
-use Rattle.float.specs.Patterns.{nan_bits_lem, read_nan}
+use Rattle.float.proofs.Tests.{yes_or_no}
+use Rattle.float.proofs.Patterns.{nan_bits_lem, read_nan}
 use Rattle.float.specs.Fields.{field_of, digits_of, place_of}
 use Rattle.float.proofs.Decode.{bits_value, bits_top, zero_bits, significand_lt}
 

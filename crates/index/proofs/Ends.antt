@@ -14,7 +14,7 @@ use lib.Ieee.{Float, binary64, add, sub}
 use Rattle.refusals.specs.Results.{Result, ok, refused, number_of, said, bind}
 use Rattle.refusals.specs.ResultLaws.{stopped, said_same}
 use Rattle.refusals.specs.Faults.{passing, ◌then◌}
-use Rattle.refusals.specs.FaultSteps.{then_stop}
+use Rattle.refusals.proofs.FaultSteps.{then_stop}
 use Rattle.float.specs.Fused.{trunc, floor}
 use Rattle.float.specs.Coordinate.{coordinate}
 use Rattle.float.specs.Answers.{coordinate_of, coordinate_said}
@@ -26,7 +26,7 @@ use Rattle.index.specs.Answers.{position_of, ends_of, axis_ends_of}
 use Rattle.index.specs.declared.Position.{Position}
 use Rattle.index.specs.declared.Range.{Range}
 use Rattle.index.specs.declared.AxisEnds.{AxisEnds}
-use Rattle.index.specs.Sixteen.{Only, only_coordinate}
+use Rattle.index.proofs.Sixteen.{Only, only_coordinate}
 
 -- what `checked_coordinate` says is its outcome
 pub outcome : (r : Coordinate) {v w : Float} → coordinate_said r ≡ said (pos 0) (coordinate v) → v ≡ w → coordinate_of r ≡ coordinate w

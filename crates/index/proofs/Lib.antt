@@ -1,1 +1,10 @@
 pub mod Ends
+pub mod Alone
+pub mod Corners
+pub mod Enclosed
+pub mod Examples
+pub mod FoundLaws
+pub mod Middle
+pub mod SameEnds
+pub mod SideLaws
+pub mod Sixteen

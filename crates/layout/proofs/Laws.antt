@@ -11,7 +11,7 @@ use Rattle.refusals.specs.Results.{ok, refused, said}
 use Rattle.layout.specs.Bytes.{u32_at, u64_at}
 use Rattle.layout.specs.FieldLaws.{u64_halves}
 use Rattle.layout.specs.Reads.{read_field}
-use Rattle.layout.specs.ReadLaws.{read_inside, read_past}
+use Rattle.layout.proofs.ReadLaws.{read_inside, read_past}
 use borrow.Author.Tests.{leb-true, leb-false, le-leb, lt-leb}
 
 -- the end test in a form that forms no sum

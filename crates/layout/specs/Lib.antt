@@ -3,7 +3,3 @@ pub mod Coordinates
 pub mod Walk
 pub mod Reads
 pub mod FieldLaws
-pub mod MaskLaws
-pub mod ReadLaws
-pub mod Sample
-pub mod Examples

@@ -1,2 +1,1 @@
 pub mod Padded
-pub mod PaddedLaws

@@ -5,7 +5,7 @@ use Rattle.refusals.specs.Results.{Result, ok, refused, bind, need}
 use Rattle.refusals.specs.ResultLaws.{run_more, run_stop}
 use Rattle.refusals.specs.Faults.{◌then◌, passing}
 use Rattle.refusals.specs.FaultLaws.{then_zero}
-use Rattle.refusals.specs.FaultSteps.{then_stop}
+use Rattle.refusals.proofs.FaultSteps.{then_stop}
 use Rattle.index.specs.Axes.{Both}
 use Rattle.index.specs.Answers.{four_ends, both_of}
 use Rattle.index.specs.declared.AxisEnds.{AxisEnds}

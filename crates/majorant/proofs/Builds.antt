@@ -4,7 +4,7 @@ use lib.Ieee.{Float}
 use Rattle.refusals.specs.Results.{Result, ok, refused, number_of, value_or}
 use Rattle.refusals.specs.Faults.{◌then◌, unless, passing}
 use Rattle.refusals.specs.FaultLaws.{then_zero}
-use Rattle.refusals.specs.FaultSteps.{then_stop, then_next, then_assoc}
+use Rattle.refusals.proofs.FaultSteps.{then_stop, then_next, then_assoc}
 use Rattle.float.specs.Zero.{+0}
 use Rattle.sparse_grid.specs.Tables.{Grid}
 use Rattle.sparse_grid.specs.Validate.{validate, density_fault}

@@ -6,9 +6,9 @@ use borrow.Author.Tests.{lt-leb}
 use Rattle.refusals.specs.Results.{Result, ok, refused, number_of, value_or}
 use Rattle.refusals.specs.Faults.{◌then◌, unless, first_fault, passing}
 use Rattle.refusals.specs.FaultLaws.{then_zero, unless_zero}
-use Rattle.refusals.specs.FaultSteps.{first_fault_at}
+use Rattle.refusals.proofs.FaultSteps.{first_fault_at}
 use Rattle.refusals.specs.TestLaws.{and_r}
-use Rattle.refusals.specs.ListLaws.{get_d_any}
+use Rattle.refusals.proofs.ListLaws.{get_d_any}
 use Rattle.float.specs.Zero.{+0}
 use Rattle.layout.specs.Coordinates.{Coord}
 use Rattle.sparse_grid.specs.Tables.{Grid}
@@ -19,13 +19,13 @@ use Rattle.boxes.specs.Boxes.{Box, span, between}
 use Rattle.boxes.specs.RangeMax.{Ends, empty, read_at}
 use Rattle.walk.specs.Walk.{Zone}
 use Rattle.walk.specs.Classes.{class_count, limit_passes, limits_fault, side_fault, sides_fault, listed, public_counts}
-use Rattle.walk.specs.ClassLaws.{listed_is}
-use Rattle.walk.specs.Placed.{span_biased, class_tally}
+use Rattle.walk.proofs.ClassLaws.{listed_is}
+use Rattle.walk.proofs.Placed.{span_biased, class_tally}
 use Rattle.walk.specs.Gather.{tally, volume}
 use Rattle.walk.specs.Counts.{zone_in}
 use Rattle.walk.specs.Tallied.{is_class, Sides}
 use Rattle.walk.specs.TalliedLaws.{class_le, places_are}
-use Rattle.sparse_grid.specs.Signs.{seen}
+use Rattle.sparse_grid.proofs.Signs.{seen}
 use Rattle.majorant.proofs.Signs.{Small}
 use Rattle.majorant.proofs.Refused as Refused
 use Rattle.majorant.proofs.Corners.{Spans, lacking, low_number, high_number, zone_is}

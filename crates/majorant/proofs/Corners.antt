@@ -9,18 +9,18 @@ use Rattle.sparse_grid.specs.BiasedLaws.{back_low, back_high, back_le, back_betw
 use Rattle.sparse_grid.specs.Count.{split_lt}
 use Rattle.boxes.specs.declared.Span.{Span}
 use Rattle.boxes.specs.Boxes.{Greatest, box_maximum, between}
-use Rattle.boxes.specs.Maximum.{greatest}
-use Rattle.boxes.specs.Greatest.{greatest_one}
-use Rattle.majorant.specs.FitLaws.{zero_fits, box_fits}
+use Rattle.boxes.proofs.Maximum.{greatest}
+use Rattle.boxes.proofs.Greatest.{greatest_one}
+use Rattle.majorant.proofs.FitLaws.{zero_fits, box_fits}
 use Rattle.boxes.specs.Most.{Most}
 use Rattle.boxes.specs.RangeMax.{Within, Full, Ends, empty, read_at}
-use Rattle.boxes.specs.MostLaws.{none}
-use Rattle.sparse_grid.specs.Signs.{seen}
+use Rattle.boxes.proofs.MostLaws.{none}
+use Rattle.sparse_grid.proofs.Signs.{seen}
 use Rattle.walk.specs.Walk.{Price, biased, zone_of, steps, roots_only, uppers_only, lowers_only, leaves_only}
 use Rattle.walk.specs.Walk.{roots_read, uppers_read, lowers_read, leaves_read}
 use Rattle.walk.specs.Counts.{zone_in, More}
-use Rattle.walk.specs.MoreLaws.{none as nothing, equal}
-use Rattle.walk.specs.NodeWalk.{empty_steps}
+use Rattle.walk.proofs.MoreLaws.{none as nothing, equal}
+use Rattle.walk.proofs.NodeWalk.{empty_steps}
 
 -- ---- spans with a place, and without
 

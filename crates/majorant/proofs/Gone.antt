@@ -8,7 +8,7 @@ use Rattle.sparse_grid.specs.Sound.{Sound}
 use Rattle.sparse_grid.specs.Count.{bit, bit_most}
 use Rattle.boxes.specs.declared.Span.{Span}
 use Rattle.boxes.specs.RangeMax.{Full, read_at, block_at_place}
-use Rattle.boxes.specs.RootReads.{missed}
+use Rattle.boxes.proofs.RootReads.{missed}
 use Rattle.walk.specs.Walk.{Zone}
 use Rattle.walk.specs.Classes.{class}
 use Rattle.walk.specs.Gather.{tally, volume, At}

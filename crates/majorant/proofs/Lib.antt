@@ -10,3 +10,14 @@ pub mod Refused
 pub mod Listing
 pub mod Building
 pub mod Builds
+pub mod Accepted
+pub mod Bounded
+pub mod BoxExamples
+pub mod BuildExamples
+pub mod Dearest
+pub mod FitLaws
+pub mod MaximaExamples
+pub mod MaximaLaws
+pub mod RowLaws
+pub mod ZoneExamples
+pub mod ZoneLaws

@@ -10,7 +10,7 @@ use Rattle.sparse_grid.specs.Validate.{validate}
 use Rattle.sparse_grid.specs.Lookup.{read_in}
 use Rattle.boxes.specs.Boxes.{Box, greater, box_maximum}
 use Rattle.majorant.specs.Maxima.{box_at, maxima_of, maxima_into, greatest_from, greatest_of, greatest_into}
-use Rattle.majorant.specs.MaximaLaws.{greatest_more}
+use Rattle.majorant.proofs.MaximaLaws.{greatest_more}
 use Rattle.majorant.proofs.Refused as Refused
 
 -- ---- the loop: the first i places hold the maxima of the first i boxes, and m is the greatest of them

@@ -12,14 +12,14 @@ use Rattle.boxes.specs.declared.Span.{Span}
 use Rattle.boxes.specs.Boxes.{greater}
 use Rattle.boxes.specs.Most.{Joined}
 use Rattle.boxes.specs.RangeMax.{Within, Full, InCell, Clip, apart, entry_read, upper_read, child_in, read_at, corner, CoveredIn}
-use Rattle.boxes.specs.MostLaws.{most_as}
-use Rattle.boxes.specs.JoinedLaws.{most_not_below, joined_flat}
-use Rattle.boxes.specs.NodeCells.{linked_room}
-use Rattle.boxes.specs.RootReads.{back_raised}
+use Rattle.boxes.proofs.MostLaws.{most_as}
+use Rattle.boxes.proofs.JoinedLaws.{most_not_below, joined_flat}
+use Rattle.boxes.proofs.NodeCells.{linked_room}
+use Rattle.boxes.proofs.RootReads.{back_raised}
 use Rattle.walk.specs.Walk.{Zone, Price, steps, root_steps, upper_steps, roots_only, uppers_only, lowers_only, leaves_only, below as walk_below}
 use Rattle.walk.specs.Counts.{zone_in, AllIn, upper_count, More, steps_to}
-use Rattle.walk.specs.MoreLaws.{none, and, equal}
-use Rattle.walk.specs.CountLaws.{none_to, all_to, next_to, no_roots, root_apart, root_met, upper_here}
+use Rattle.walk.proofs.MoreLaws.{none, and, equal}
+use Rattle.walk.proofs.CountLaws.{none_to, all_to, next_to, no_roots, root_apart, root_met, upper_here}
 use Rattle.majorant.proofs.RootsMet.{clip_some, step_apart, step_meets, root_read}
 use Rattle.majorant.proofs.Signs.{handed_on, handed}
 

@@ -1,8 +1,8 @@
 -- The roots that a box meets: one block of the box more for each, because their blocks differ; at the end all blocks of the box, or a place that no root has.
 use Rattle.std.proofs.Common.{◌≡◌, ℕ, suc, ◌+◌, ◌-◌, ◌*◌, ◌/◌, ◌<◌, ◌≤◌, Bool, true, false, ◌&&◌, ◌||◌, T, eqb, ltb, ◌⊎◌, length, sym, refl, ap, ◌∙◌, subst, inl, inr, ⊎_elim, mul-one, add-one, arith, ltb-false, ltb-true, eq-eqb, eqb-true}
 use lib.Ieee.{Float, of_bits, binary32}
-use Rattle.float.specs.Literal.{zero_literal}
-use Rattle.float.specs.Plain.{up_plain}
+use Rattle.float.proofs.Literal.{zero_literal}
+use Rattle.float.proofs.Plain.{up_plain}
 use Rattle.layout.specs.Coordinates.{Coord, same_block}
 use Rattle.sparse_grid.specs.Tables.{Grid, block_at, entry_at}
 use Rattle.sparse_grid.specs.Validate.{earlier}
@@ -13,8 +13,8 @@ use Rattle.boxes.specs.declared.Span.{Span}
 use Rattle.boxes.specs.Boxes.{greater}
 use Rattle.boxes.specs.Most.{Most, Inside}
 use Rattle.boxes.specs.RangeMax.{apart, Within, Full, entry_read, upper_read, read_at, corner, block_at_place, Clip, Met, wide, met, Covered, CoveredIn}
-use Rattle.boxes.specs.MostLaws.{most_set, most_join, most_flat, most_up, most_none, zero_beside}
-use Rattle.boxes.specs.RootReads.{missed, found}
+use Rattle.boxes.proofs.MostLaws.{most_set, most_join, most_flat, most_up, most_none, zero_beside}
+use Rattle.boxes.proofs.RootReads.{missed, found}
 
 -- ---- tests
 

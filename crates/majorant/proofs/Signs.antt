@@ -2,7 +2,7 @@
 use Rattle.std.proofs.Common.{◌≡◌, ◌^◌, ◌<◌, true, ℤ, pos, negsuc, arith, w32, SFits, to_z, of_z}
 use lib.Signed.{mag, le_z}
 use Rattle.sparse_grid.specs.Validate.{block_in}
-use Rattle.sparse_grid.specs.Signs.{low, high, both, seen}
+use Rattle.sparse_grid.proofs.Signs.{low, high, both, seen}
 use Rattle.boxes.specs.Boxes.{Box, between}
 
 -- a number as a callee is handed it

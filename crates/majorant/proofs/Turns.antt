@@ -7,12 +7,12 @@ use Rattle.boxes.specs.declared.Span.{Span}
 use Rattle.boxes.specs.Boxes.{greater}
 use Rattle.boxes.specs.Most.{Most, Joined}
 use Rattle.boxes.specs.RangeMax.{Within, Cut, lower_read, upper_read}
-use Rattle.boxes.specs.MostLaws.{join_x, join_y, join_z}
-use Rattle.boxes.specs.JoinedLaws.{joined_none, joined_more}
+use Rattle.boxes.proofs.MostLaws.{join_x, join_y, join_z}
+use Rattle.boxes.proofs.JoinedLaws.{joined_none, joined_more}
 use Rattle.walk.specs.Walk.{uppers_only, lowers_only, leaves_only}
 use Rattle.walk.specs.Counts.{More, lower_count, upper_count}
-use Rattle.walk.specs.CountLaws.{Going, begun, going, Along, Adds, no_adds, lower_adds, upper_adds}
-use Rattle.walk.specs.MoreLaws.{none, and, equal}
+use Rattle.walk.proofs.CountLaws.{Going, begun, going, Along, Adds, no_adds, lower_adds, upper_adds}
+use Rattle.walk.proofs.MoreLaws.{none, and, equal}
 
 -- a node whose cells have `side` coordinates and which has S itself: what it reads, and what it counts for three spans
 pub record Node (side S : ℕ) (f : ℕ → ℕ → ℕ → Float) (U L W : Span → Span → Span → ℕ) : Type 0 where

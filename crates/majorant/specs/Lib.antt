@@ -7,16 +7,3 @@ pub mod Counted
 pub mod Zones
 -- Definitions that only contracts within the crate cite.
 pub mod Rows
--- Worked examples.
-pub mod BoxExamples
-pub mod BuildExamples
-pub mod MaximaExamples
-pub mod ZoneExamples
--- Laws.
-pub mod MaximaLaws
-pub mod FitLaws
-pub mod RowLaws
-pub mod Accepted
-pub mod Bounded
-pub mod ZoneLaws
-pub mod Dearest

@@ -13,7 +13,7 @@ use Rattle.sparse_grid.specs.Lookup as lookup
 use Rattle.sparse_grid.specs.Lookup.{Found, value_in, read_in}
 use Rattle.sparse_grid.specs.Answers.{value_only, at}
 use Rattle.sparse_grid.specs.Spots.{leaves_of, answer_from, read_from, Cube}
-use Rattle.sparse_grid.specs.SpotLaws.{from_leaves}
+use Rattle.sparse_grid.proofs.SpotLaws.{from_leaves}
 use Rattle.mix.specs.declared.point.Side.{Side}
 use Rattle.mix.specs.Mix.{lerp}
 use Rattle.mix.specs.Density.{corner_of}

@@ -20,10 +20,10 @@ use Rattle.refusals.specs.Results.{Result, ok, refused, bind, number_of, value_o
 use Rattle.refusals.specs.ResultLaws.{run_more, run_stop}
 use Rattle.refusals.specs.Faults.{◌then◌, unless, passing}
 use Rattle.refusals.specs.FaultLaws.{then_zero, unless_zero}
-use Rattle.refusals.specs.FaultSteps.{then_next, then_stop, then_assoc, passing_stop, passing_on}
+use Rattle.refusals.proofs.FaultSteps.{then_next, then_stop, then_assoc, passing_stop, passing_on}
 use Rattle.float.specs.Zero.{+0}
-use Rattle.float.specs.Numbers.{fma_fits}
-use Rattle.float.specs.Patterns.{read_back}
+use Rattle.float.proofs.Numbers.{fma_fits}
+use Rattle.float.proofs.Patterns.{read_back}
 use Rattle.layout.specs.Coordinates.{Coord}
 use Rattle.sparse_grid.specs.Tables.{Grid}
 use Rattle.sparse_grid.specs.Validate.{validate, density_fault, validate_density}

@@ -4,9 +4,3 @@ pub mod Density
 pub mod Bounded
 -- Definitions that only contracts within the crate cite.
 pub mod Inner
--- Worked examples.
-pub mod Examples
--- Laws.
-pub mod Most
-pub mod MixLaws
-pub mod ListLaws

@@ -9,13 +9,4 @@ pub mod Agreement
 pub mod Growth
 pub mod Held
 pub mod HeldNodes
-pub mod Keys
-pub mod HeldTiles
 pub mod Passed
-pub mod UsedLaws
-pub mod Kept
-pub mod Numbers
-pub mod Lookups
-pub mod Marks
--- Worked examples.
-pub mod Examples

@@ -6,8 +6,8 @@ use lib.Ieee.{Float, nan, inf, fin, binary32, neg, lt, eq, fits, up, down}
 use Rattle.refusals.specs.Results.{Result, ok}
 use Rattle.refusals.specs.Faults.{passing}
 use Rattle.float.specs.Zero.{+0}
-use Rattle.float.specs.Exactly.{unique}
-use Rattle.float.specs.Numbers.{fits_plain}
+use Rattle.float.proofs.Exactly.{unique}
+use Rattle.float.proofs.Numbers.{fits_plain}
 use Rattle.medium.specs.Medium.{Axis, x_axis, y_axis, z_axis}
 use Rattle.index.specs.Axes.{column}
 use Rattle.float.specs.Saturated.{clamp_z}

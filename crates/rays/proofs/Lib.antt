@@ -2,3 +2,9 @@
 pub mod Signs
 pub mod Laws
 pub mod Tracing
+pub mod Examples
+pub mod Opened
+pub mod Remaining
+pub mod Runs
+pub mod Theorems
+pub mod Turns

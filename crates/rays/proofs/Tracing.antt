@@ -7,7 +7,7 @@ use borrow.Author.Tests.{lt-leb}
 use Rattle.refusals.specs.Results.{Result, ok, refused, number_of, bind, need}
 use Rattle.float.specs.Zero.{+0}
 use Rattle.lent.specs.Padded.{padded}
-use Rattle.lent.specs.PaddedLaws.{padded_none, padded_length, padded_push}
+use Rattle.lent.proofs.PaddedLaws.{padded_none, padded_length, padded_push}
 use Rattle.medium.specs.Medium.{Medium}
 use Rattle.rays.specs.Open.{Beam, open_ray}
 use Rattle.rays.specs.Ray.{State, Piece, Step, piece, over, next}

@@ -7,12 +7,3 @@ pub mod Trace
 -- Definitions that only contracts within the crate cite.
 pub mod Held
 pub mod Followed
--- Worked examples.
-pub mod Examples
--- Laws.
-pub mod Remaining
-pub mod Turns
-pub mod Runs
-pub mod Opened
--- The theorems.
-pub mod Theorems

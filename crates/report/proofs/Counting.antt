@@ -12,7 +12,7 @@ use borrow.Author.Tests.{eq-eqb, ne_eqb}
 use Rattle.refusals.specs.Results.{Result, ok, number_of, value_or}
 use Rattle.refusals.specs.Faults.{◌then◌, first_fault, passing}
 use Rattle.refusals.specs.FaultLaws.{then_zero}
-use Rattle.refusals.specs.FaultSteps.{then_next}
+use Rattle.refusals.proofs.FaultSteps.{then_next}
 use mir.Facts.{to_z-of_z}
 use Rattle.medium.specs.Medium.{Medium}
 use Rattle.sparse_grid.specs.Tables.{Grid, grid_of}
@@ -22,16 +22,16 @@ use Rattle.sparse_grid.specs.Count.{sum}
 use Rattle.nanovdb.specs.Decode.{Accepted, decode_density}
 use Rattle.nanovdb.specs.Lent.{Answer, Tables, places_of, answer_of, filled, used_of, decode_into}
 use Rattle.nanovdb.specs.Passed.{density_passed}
-use Rattle.nanovdb.specs.UsedLaws.{accepts, used_parts}
+use Rattle.nanovdb.proofs.UsedLaws.{accepts, used_parts}
 use Rattle.boxes.specs.Boxes.{Box, between}
 use Rattle.walk.specs.Classes.{class_count, limits_fault, sides_fault, listed, public_counts}
-use Rattle.walk.specs.ClassLaws.{total_size}
+use Rattle.walk.proofs.ClassLaws.{total_size}
 use Rattle.text.specs.Page.{Page}
-use Rattle.text.specs.PageLaws.{Wrote, ◌then◌ as ◌after◌, same_text}
+use Rattle.text.proofs.PageLaws.{Wrote, ◌then◌ as ◌after◌, same_text}
 use Rattle.report.specs.Report.{refused_line, lent}
 use Rattle.report.specs.ClassReport.{limits, index_box, class_line, class_lines, total_line, count_lines, class_text}
 use Rattle.report.specs.Inner.{counts_in, used_in, classes_in}
-use Rattle.report.specs.ClassRoom.{size_most}
+use Rattle.report.proofs.ClassRoom.{size_most}
 use Rattle.report.proofs.Fields.{held, Fit}
 
 -- ---- the branches of the code

@@ -9,13 +9,13 @@ use lib.Ieee.{Float, nan, binary32, to_bits}
 use mir.Syntax.{w32}
 use mir.Val.{SFits, to_z, of_z}
 use mir.Facts.{to_z-of_z}
-use Rattle.refusals.specs.ListLaws.{get_d_any}
+use Rattle.refusals.proofs.ListLaws.{get_d_any}
 use Rattle.float.specs.Zero.{+0}
 use Rattle.layout.specs.Coordinates.{Coord}
 use Rattle.sparse_grid.specs.Tables.{block_at}
 use Rattle.text.specs.Numerals.{signed_text, hex8}
 use Rattle.text.specs.Page.{Page}
-use Rattle.text.specs.PageLaws.{Wrote, ◌then◌, same_text}
+use Rattle.text.proofs.PageLaws.{Wrote, ◌then◌, same_text}
 use Rattle.report.specs.Report.{coordinate, triple, bits, root_line, root_lines}
 use Rattle.report.specs.Inner.{coord_of, roots_in}
 

@@ -15,13 +15,13 @@ use Rattle.sparse_grid.specs.Tables.{Grid}
 use Rattle.nanovdb.specs.Decode.{Accepted, decode_density}
 use Rattle.nanovdb.specs.Lent.{Lent, Answer, Tables, answer_of, filled, left_of, decode_into}
 use Rattle.text.specs.Page.{Page, page}
-use Rattle.text.specs.PageLaws.{Wrote, same_text, puts_front}
+use Rattle.text.proofs.PageLaws.{Wrote, same_text, puts_front}
 use Rattle.report.specs.Report.{grid_line, nodes_line, box_line, back_line, root_line, root_lines, refused_line, long_line}
 use Rattle.report.specs.Report.{lent, result_text, printed_of, grid_text, report_of}
 use Rattle.report.specs.ClassReport.{class_report_of}
 use Rattle.report.specs.Inner.{roots_in, lines_in, classes_in, text_for, text_in}
 use Rattle.report.proofs.Counting.{Nodeless, classes_text}
-use Rattle.nanovdb.specs.Numbers.{Numbered, value, number, numbered}
+use Rattle.nanovdb.proofs.Numbers.{Numbered, value, number, numbered}
 
 -- ---- the branches of the code
 

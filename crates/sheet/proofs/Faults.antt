@@ -11,15 +11,15 @@ use lib.Ieee.{Float}
 use lib.Ieee.Scale.{finite}
 use borrow.Author.Tests.{lt-ltb, le-ltb}
 use Rattle.refusals.specs.Faults.{◌then◌, unless}
-use Rattle.refusals.specs.FaultSteps.{then_next, then_stop}
+use Rattle.refusals.proofs.FaultSteps.{then_next, then_stop}
 use Rattle.refusals.specs.FaultLaws.{then_zero, unless_zero}
 use Rattle.cells.specs.Cells.{Cells, table_fault}
 use Rattle.cells.specs.Counted.{Counted, Tabled, tabled}
 use Rattle.figures.specs.Figures.{every, figures_fault}
-use Rattle.figures.specs.FigureLaws.{sound}
-use Rattle.figures.specs.Parts.{place_in, part_is}
+use Rattle.figures.proofs.FigureLaws.{sound}
+use Rattle.figures.proofs.Parts.{place_in, part_is}
 use Rattle.sheet.specs.Sheet.{layer_of, layer_page, sheet_fault}
-use Rattle.sheet.specs.SheetLaws.{row_long, page_length}
+use Rattle.sheet.proofs.SheetLaws.{row_long, page_length}
 
 -- what a sheet is asked of: layer k of a table, and a buffer
 pub record Asked : Type 0 where

@@ -2,3 +2,8 @@ pub mod Steps
 pub mod Pages
 pub mod Faults
 pub mod Whole
+pub mod Examples
+pub mod GradeLaws
+pub mod MarkLaws
+pub mod SheetLaws
+pub mod UnitLaws

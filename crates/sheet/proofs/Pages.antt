@@ -13,7 +13,7 @@ use borrow.Author.Tests.{lt-ltb, le-ltb}
 use Rattle.figures.specs.Figures.{greater}
 use Rattle.text.specs.Numerals.{decimal}
 use Rattle.text.specs.Page.{Page, page, put, puts}
-use Rattle.text.specs.PageLaws.{puts_append, puts_length}
+use Rattle.text.proofs.PageLaws.{puts_append, puts_length}
 use Rattle.sheet.specs.Grades.{mark}
 use Rattle.sheet.specs.Sheet.{place, marks, row_line, row_of, row_lines, most_of}
 

@@ -8,12 +8,12 @@ use lib.ListN.{length, drop, replicate, length-replicate}
 use lib.Seq.{take_all}
 use lib.Ieee.{Float}
 use Rattle.refusals.specs.Results.{Result, ok, number_of, value_or}
-use Rattle.refusals.specs.FaultSteps.{passing_stop, passing_on}
+use Rattle.refusals.proofs.FaultSteps.{passing_stop, passing_on}
 use Rattle.float.specs.Zero.{+0}
 use Rattle.lent.specs.Padded.{padded}
-use Rattle.lent.specs.PaddedLaws.{padded_none}
+use Rattle.lent.proofs.PaddedLaws.{padded_none}
 use Rattle.text.specs.Page.{Page, page, puts}
-use Rattle.text.specs.PageLaws.{Wrote, ◌then◌, same_text, puts_front}
+use Rattle.text.proofs.PageLaws.{Wrote, ◌then◌, same_text, puts_front}
 use Rattle.sheet.specs.Sheet.{head_line, row_lines, most_of, page_of, sheet}
 use Rattle.sheet.proofs.Faults.{Asked, fault, lines, told}
 

@@ -13,7 +13,7 @@ use Rattle.refusals.specs.Faults.{unless, passing}
 use Rattle.sparse_grid.specs.Tables.{Grid}
 use Rattle.boxes.specs.Boxes.{Box}
 use Rattle.walk.specs.Classes.{public_counts}
-use Rattle.walk.specs.ClassLaws.{listed_is, counts_long}
+use Rattle.walk.proofs.ClassLaws.{listed_is, counts_long}
 use Rattle.smokegrid.specs.FlatClasses.{classes_flat}
 use Rattle.smokegrid.specs.Promises.{CountsClasses}
 

@@ -10,7 +10,7 @@ use lib.ListN.{set, replicate}
 use lib.Ieee.{Float, binary32, of_bits}
 use Rattle.refusals.specs.Results.{Result, ok, refused, number_of, value_or}
 use Rattle.refusals.specs.Faults.{unless, passing}
-use Rattle.float.specs.Literal.{zero_literal}
+use Rattle.float.proofs.Literal.{zero_literal}
 use Rattle.sparse_grid.specs.Tables.{Grid}
 use Rattle.boxes.specs.Boxes.{Box}
 use Rattle.majorant.specs.Counted.{Read, unread, public_counted}

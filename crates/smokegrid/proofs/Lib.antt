@@ -7,3 +7,5 @@ pub mod Windows
 pub mod Rayed
 pub mod Classed
 pub mod Counting
+pub mod Back
+pub mod WindowRuns

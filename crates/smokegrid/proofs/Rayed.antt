@@ -17,7 +17,7 @@ use borrow.Author.Tests.{eq-eqb, ne_eqb, ltb-true}
 use Rattle.refusals.specs.Results.{Result, ok, refused, number_of}
 use Rattle.refusals.specs.Faults.{unless, passing}
 use Rattle.refusals.specs.FaultLaws.{unless_zero}
-use Rattle.refusals.specs.FaultSteps.{passing_stop, passing_on}
+use Rattle.refusals.proofs.FaultSteps.{passing_stop, passing_on}
 use Rattle.refusals.specs.TestLaws.{and_l, and_r}
 use Rattle.float.specs.Zero.{+0}
 use Rattle.rays.specs.Ray.{State, Piece, Step, piece, over, next}

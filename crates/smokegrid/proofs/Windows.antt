@@ -10,12 +10,12 @@ use borrow.Author.Tests.{eq-eqb, ne_eqb}
 use Rattle.medium.specs.Record.{cells_of}
 use Rattle.refusals.specs.Results.{Result, number_of, value_or}
 use Rattle.refusals.specs.Faults.{◌then◌, unless, passing}
-use Rattle.refusals.specs.FaultSteps.{then_next}
+use Rattle.refusals.proofs.FaultSteps.{then_next}
 use Rattle.refusals.specs.TestLaws.{and_l, and_r}
 use Rattle.float.specs.Zero.{+0}
-use Rattle.float.specs.Tests.{yes}
+use Rattle.float.proofs.Tests.{yes}
 use Rattle.lent.specs.Padded.{padded}
-use Rattle.lent.specs.PaddedLaws.{padded_none}
+use Rattle.lent.proofs.PaddedLaws.{padded_none}
 use Rattle.cells.specs.Cells.{Cells}
 use Rattle.sheet.specs.Sheet.{sheet}
 use Rattle.window.specs.Window.{State, window_of, state_of, shut, push_fault, pushed, push, open_fault, opened}

@@ -7,6 +7,3 @@ pub mod FlatRay
 pub mod FlatTables
 pub mod FlatMix
 pub mod Promises
--- Laws.
-pub mod Back
-pub mod WindowRuns

@@ -10,8 +10,8 @@ use Rattle.sparse_grid.specs.Tables.{Grid, block_at, entry_of, entry_at}
 use Rattle.sparse_grid.specs.Validate.{earlier, block_in, entry_fault}
 use Rattle.sparse_grid.specs.Answers.{at}
 use Rattle.sparse_grid.specs.Inner.{rank, Topped, blocks_of, root_block, block_of_root, root_of, root_fault_in, fault_of, ranged}
-use Rattle.sparse_grid.specs.Signs.{eq_z_true, both, seen}
-use Rattle.refusals.specs.ListLaws.{get_d_any}
+use Rattle.sparse_grid.proofs.Signs.{eq_z_true, both, seen}
+use Rattle.refusals.proofs.ListLaws.{get_d_any}
 
 pub ranged_all : (b : Coord) → ranged b ≡ true → (block_in b.x ≡ true) × (block_in b.y ≡ true) × (block_in b.z ≡ true)
 ranged_all b h =

@@ -5,3 +5,11 @@ pub mod Blocks
 pub mod Whole
 pub mod Nodes
 pub mod Rising
+pub mod Examples
+pub mod Permuted
+pub mod Reorder
+pub mod ReorderExamples
+pub mod Signs
+pub mod SpotLaws
+pub mod TableLaws
+pub mod Values

@@ -6,7 +6,7 @@ use Rattle.sparse_grid.specs.Validate.{block_in}
 use Rattle.sparse_grid.specs.Biased.{raised}
 use Rattle.sparse_grid.specs.BiasedLaws.{raised_pos, raised_neg}
 use Rattle.sparse_grid.specs.Inner.{ranged, rank}
-use Rattle.sparse_grid.specs.Signs.{both, low, high, raised_below}
+use Rattle.sparse_grid.proofs.Signs.{both, low, high, raised_below}
 use Rattle.sparse_grid.proofs.Blocks.{ranged_all}
 
 raised_rises : (a b : ℤ) → block_in a ≡ true → block_in b ≡ true → lt_z a b ≡ true → raised a < raised b

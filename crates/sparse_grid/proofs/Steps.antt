@@ -1,7 +1,7 @@
 -- What a program answers that tests faults in order.
 use Rattle.std.proofs.Common.{◌≡◌, ℕ, ◌<◌, sym, ◌∙◌}
 use Rattle.refusals.specs.Faults.{◌then◌, first_fault}
-use Rattle.refusals.specs.FaultSteps.{then_next, then_stop, first_fault_at}
+use Rattle.refusals.proofs.FaultSteps.{then_next, then_stop, first_fault_at}
 
 -- the fault k of place i
 pub stops : {k : ℕ} (n i : ℕ) (f : ℕ → ℕ) → i < n → first_fault i f ≡ 0 → f i ≡ k → (k ≡ 0 → ⊥) → k ≡ first_fault n f

@@ -3,8 +3,8 @@ use Rattle.std.proofs.Common.{◌≡◌, ℕ, suc, ◌+◌, ◌<◌, ◌≤◌, 
 use mathlib.Core.Bool.{not-not}
 use lib.Ieee.{Float, nan}
 use Rattle.refusals.specs.Faults.{◌then◌, unless, first_fault}
-use Rattle.refusals.specs.FaultSteps.{then_next, then_stop, first_fault_none}
-use Rattle.refusals.specs.ListLaws.{get_d_any}
+use Rattle.refusals.proofs.FaultSteps.{then_next, then_stop, first_fault_none}
+use Rattle.refusals.proofs.ListLaws.{get_d_any}
 use Rattle.float.specs.Zero.{+0}
 
 -- the fault of place k, with the number n + 1

@@ -1,7 +1,7 @@
 -- The faults of a whole grid, test by test.
 use Rattle.std.proofs.Common.{◌≡◌, ℕ, zero, suc, ◌/◌, Bool, not, ◌&&◌, ◌||◌, [], length, get_or, sym, refl, ap}
 use Rattle.refusals.specs.Faults.{◌then◌, unless, first_fault}
-use Rattle.refusals.specs.FaultSteps.{then_assoc}
+use Rattle.refusals.proofs.FaultSteps.{then_assoc}
 use Rattle.float.specs.Zero.{+0}
 use Rattle.layout.specs.Coordinates.{Coord, same_block}
 use Rattle.sparse_grid.specs.Tables.{Grid, grid_of, block_at}

@@ -4,16 +4,8 @@ pub mod Lookup
 pub mod Count
 pub mod Answers
 pub mod Spots
-pub mod SpotLaws
 pub mod Biased
 pub mod BiasedLaws
-pub mod TableLaws
-pub mod Signs
 pub mod Sound
-pub mod Values
 pub mod Roots
-pub mod Reorder
-pub mod Permuted
 pub mod Inner
-pub mod Examples
-pub mod ReorderExamples

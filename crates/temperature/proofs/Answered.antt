@@ -6,7 +6,7 @@ use Prim.Native.Nat.{ℕ}
 use lib.Ieee.{Float}
 use Rattle.refusals.specs.Results.{Result, ok, refused, said}
 use Rattle.refusals.specs.Faults.{◌then◌, passing}
-use Rattle.refusals.specs.FaultSteps.{passing_stop, passing_on}
+use Rattle.refusals.proofs.FaultSteps.{passing_stop, passing_on}
 use Rattle.refusals.specs.ResultLaws.{said_same}
 use Rattle.float.specs.Zero.{+0}
 use Rattle.layout.specs.Coordinates.{Coord}
@@ -20,7 +20,7 @@ use Rattle.nanovdb.specs.Lent as Lent
 use Rattle.nanovdb.specs.Lent.{Lent, Tables, zeros, decode_into, answer_of, left_of}
 use Rattle.temperature.specs.Temperature.{heat_fault, load_into, read_by, temperature_at}
 use Rattle.temperature.specs.Answers.{Loaded, loaded_of, loaded_by, heat_of}
-use Rattle.temperature.specs.LoadLaws.{load_stops, load_goes}
+use Rattle.temperature.proofs.LoadLaws.{load_stops, load_goes}
 use Rattle.temperature.specs.declared.Heat.{Heat}
 
 -- ---- a load: `a` is what the decode answered

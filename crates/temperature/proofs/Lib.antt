@@ -1,1 +1,4 @@
 pub mod Answered
+pub mod Examples
+pub mod LoadLaws
+pub mod Unseen

@@ -6,9 +6,9 @@ use native.Mathlib.Omega.{arith}
 use lib.IntN.{ℤ, pos, negsuc}
 use native.Mathlib.Numerals.{add-one}
 use Rattle.text.specs.Numerals.{digit, decimal, signed_text, sixteens}
-pub use Rattle.text.specs.NumeralLaws.{decimal_small, decimal_more}
+pub use Rattle.text.proofs.NumeralLaws.{decimal_small, decimal_more}
 use Rattle.text.specs.Page.{Page}
-use Rattle.text.specs.PageLaws.{Wrote, ◌then◌, same_text}
+use Rattle.text.proofs.PageLaws.{Wrote, ◌then◌, same_text}
 
 pub sixteens_more : (k n : ℕ) → (k ≡ 0 → ⊥) → sixteens k n ≡ sixteens (k - 1) (n / 16) ++ (digit (n % 16) ∷ [])
 unfolding sixteens

@@ -6,7 +6,7 @@ use native.Mathlib.Numerals.{add-one}
 use lib.ListN.{length, get_or, take}
 use lib.Seq.{take-suc}
 use Rattle.text.specs.Page.{Page}
-use Rattle.text.specs.PageLaws.{Wrote, ◌then◌, same_text}
+use Rattle.text.proofs.PageLaws.{Wrote, ◌then◌, same_text}
 
 -- the first i bytes of l, and the one at i
 pub put_more : {p q r : Page} (l : List ℕ) (i : ℕ) → i < length l → Wrote p (take i l) q → Wrote q (get_or l i 0 ∷ []) r → Wrote p (take (i + 1) l) r

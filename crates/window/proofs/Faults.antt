@@ -5,7 +5,7 @@ use Prim.Native.Nat.{ℕ, ◌*◌, ◌≤◌}
 use lib.Dec.{eqb}
 use lib.ListN.{length}
 use Rattle.refusals.specs.Faults.{◌then◌, unless}
-use Rattle.refusals.specs.FaultSteps.{then_next, then_stop}
+use Rattle.refusals.proofs.FaultSteps.{then_next, then_stop}
 use Rattle.cells.specs.Cells.{Cells, cells_fault, cell_count, table_length}
 use Rattle.cells.specs.Counted.{counted, length_is, count_small}
 use Rattle.figures.specs.Figures.{figures_fault}

@@ -1,3 +1,10 @@
 pub mod Steps
 pub mod Faults
 pub mod Whole
+pub mod Examples
+pub mod FaultLaws
+pub mod FourLaws
+pub mod Greatest
+pub mod RingLaws
+pub mod Runs
+pub mod TableLaws

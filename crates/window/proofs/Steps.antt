@@ -11,15 +11,15 @@ use lib.ListN.{length, get_or, set, take, drop, length-drop}
 use lib.Seq.{paste, paste-suc, length-take-le}
 use lib.Ieee.{Float}
 use Rattle.refusals.specs.TestLaws.{and_r}
-use Rattle.float.specs.Tests.{yes}
-use Rattle.figures.specs.Parts.{place_in, part_is}
+use Rattle.float.proofs.Tests.{yes}
+use Rattle.figures.proofs.Parts.{place_in, part_is}
 use Rattle.figures.specs.Figures.{greater}
 use Rattle.window.specs.Tables.{raised, raised_by}
 use Rattle.window.specs.Window.{width_in, before, table_at, ring}
 use Rattle.window.specs.Fours.{Alike, raised_four}
-use Rattle.window.specs.TableLaws.{front, front_more, raised_last, raised_length, raised_by_none}
-use Rattle.window.specs.RingLaws.{before_in}
-use Rattle.window.specs.FourLaws.{fronts, four_length, cell_four, fronts_more}
+use Rattle.window.proofs.TableLaws.{front, front_more, raised_last, raised_length, raised_by_none}
+use Rattle.window.proofs.RingLaws.{before_in}
+use Rattle.window.proofs.FourLaws.{fronts, four_length, cell_four, fronts_more}
 
 -- ---- sizes
 

@@ -11,13 +11,13 @@ use lib.Ieee.{Float}
 use borrow.Author.Tests.{eq-eqb, ne_eqb}
 use Rattle.float.specs.Zero.{+0}
 use Rattle.cells.specs.Cells.{Cells, cell_count}
-use Rattle.figures.specs.Parts.{place_in}
+use Rattle.figures.proofs.Parts.{place_in}
 use Rattle.window.specs.Tables.{raised_by, answer_of}
 use Rattle.window.specs.Window.{State, Table, window_of, state_of, cells_of, advanced, stored, ring, push_fault, pushed, push}
 use Rattle.window.specs.Window.{open_fault, opened, shut}
-use Rattle.window.specs.TableLaws.{raised_by_length}
-use Rattle.window.specs.RingLaws.{after_in}
-use Rattle.window.specs.FaultLaws.{Taken, taken}
+use Rattle.window.proofs.TableLaws.{raised_by_length}
+use Rattle.window.proofs.RingLaws.{after_in}
+use Rattle.window.proofs.FaultLaws.{Taken, taken}
 use Rattle.window.specs.declared.Window.{Window}
 
 -- a push with a fault changes nothing

@@ -1,7 +1,7 @@
 -- `claim::ask` meets its contract: what the load and the questions give, joined, and the claim of it. Assumes nothing.
 use lib.ListN.{length}
 use Rattle.nanovdb.specs.Lent.{Tables, tables, lengths}
-use Rattle.nanovdb.specs.Kept.{Kept}
+use Rattle.nanovdb.proofs.Kept.{Kept}
 use Rattle.claim.specs.Load.{Loads}
 use Rattle.claim.specs.Asked.{as_question, as_load}
 use Rattle.claim.proofs.Joined.{joined, workless, counted_in, asks}

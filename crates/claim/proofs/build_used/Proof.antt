@@ -5,7 +5,7 @@ use native.Mathlib.Omega.{arith}
 use lib.Seq.{length-take-le}
 use lib.ListN.{length, replicate}
 use Rattle.refusals.specs.Results.{number_of, value_or}
-use Rattle.refusals.specs.FaultSteps.{passing_stop, passing_on}
+use Rattle.refusals.proofs.FaultSteps.{passing_stop, passing_on}
 use Rattle.float.specs.Zero.{+0}
 use Rattle.medium.specs.Record.{as_medium}
 use Rattle.nanovdb.specs.Lent.{Tables, tables, Used, used_of}

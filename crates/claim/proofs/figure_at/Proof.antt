@@ -3,8 +3,8 @@ use mathlib.Core.Path.{sym, ◌∙◌}
 use lib.Ieee.{binary32, nan}
 use lib.ListN.{get_or-eq_default}
 use Rattle.float.specs.Zero.{+0}
-use Rattle.float.specs.Literal.{zero_literal}
-use Rattle.refusals.specs.ListLaws.{get_d_any}
+use Rattle.float.proofs.Literal.{zero_literal}
+use Rattle.refusals.proofs.ListLaws.{get_d_any}
 use borrow.Author.Rules.{rules}
 use Rattle.claim.proofs.figure_at.Statement.{statement}
 use Rattle.claim.proofs.figure_at.Tie as tie

@@ -1,7 +1,7 @@
 -- `claim::found_in` meets its contract: zeros after a refused build, or the cell and its figure. Assumes nothing.
 use mathlib.Core.Path.{◌∙◌}
 use lib.Ieee.{binary32}
-use Rattle.float.specs.Literal.{zero_literal}
+use Rattle.float.proofs.Literal.{zero_literal}
 use Rattle.medium.specs.Record.{as_medium, point_of}
 use Rattle.claim.proofs.Joined.{found_stop, found_on}
 use borrow.Author.Rules.{rules}

@@ -2,7 +2,7 @@
 use lib.ListN.{length}
 use Rattle.decode.specs.Answers.{answer as decoded}
 use Rattle.nanovdb.specs.Lent.{Tables, tables, lengths}
-use Rattle.nanovdb.specs.Kept.{Kept}
+use Rattle.nanovdb.proofs.Kept.{Kept}
 use Rattle.claim.proofs.Joined.{Decode, used_in_lem, workless, loads}
 use borrow.Author.Rules.{rules}
 use Rattle.claim.proofs.load.Statement.{statement}

@@ -4,7 +4,7 @@ use mathlib.Core.List.{[]}
 use native.Mathlib.Omega.{arith}
 use lib.Seq.{length-take-le}
 use lib.Ieee.{binary32}
-use Rattle.float.specs.Literal.{zero_literal}
+use Rattle.float.proofs.Literal.{zero_literal}
 use Rattle.nanovdb.specs.Lent.{Tables, tables, Used, used_of}
 use Rattle.decode.specs.Answers.{answer as decoded}
 use Rattle.claim.specs.Asked.{as_question}

@@ -3,7 +3,7 @@ use mathlib.Core.Path.{sym, ap, ◌∙◌}
 use lib.Ieee.{binary32}
 use Rattle.refusals.specs.Results.{value_or}
 use Rattle.float.specs.Zero.{+0}
-use Rattle.float.specs.Literal.{zero_literal}
+use Rattle.float.proofs.Literal.{zero_literal}
 use Rattle.sparse_grid.specs.Answers.{outcome}
 use borrow.Author.Rules.{rules}
 use Rattle.claim.proofs.value_or_zero.Statement.{statement}

@@ -8,7 +8,7 @@ use lib.ListN.{length}
 use borrow.Author.Rules.{rules}
 use Rattle.refusals.specs.Results.{refused}
 use Rattle.contents.specs.Segments.{count, segment_end, segment_fault}
-use Rattle.contents.specs.SegmentLaws.{body_above}
+use Rattle.contents.proofs.SegmentLaws.{body_above}
 use Rattle.contents.specs.Contents.{located}
 use Rattle.contents.specs.Inner.{answer_of}
 use Rattle.contents.proofs.Files.{answer_from, empty_file, from_start, at_end, stopped_at, gone_past}

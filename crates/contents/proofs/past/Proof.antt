@@ -3,7 +3,7 @@ use Prim.Native.Nat.{ℕ}
 use mathlib.Core.List.{List}
 use native.Mathlib.Omega.{arith}
 use borrow.Author.Rules.{rules}
-use Rattle.contents.specs.SegmentLaws.{sound, header_inside}
+use Rattle.contents.proofs.SegmentLaws.{sound, header_inside}
 use Rattle.contents.proofs.Files.{stays, finds, passes_by}
 use Rattle.contents.proofs.past.Statement.{statement}
 use Rattle.contents.proofs.past.Tie as tie

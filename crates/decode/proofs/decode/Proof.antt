@@ -2,7 +2,7 @@
 use mathlib.Core.Path.{◌≡◌, refl}
 use borrow.Author.Rules.{rules}
 use Rattle.nanovdb.specs.Lent.{Tables, tables, lengths, zeros}
-use Rattle.nanovdb.specs.Kept.{Kept, kept_on, same}
+use Rattle.nanovdb.proofs.Kept.{Kept, kept_on, same}
 use Rattle.decode.specs.Inner.GridRead.{leafless}
 use Rattle.decode.proofs.grid.Zeros.{zeroed, decoded}
 use Rattle.decode.proofs.decode.Statement.{statement}

@@ -17,8 +17,8 @@ use Rattle.layout.specs.Bytes.{f32_at}
 use Rattle.medium.specs.Medium.{Medium}
 use Rattle.nanovdb.specs.Tree.{Roots, tree}
 use Rattle.nanovdb.specs.Decode.{Accepted, bytes_fault, root_place, medium_at}
-use Rattle.nanovdb.specs.HeldTiles.{tree_holds}
-use Rattle.nanovdb.specs.Kept.{Kept, same}
+use Rattle.nanovdb.proofs.HeldTiles.{tree_holds}
+use Rattle.nanovdb.proofs.Kept.{Kept, same}
 use Rattle.nanovdb.specs.Lent.{Answer, Lent, Tables, lengths, zeros, lent_fault, places_of, decode_into, answer_of, left_of}
 use Rattle.decode.specs.Inner.Filled.{Holds}
 use Rattle.decode.specs.Inner.Rooted.{RootsHeld}

@@ -6,7 +6,7 @@ use Prim.Native.Nat.{ℕ, zero, suc}
 use native.Mathlib.Omega.{arith}
 use lib.Ieee.{Float}
 use Rattle.refusals.specs.Faults.{◌then◌}
-use Rattle.refusals.specs.FaultSteps.{then_stop}
+use Rattle.refusals.proofs.FaultSteps.{then_stop}
 use Rattle.sparse_grid.specs.Tables.{Grid, grid_of}
 use Rattle.sparse_grid.specs.Validate.{validate, density_fault}
 use Rattle.layout.specs.Coordinates.{Coord}

@@ -10,7 +10,7 @@ use lib.Ieee.{Float}
 use Rattle.refusals.specs.Results.{ok}
 use Rattle.float.specs.Zero.{+0}
 use Rattle.lent.specs.Padded.{padded}
-use Rattle.lent.specs.PaddedLaws.{padded_take, padded_fits}
+use Rattle.lent.proofs.PaddedLaws.{padded_take, padded_fits}
 use Rattle.layout.specs.Bytes.{f32_at}
 use Rattle.sparse_grid.specs.declared.Entry.{Entry}
 use Rattle.nanovdb.specs.Tree.{Root, Roots}

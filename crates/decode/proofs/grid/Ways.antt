@@ -7,7 +7,7 @@ use native.Mathlib.Omega.{arith}
 use Rattle.refusals.specs.Results.{Result, ok, refused, bind}
 use Rattle.refusals.specs.Faults.{passing}
 use Rattle.refusals.specs.FaultLaws.{then_zero}
-use Rattle.refusals.specs.FaultSteps.{then_next, then_stop, passing_stop, passing_on}
+use Rattle.refusals.proofs.FaultSteps.{then_next, then_stop, passing_stop, passing_on}
 use Rattle.sparse_grid.specs.Validate.{density_fault}
 use Rattle.nanovdb.specs.Nodes.{Places}
 use Rattle.nanovdb.specs.Tree.{Roots, tree}

@@ -11,7 +11,7 @@ use lib.Pow.{shr-shr, shr_lt, pow_mono}
 use borrow.Author.Tests.{ltb-true, ltb-false}
 use Rattle.layout.specs.Bytes.{Bytes, mask_bit, mask_word}
 use Rattle.layout.specs.FieldLaws.{le_below}
-use Rattle.layout.specs.MaskLaws.{mask_word_lem, trailing_clear, trailing_set, trailing_below}
+use Rattle.layout.proofs.MaskLaws.{mask_word_lem, trailing_clear, trailing_set, trailing_below}
 use Rattle.decode.specs.Inner.Stored.{NextChild}
 
 -- no slot from i on has a child, up to `at`

@@ -8,7 +8,7 @@ use lib.Ieee.{Float}
 use Rattle.refusals.specs.Results.{ok}
 use Rattle.float.specs.Zero.{+0}
 use Rattle.lent.specs.Padded.{padded}
-use Rattle.lent.specs.PaddedLaws.{padded_push, padded_zero}
+use Rattle.lent.proofs.PaddedLaws.{padded_push, padded_zero}
 use Rattle.sparse_grid.specs.declared.Entry.{Entry}
 use Rattle.sparse_grid.specs.declared.Entry.TheVariants.{Child, Tile}
 use Rattle.nanovdb.specs.Spans.{Span}

@@ -8,7 +8,7 @@ use lib.ListN.{length, set, length-append, length-map, length-set}
 use lib.Ieee.{Float}
 use Rattle.float.specs.Zero.{+0}
 use Rattle.lent.specs.Padded.{padded}
-use Rattle.lent.specs.PaddedLaws.{padded_push}
+use Rattle.lent.proofs.PaddedLaws.{padded_push}
 use Rattle.layout.specs.Bytes.{signed}
 use Rattle.sparse_grid.specs.declared.Entry.{Entry}
 use Rattle.nanovdb.specs.Tree.{Root, field, root_of}

@@ -14,8 +14,8 @@ use Rattle.layout.specs.Bytes.{signed, u64_at, i64_at, f32_at}
 use Rattle.sparse_grid.specs.declared.Entry.TheVariants.{Child, Tile}
 use Rattle.nanovdb.specs.Nodes.{Places, State, Read, child_target, node}
 use Rattle.nanovdb.specs.Tree.{Roots, root_of, key_passes, tile_read, tiles_read}
-use Rattle.nanovdb.specs.HeldTiles.{tiles_read_lem}
-use Rattle.nanovdb.specs.Kept.{Kept, kept_on}
+use Rattle.nanovdb.proofs.HeldTiles.{tiles_read_lem}
+use Rattle.nanovdb.proofs.Kept.{Kept, kept_on}
 use Rattle.decode.specs.Inner.Filled.{of_target, Tabs, Fit, Holds, Reads, NodeFit, NodeSays, NodeOut}
 use Rattle.decode.specs.Inner.Rooted.{RootTabs, RootsHeld, RootPut, TileSays, TileOut, TilesOut, StepFit}
 use Rattle.decode.specs.Inner.GridRead.{all_tables}

@@ -9,14 +9,14 @@ use lib.IntN.{pos}
 use lib.ListN.{length}
 use Rattle.refusals.specs.Results.{ok, refused}
 use Rattle.float.specs.Zero.{+0}
-use Rattle.lent.specs.PaddedLaws.{padded_none}
+use Rattle.lent.proofs.PaddedLaws.{padded_none}
 use Rattle.layout.specs.Bytes.{u32_at, u64_at}
 use Rattle.nanovdb.specs.Spans.{Span}
 use Rattle.nanovdb.specs.Nodes.{Places, State, empty, with_span, claim}
 use Rattle.nanovdb.specs.Tree.{tree}
 use Rattle.nanovdb.specs.Decode.{root_place, blocks_of}
-use Rattle.nanovdb.specs.HeldTiles.{start, tiles_read_lem}
-use Rattle.nanovdb.specs.Kept.{Kept}
+use Rattle.nanovdb.proofs.HeldTiles.{start, tiles_read_lem}
+use Rattle.nanovdb.proofs.Kept.{Kept}
 use Rattle.decode.specs.Inner.WorkTable.{header_span, root_span, nodes, RootOut}
 use Rattle.decode.specs.Inner.Packed.{Packed}
 use Rattle.decode.specs.Inner.Filled.{Tabs, Fit, Holds, Reads, with_work}

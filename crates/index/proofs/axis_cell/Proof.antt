@@ -3,7 +3,7 @@ use native.Mathlib.Omega.{arith}
 use mathlib.Core.Path.{◌≡◌, sym, ◌∙◌}
 use Prim.Native.Nat.{◌-◌, ◌≤◌}
 use Rattle.index.specs.Found.{cell_from, axis_cell}
-use Rattle.index.specs.FoundLaws.{search_here, search_on, search_start, search_end}
+use Rattle.index.proofs.FoundLaws.{search_here, search_on, search_start, search_end}
 use borrow.Author.Rules.{rules}
 use Rattle.index.proofs.axis_cell.Statement.{statement}
 use Rattle.index.proofs.axis_cell.Tie as tie

@@ -1,7 +1,7 @@
 -- `index::corner` meets its contract, step by step. Assumes nothing.
 use lib.Ieee.{binary32, add, sub, mul, div}
 use Rattle.index.specs.Axes.{corner_on}
-use Rattle.float.specs.Whole.{one_literal}
+use Rattle.float.proofs.WholeLaws.{one_literal}
 use borrow.Author.Rules.{rules}
 use Rattle.index.proofs.corner.Statement.{statement}
 use Rattle.index.proofs.corner.Tie as tie

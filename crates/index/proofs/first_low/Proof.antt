@@ -3,7 +3,7 @@ use mathlib.Core.Path.{◌∙◌}
 use lib.Ieee.{binary64, sub}
 use Rattle.float.specs.Fused.{trunc}
 use Rattle.index.specs.Axes.{first_low}
-use Rattle.float.specs.Whole.{one_literal_64}
+use Rattle.float.proofs.WholeLaws.{one_literal_64}
 use Rattle.index.proofs.Ends.{outcome}
 use borrow.Author.Rules.{rules}
 use Rattle.index.proofs.first_low.Statement.{statement}

@@ -2,7 +2,7 @@
 use mathlib.Core.Path.{◌∙◌}
 use lib.Dec.{le→leb}
 use lib.Ieee.{in_float}
-use Rattle.float.specs.Whole.{narrow_whole}
+use Rattle.float.proofs.WholeLaws.{narrow_whole}
 use borrow.Author.Rules.{rules}
 use Rattle.index.proofs.rounded.Statement.{statement}
 use Rattle.index.proofs.rounded.Tie as tie

@@ -3,7 +3,7 @@ use mathlib.Core.Path.{ap, ◌∙◌}
 use lib.Ieee.{binary64, add}
 use Rattle.float.specs.Fused.{floor}
 use Rattle.index.specs.Axes.{second_high}
-use Rattle.float.specs.Whole.{one_literal_64}
+use Rattle.float.proofs.WholeLaws.{one_literal_64}
 use Rattle.index.proofs.Ends.{outcome}
 use borrow.Author.Rules.{rules}
 use Rattle.index.proofs.second_high.Statement.{statement}

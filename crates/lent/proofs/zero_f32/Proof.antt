@@ -4,7 +4,7 @@ use native.Mathlib.Omega.{arith}
 use lib.ListN.{length}
 use lib.Ieee.{binary32}
 use Rattle.float.specs.Zero.{+0}
-use Rattle.float.specs.Literal.{zero_literal}
+use Rattle.float.proofs.Literal.{zero_literal}
 use Rattle.lent.proofs.Fill.{Filled, fill_none, fill_more, fill_all}
 use Rattle.lent.proofs.zero_f32.Statement.{statement}
 use Rattle.lent.proofs.zero_f32.Tie as tie

@@ -6,7 +6,7 @@ use Rattle.sparse_grid.specs.Tables.{Grid, grid_of}
 use Rattle.sparse_grid.specs.Lookup.{read_in}
 use Rattle.boxes.specs.Boxes.{box_maximum, between}
 use Rattle.majorant.specs.Build.{public_maximum}
-use Rattle.sparse_grid.specs.Signs.{seen}
+use Rattle.sparse_grid.proofs.Signs.{seen}
 use Rattle.majorant.proofs.Refused.{passed, stopped}
 use Rattle.majorant.proofs.box_maximum.Statement.{statement}
 use Rattle.majorant.proofs.box_maximum.Tie as tie

@@ -3,12 +3,12 @@ use Rattle.std.proofs.Common.{◌≡◌, ℕ, List, [], ◌∷◌, sym, refl, ap
 use Rattle.refusals.specs.Results.{said}
 use Rattle.sparse_grid.specs.Tables.{Grid, grid_of}
 use Rattle.sparse_grid.specs.Lookup.{read_in}
-use Rattle.sparse_grid.specs.Signs.{seen}
+use Rattle.sparse_grid.proofs.Signs.{seen}
 use Rattle.boxes.specs.Boxes.{Box, box_maximum, between}
 use Rattle.walk.specs.Walk.{roots_read, uppers_read, lowers_read, leaves_read}
-use Rattle.walk.specs.Caps.{held}
+use Rattle.walk.proofs.Caps.{held}
 use Rattle.walk.specs.Counts.{More}
-use Rattle.walk.specs.MoreLaws.{Exact, exact}
+use Rattle.walk.proofs.MoreLaws.{Exact, exact}
 use Rattle.majorant.specs.Counted.{unread, public_counted}
 use Rattle.majorant.proofs.Signs.{handed_on}
 use Rattle.majorant.proofs.Refused.{passed, stopped}

@@ -1,7 +1,7 @@
 -- `medium::no_temperature` meets its contract: the code's zeros are the definition's. Assumes nothing.
 use mathlib.Core.Bool.{false}
 use lib.Ieee.{binary32}
-use Rattle.float.specs.Literal.{zero_literal}
+use Rattle.float.proofs.Literal.{zero_literal}
 use Rattle.medium.proofs.no_temperature.Statement.{statement}
 use Rattle.medium.proofs.no_temperature.Tie as tie
 

@@ -1,6 +1,6 @@
 -- `medium::off_diagonal` meets its contract: the literal 0.0 is +0. Assumes nothing.
 use mathlib.Core.Path.{ap}
-use Rattle.float.specs.Literal.{zero_literal}
+use Rattle.float.proofs.Literal.{zero_literal}
 use lib.Ieee.{Float, eq, binary32}
 use Rattle.medium.proofs.off_diagonal.Statement.{statement}
 use Rattle.medium.proofs.off_diagonal.Tie as tie

@@ -1,6 +1,6 @@
 -- `medium::on_diagonal` meets its contract: the literal 0.0 is +0. Assumes nothing.
 use mathlib.Core.Path.{ap, ◌∙◌}
-use Rattle.float.specs.Literal.{zero_literal}
+use Rattle.float.proofs.Literal.{zero_literal}
 use lib.Ieee.{Float, lt, binary32}
 use Rattle.refusals.specs.TestLaws.{and_same}
 use borrow.Author.Rules.{rules}

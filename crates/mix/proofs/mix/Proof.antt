@@ -2,7 +2,7 @@
 use mathlib.Core.Path.{sym, ap, ◌∙◌}
 use borrow.Author.Rules.{rules}
 use Rattle.refusals.specs.Results.{ok, said}
-use Rattle.refusals.specs.FaultSteps.{passing_stop, passing_on}
+use Rattle.refusals.proofs.FaultSteps.{passing_stop, passing_on}
 use Rattle.float.specs.Zero.{+0}
 use Rattle.sparse_grid.specs.Tables.{Grid, grid_of}
 use Rattle.medium.specs.Medium.{Point, Medium}

@@ -2,15 +2,15 @@
 use Rattle.std.proofs.Common.{◌≡◌, ℕ, ◌<◌, ◌≤◌, true, false, List, length, get_or, sym, ap, ◌∙◌, subst, arith, rules}
 use lib.Ieee.{Float, nan, le}
 use Rattle.refusals.specs.TestLaws.{and_same}
-use Rattle.refusals.specs.ListLaws.{get_d_any}
+use Rattle.refusals.proofs.ListLaws.{get_d_any}
 use Rattle.float.specs.Zero.{+0}
 use Rattle.medium.specs.Medium.{Axis, x_axis, y_axis, z_axis}
 use Rattle.cells.specs.Cells.{table_fault}
 use Rattle.cells.specs.Counted.{Tabled, tabled, count_small}
 use Rattle.rays.specs.Ray.{Track, State, on_state, cells_in, sound_state, axis_in, place_of, next}
 use Rattle.rays.specs.Held.{Held}
-use Rattle.rays.specs.Turns.{next_over, next_piece, next_unsound, sounds}
-use Rattle.rays.specs.Theorems.{place_lt}
+use Rattle.rays.proofs.Turns.{next_over, next_piece, next_unsound, sounds}
+use Rattle.rays.proofs.Theorems.{place_lt}
 use Rattle.rays.specs.Answers.{as_track, as_state, Answer, stepped_answer, over_answer, answer_of}
 use Rattle.rays.proofs.Laws.{refused_is, piece_by, axis_x, axis_y, axis_z}
 use Rattle.rays.proofs.next_piece.Statement.{statement}

@@ -1,5 +1,5 @@
 -- The second of the two texts.
-use Rattle.text.specs.PageLaws.{wrote}
+use Rattle.text.proofs.PageLaws.{wrote}
 use Rattle.report.proofs.Whole.{classes_printed, at_front}
 use Rattle.report.proofs.class_report.Goals as goal
 

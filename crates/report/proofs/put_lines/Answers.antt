@@ -1,5 +1,5 @@
 -- The lines, one after another.
-use Rattle.text.specs.PageLaws.{wrote, ◌then◌}
+use Rattle.text.proofs.PageLaws.{wrote, ◌then◌}
 use Rattle.report.specs.Inner.{lines_in}
 use Rattle.report.proofs.put_lines.Goals as goal
 

@@ -2,9 +2,9 @@
 use Rattle.std.proofs.Common.{List, ℕ, ◌≤◌, length, subst, arith}
 use Rattle.nanovdb.specs.Lent.{tables}
 use Rattle.decode.specs.Answers.{answer}
-use Rattle.text.specs.PageLaws.{wrote, same_text}
+use Rattle.text.proofs.PageLaws.{wrote, same_text}
 use Rattle.report.specs.Room.{long_room}
-use Rattle.report.specs.ClassRoom.{printed_room}
+use Rattle.report.proofs.ClassRoom.{printed_room}
 use Rattle.report.proofs.Counting.{Nodeless}
 use Rattle.report.proofs.Whole.{Left, roots_most, printed_is, long_is}
 use Rattle.report.proofs.put_printed.Goals as goal

@@ -1,6 +1,6 @@
 -- The refusal, or one of the two texts.
 use Rattle.decode.specs.Answers.{answer}
-use Rattle.text.specs.PageLaws.{wrote}
+use Rattle.text.proofs.PageLaws.{wrote}
 use Rattle.report.proofs.Whole.{text_refused, text_classes, text_lines}
 use Rattle.report.proofs.put_text.Goals as goal
 

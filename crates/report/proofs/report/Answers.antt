@@ -1,5 +1,5 @@
 -- The first of the two texts.
-use Rattle.text.specs.PageLaws.{wrote}
+use Rattle.text.proofs.PageLaws.{wrote}
 use Rattle.report.proofs.Whole.{report_printed, at_front}
 use Rattle.report.proofs.report.Goals as goal
 

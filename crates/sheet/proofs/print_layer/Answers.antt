@@ -4,7 +4,7 @@ use Rattle.std.specs.Prelude.{true, Float}
 use Rattle.std.specs.Float.Ieee.Scale.{finite}
 use Rattle.cells.specs.Cells.{cells}
 use Rattle.figures.specs.Figures.{every}
-use Rattle.text.specs.PageLaws.{wrote, same_text}
+use Rattle.text.proofs.PageLaws.{wrote, same_text}
 use Rattle.sheet.specs.Sheet.{page_of}
 use Rattle.sheet.proofs.Faults.{Asked, told, layer_part, layer_room, rows_fit, counts}
 use Rattle.sheet.proofs.Whole.{refused_out, page_out}

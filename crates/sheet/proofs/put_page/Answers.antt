@@ -4,10 +4,10 @@ use Rattle.std.proofs.Math.Dec.{T}
 use Rattle.std.specs.Prelude.{Float}
 use Rattle.std.specs.Float.Ieee.Scale.{finite}
 use Rattle.std.specs.Float.Ieee.Bits.{is_true}
-use Rattle.float.specs.Tests.{yes}
+use Rattle.float.proofs.Tests.{yes}
 use Rattle.float.specs.Zero.{+0}
-use Rattle.text.specs.PageLaws.{wrote}
-use Rattle.sheet.specs.SheetLaws.{most_finite}
+use Rattle.text.proofs.PageLaws.{wrote}
+use Rattle.sheet.proofs.SheetLaws.{most_finite}
 use Rattle.sheet.proofs.Whole.{page_is}
 use Rattle.sheet.proofs.put_page.Goals as goal
 

@@ -4,7 +4,7 @@ use borrow.Author.Rules.{rules}
 use lib.Ieee.{binary32}
 use Rattle.refusals.specs.Results.{number_of, value_or}
 use Rattle.float.specs.Zero.{+0}
-use Rattle.float.specs.Literal.{zero_literal}
+use Rattle.float.proofs.Literal.{zero_literal}
 use Rattle.sparse_grid.specs.Answers.{outcome}
 use Rattle.smokegrid.proofs.give.Statement.{statement}
 use Rattle.smokegrid.proofs.give.Tie as tie

@@ -4,7 +4,7 @@ use mathlib.Core.Path.{sym, ap, ◌∙◌}
 use borrow.Author.Rules.{rules}
 use lib.Ieee.{Float, binary32}
 use Rattle.refusals.specs.Results.{Result, number_of, value_or}
-use Rattle.float.specs.Literal.{zero_literal}
+use Rattle.float.proofs.Literal.{zero_literal}
 use Rattle.sparse_grid.specs.Answers.{Spoken, unspoken, heard, level_number}
 use Rattle.smokegrid.proofs.give_reading.Statement.{statement}
 use Rattle.smokegrid.proofs.give_reading.Tie as tie

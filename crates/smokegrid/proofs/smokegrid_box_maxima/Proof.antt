@@ -7,7 +7,7 @@ use Rattle.float.specs.Zero.{+0}
 use Rattle.sparse_grid.specs.Tables.{Grid, grid_of}
 use Rattle.sparse_grid.specs.Answers.{outcome}
 use Rattle.majorant.specs.Maxima.{greatest_into}
-use Rattle.majorant.specs.MaximaLaws.{one_number}
+use Rattle.majorant.proofs.MaximaLaws.{one_number}
 use borrow.Author.Rules.{rules}
 use Rattle.smokegrid.proofs.smokegrid_box_maxima.Statement.{statement}
 use Rattle.smokegrid.proofs.smokegrid_box_maxima.Tie as tie

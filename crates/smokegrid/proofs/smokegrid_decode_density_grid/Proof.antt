@@ -2,10 +2,10 @@
 use mathlib.Core.Path.{◌≡◌, refl, sym, ◌∙◌}
 use lib.ListN.{length}
 use lib.Ieee.{binary32}
-use Rattle.float.specs.Literal.{zero_literal}
+use Rattle.float.proofs.Literal.{zero_literal}
 use Rattle.nanovdb.specs.Lent.{Tables, tables, lengths}
 use Rattle.smokegrid.specs.Flat.{flat_fault}
-use Rattle.nanovdb.specs.Kept.{Kept}
+use Rattle.nanovdb.proofs.Kept.{Kept}
 use Rattle.smokegrid.proofs.Left.{Handed, fault_of, out_fault, out_answer, zero_counts, zero_medium, zero_corners, zero_cells}
 use borrow.Author.Rules.{rules}
 use Rattle.smokegrid.proofs.smokegrid_decode_density_grid.Statement.{statement}

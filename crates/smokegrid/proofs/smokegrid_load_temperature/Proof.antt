@@ -4,9 +4,9 @@ use Prim.Native.Nat.{ℕ}
 use lib.ListN.{length, replicate}
 use lib.Ieee.{binary32}
 use borrow.Author.Rules.{rules}
-use Rattle.float.specs.Literal.{zero_literal}
+use Rattle.float.proofs.Literal.{zero_literal}
 use Rattle.nanovdb.specs.Lent.{Tables, tables, lengths}
-use Rattle.nanovdb.specs.Kept.{Kept}
+use Rattle.nanovdb.proofs.Kept.{Kept}
 use Rattle.smokegrid.proofs.Heated.{HeatHanded, heat_sized, heat_answer}
 use Rattle.smokegrid.proofs.smokegrid_load_temperature.Statement.{statement}
 use Rattle.smokegrid.proofs.smokegrid_load_temperature.Tie as tie

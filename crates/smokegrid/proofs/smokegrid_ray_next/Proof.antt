@@ -6,11 +6,11 @@ use lib.IntN.{ℤ, pos}
 use lib.ListN.{length, replicate}
 use lib.Ieee.{Float, binary32}
 use Rattle.float.specs.Zero.{+0}
-use Rattle.float.specs.Literal.{zero_literal}
+use Rattle.float.proofs.Literal.{zero_literal}
 use Rattle.rays.specs.Ray.{State, cells_in, next}
 use Rattle.rays.specs.Run.{left}
 use Rattle.rays.specs.Answers.{Answer, as_answer, answer_of}
-use Rattle.rays.specs.Theorems.{Within, next_within}
+use Rattle.rays.proofs.Theorems.{Within, next_within}
 use Rattle.smokegrid.specs.FlatRay.{ray_state_from, ray_fault}
 use Rattle.smokegrid.proofs.Rayed.{Sized, sized, next_unfit, next_fit, state_left}
 use borrow.Author.Rules.{rules}

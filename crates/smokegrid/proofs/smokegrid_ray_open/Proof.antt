@@ -10,7 +10,7 @@ use Rattle.medium.specs.Medium.{Medium}
 use Rattle.rays.specs.Ray.{cells_in}
 use Rattle.rays.specs.Open.{Beam, open_ray}
 use Rattle.rays.specs.Answers.{Opened, as_opened, opened_of}
-use Rattle.rays.specs.Theorems.{Within, open_within}
+use Rattle.rays.proofs.Theorems.{Within, open_within}
 use Rattle.smokegrid.specs.Flat.{medium_from}
 use Rattle.smokegrid.specs.FlatRay.{beam, ray_fault}
 use Rattle.smokegrid.proofs.Rayed.{Sized, sized, open_medium, open_cells, open_state, open_fit}

@@ -1,5 +1,5 @@
 -- `sparse_grid::biased` meets its contract: a coordinate plus 2^31 fits and is not negative. Assumes nothing.
-use Rattle.sparse_grid.specs.Signs.{wide_fits, sum_fits, not_negative, is_biased}
+use Rattle.sparse_grid.proofs.Signs.{wide_fits, sum_fits, not_negative, is_biased}
 use Rattle.sparse_grid.proofs.biased.Statement.{statement}
 use Rattle.sparse_grid.proofs.biased.Tie as tie
 

@@ -1,7 +1,7 @@
 -- `sparse_grid::entry_of` meets its contract: the link decides which of the two cases the entry is. Assumes nothing.
 use Rattle.std.proofs.Common.{ℕ, sym, ap, arith, rules}
 use Rattle.sparse_grid.specs.Tables.{entry_of}
-use Rattle.sparse_grid.specs.TableLaws.{child}
+use Rattle.sparse_grid.proofs.TableLaws.{child}
 use Rattle.sparse_grid.proofs.entry_of.Statement.{statement}
 use Rattle.sparse_grid.proofs.entry_of.Tie as tie
 

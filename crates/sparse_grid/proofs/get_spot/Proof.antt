@@ -8,9 +8,9 @@ use Rattle.sparse_grid.specs.Lookup.{refused}
 use Rattle.sparse_grid.specs.Answers.{value_only, at}
 use Rattle.sparse_grid.specs.Inner.{placed, root_from}
 use Rattle.sparse_grid.specs.Sound.{pairs}
-use Rattle.sparse_grid.specs.Signs.{seen}
+use Rattle.sparse_grid.proofs.Signs.{seen}
 use Rattle.sparse_grid.specs.Spots.{Cube}
-use Rattle.sparse_grid.specs.SpotLaws.{block_same}
+use Rattle.sparse_grid.proofs.SpotLaws.{block_same}
 use Rattle.sparse_grid.proofs.Whole.{pair_only}
 use Rattle.sparse_grid.proofs.Nodes.{unpaired, by_place}
 use Rattle.sparse_grid.proofs.get_spot.Statement.{statement}

@@ -10,7 +10,7 @@ use Rattle.sparse_grid.specs.Lookup.{Found, refused, lookup}
 use Rattle.sparse_grid.specs.Answers.{value_only, at}
 use Rattle.sparse_grid.specs.Inner.{told}
 use Rattle.sparse_grid.specs.Sound.{pairs}
-use Rattle.sparse_grid.specs.Signs.{seen}
+use Rattle.sparse_grid.proofs.Signs.{seen}
 use Rattle.sparse_grid.proofs.Whole.{pair_only}
 use Rattle.sparse_grid.proofs.Nodes.{unpaired, by_place, told_value, told_refused}
 use Rattle.sparse_grid.proofs.get_value.Statement.{statement}

@@ -2,7 +2,7 @@
 use Rattle.std.proofs.Common.{sym, ap, ◌∙◌, arith, rules}
 use Rattle.sparse_grid.specs.Biased.{raised}
 use Rattle.sparse_grid.specs.BiasedLaws.{raised_back}
-use Rattle.sparse_grid.specs.Signs.{seen}
+use Rattle.sparse_grid.proofs.Signs.{seen}
 use Rattle.sparse_grid.proofs.lifted.Statement.{statement}
 use Rattle.sparse_grid.proofs.lifted.Tie as tie
 

@@ -3,12 +3,12 @@ use Rattle.std.proofs.Common.{◌≡◌, ℕ, Bool, cond, sym, ap, ◌∙◌, ru
 use lib.Ieee.{Float}
 use Rattle.refusals.specs.Results.{ok, Said, said}
 use Rattle.refusals.specs.Faults.{passing}
-use Rattle.refusals.specs.FaultSteps.{passing_stop}
+use Rattle.refusals.proofs.FaultSteps.{passing_stop}
 use Rattle.float.specs.Zero.{+0}
 use Rattle.layout.specs.Coordinates.{Coord}
 use Rattle.sparse_grid.specs.Lookup.{leaf_at}
 use Rattle.sparse_grid.specs.Answers.{value_only, at}
-use Rattle.sparse_grid.specs.Signs.{seen}
+use Rattle.sparse_grid.proofs.Signs.{seen}
 use Rattle.sparse_grid.specs.Spots.{leaves_of}
 use Rattle.sparse_grid.proofs.read_spot.Statement.{statement}
 use Rattle.sparse_grid.proofs.read_spot.Tie as tie

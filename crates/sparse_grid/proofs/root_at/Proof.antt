@@ -1,8 +1,8 @@
 -- `sparse_grid::root_at` meets its contract: the three numbers of the block are read as they stand. Assumes nothing.
 use Rattle.std.proofs.Common.{◌∙◌, arith, w32, SFits, rules}
-use Rattle.sparse_grid.specs.TableLaws.{entry_read_lem}
+use Rattle.sparse_grid.proofs.TableLaws.{entry_read_lem}
 use Rattle.sparse_grid.specs.Inner.{root_block}
-use Rattle.sparse_grid.specs.Signs.{seen}
+use Rattle.sparse_grid.proofs.Signs.{seen}
 use Rattle.sparse_grid.proofs.root_at.Statement.{statement}
 use Rattle.sparse_grid.proofs.root_at.Tie as tie
 

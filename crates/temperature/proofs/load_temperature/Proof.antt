@@ -4,7 +4,7 @@ use lib.Ieee.{Float}
 use borrow.Author.Rules.{rules}
 use Rattle.medium.specs.Medium.{Temperature}
 use Rattle.nanovdb.specs.Lent.{Lent, Tables, tables, lengths, zeros}
-use Rattle.nanovdb.specs.Kept.{Kept, kept_on, same}
+use Rattle.nanovdb.proofs.Kept.{Kept, kept_on, same}
 use Rattle.temperature.specs.Temperature.{heated}
 use Rattle.temperature.proofs.Answered.{load_refused, left_refused, load_accepted, left_accepted}
 use Rattle.temperature.proofs.load_temperature.Statement.{statement}

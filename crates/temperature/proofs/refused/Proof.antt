@@ -1,7 +1,7 @@
 -- `temperature::refused` meets its contract: zeros beside the number, and no temperature. Assumes nothing.
 use mathlib.Core.Bool.{false}
 use lib.Ieee.{binary32}
-use Rattle.float.specs.Literal.{zero_literal}
+use Rattle.float.proofs.Literal.{zero_literal}
 use Rattle.temperature.proofs.refused.Statement.{statement}
 use Rattle.temperature.proofs.refused.Tie as tie
 

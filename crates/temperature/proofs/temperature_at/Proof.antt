@@ -10,7 +10,7 @@ use Rattle.layout.specs.Coordinates.{Coord}
 use Rattle.sparse_grid.specs.Tables.{Grid, grid_of}
 use Rattle.sparse_grid.specs.Lookup.{lookup}
 use Rattle.sparse_grid.specs.Answers.{value_only, at}
-use Rattle.sparse_grid.specs.SpotLaws.{from_leaves}
+use Rattle.sparse_grid.proofs.SpotLaws.{from_leaves}
 use Rattle.medium.specs.Medium.{Temperature}
 use Rattle.medium.specs.Record.{as_temperature}
 use Rattle.temperature.proofs.Answered.{heat_none, heat_refused, heat_read}

@@ -1,7 +1,7 @@
 -- The digits of a number, the highest first.
 use Rattle.std.proofs.Common.{refl, [], arith}
 use Rattle.text.specs.Page.{puts}
-use Rattle.text.specs.PageLaws.{wrote}
+use Rattle.text.proofs.PageLaws.{wrote}
 use Rattle.text.proofs.Digits.{decimal_small, decimal_more}
 use Rattle.text.proofs.Steps.{put_last}
 use Rattle.text.proofs.+put_decimal.Goals as goal

@@ -2,7 +2,7 @@
 use Rattle.std.proofs.Common.{ℕ, sym, ap}
 use Rattle.text.specs.Numerals.{sixteens}
 use Rattle.text.specs.Page.{page, puts}
-use Rattle.text.specs.PageLaws.{wrote}
+use Rattle.text.proofs.PageLaws.{wrote}
 use Rattle.text.proofs.Digits.{sixteens_more}
 use Rattle.text.proofs.Steps.{put_last}
 use Rattle.text.proofs.+put_sixteens.Goals as goal

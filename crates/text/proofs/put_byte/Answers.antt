@@ -1,7 +1,7 @@
 -- One byte: with room, and with none.
 use Rattle.std.proofs.Common.{sym, arith}
 use Rattle.text.specs.Page.{puts}
-use Rattle.text.specs.PageLaws.{put_room, put_full}
+use Rattle.text.proofs.PageLaws.{put_room, put_full}
 use Rattle.text.proofs.put_byte.Goals as goal
 
 pub returns-then-at-out : goal.returns-then-at-out

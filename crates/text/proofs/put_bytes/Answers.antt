@@ -1,6 +1,6 @@
 use Rattle.std.proofs.Common.{refl, arith}
 use Rattle.text.specs.Page.{puts}
-use Rattle.text.specs.PageLaws.{wrote}
+use Rattle.text.proofs.PageLaws.{wrote}
 use Rattle.text.proofs.Steps.{put_more}
 use Rattle.text.proofs.put_bytes.Goals as goal
 

@@ -1,7 +1,7 @@
 -- A minus, and the distance from 0.
 use Rattle.std.proofs.Common.{sym, ◌∙◌}
 use mir.Facts.{to_z-of_z}
-use Rattle.text.specs.PageLaws.{wrote}
+use Rattle.text.proofs.PageLaws.{wrote}
 use Rattle.text.proofs.Digits.{signed_below, signed_above}
 use Rattle.text.proofs.put_signed.Goals as goal
 

@@ -2,10 +2,10 @@
 use Rattle.std.proofs.Common.{ℕ, ◌*◌, sym, ap, ◌∙◌}
 use Rattle.std.proofs.Math.Bool.{◌&&◌}
 use Rattle.std.proofs.Math.Dec.{eqb}
-use Rattle.float.specs.Tests.{yes}
+use Rattle.float.proofs.Tests.{yes}
 use Rattle.refusals.specs.TestLaws.{and_same}
 use Rattle.cells.specs.Cells.{cells, cell_count}
-use Rattle.window.specs.FaultLaws.{wide}
+use Rattle.window.proofs.FaultLaws.{wide}
 use Rattle.window.proofs.Faults.{count_is, count_most, open_cells, open_out}
 use Rattle.window.proofs.open_fault.Goals as goal
 

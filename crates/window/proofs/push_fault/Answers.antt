@@ -1,10 +1,10 @@
 -- Five tests, one after the other.
 use Rattle.std.proofs.Common.{sym, ap, ◌∙◌}
-use Rattle.float.specs.Tests.{yes}
+use Rattle.float.proofs.Tests.{yes}
 use Rattle.refusals.specs.TestLaws.{and_l}
 use Rattle.cells.specs.Cells.{cells}
 use Rattle.window.specs.Window.{table_of, width_in, same_cells, cells_of}
-use Rattle.window.specs.FaultLaws.{wide}
+use Rattle.window.proofs.FaultLaws.{wide}
 use Rattle.window.proofs.Faults.{Asked, lengths, count_is, count_most, cells_out, window_out, lengths_out, figures_out}
 use Rattle.window.proofs.push_fault.Goals as goal
 

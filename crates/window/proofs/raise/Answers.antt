@@ -1,6 +1,6 @@
 use Rattle.std.proofs.Common.{◌≡◌, ℕ, ◌<◌, length, refl, sym, ap, ◌∙◌, arith, length-set}
 use Rattle.std.specs.Float.{nan}
-use Rattle.window.specs.TableLaws.{front, front_none, front_all}
+use Rattle.window.proofs.TableLaws.{front, front_none, front_all}
 use Rattle.window.proofs.Steps.{raise_more}
 use Rattle.window.proofs.raise.Goals as goal
 

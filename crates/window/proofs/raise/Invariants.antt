@@ -1,6 +1,6 @@
 -- After i turns the first i cells are raised.
 use Rattle.std.proofs.Common.{◌≡◌, ◌-◌, ◌≤◌, length}
-use Rattle.window.specs.TableLaws.{front}
+use Rattle.window.proofs.TableLaws.{front}
 use Rattle.window.proofs.raise.Given as goal
 
 abbrev pub invariant-loop-i : goal.invariant-loop-i

@@ -1,6 +1,6 @@
 use Rattle.std.proofs.Common.{◌<◌, length, refl, sym, ◌∙◌, arith, length-set}
 use Rattle.std.specs.Float.{nan}
-use Rattle.window.specs.FourLaws.{fronts_none, fronts_all}
+use Rattle.window.proofs.FourLaws.{fronts_none, fronts_all}
 use Rattle.window.proofs.Steps.{four_more}
 use Rattle.window.proofs.raise_four.Goals as goal
 

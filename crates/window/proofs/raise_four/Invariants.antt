@@ -1,6 +1,6 @@
 -- After i turns the first i cells are raised by the four tables.
 use Rattle.std.proofs.Common.{◌≡◌, ◌-◌, ◌≤◌, length}
-use Rattle.window.specs.FourLaws.{fronts}
+use Rattle.window.proofs.FourLaws.{fronts}
 use Rattle.window.proofs.raise_four.Given as goal
 
 abbrev pub invariant-loop-i : goal.invariant-loop-i

@@ -9,10 +9,10 @@ use lib.ListN.{length}
 use borrow.Author.Rules.{rules}
 use borrow.Author.Tests.{not-true, not-false}
 use Rattle.refusals.specs.Faults.{first_fault}
-use Rattle.refusals.specs.FaultSteps.{first_fault_none, first_fault_end}
-use Rattle.float.specs.Tests.{yes}
+use Rattle.refusals.proofs.FaultSteps.{first_fault_none, first_fault_end}
+use Rattle.float.proofs.Tests.{yes}
 use Rattle.contents.specs.Segments.{count, size, entry_end, entry_at, body_at, body_passes, body_fault}
-use Rattle.contents.specs.SegmentLaws.{entry_first, entry_next, entry_inside, body_next, passes_inside}
+use Rattle.contents.proofs.SegmentLaws.{entry_first, entry_next, entry_inside, body_next, passes_inside}
 use Rattle.contents.proofs.Steps.{row_goes, row_stops}
 use Rattle.contents.proofs.segment.bodies.Statement.{statement}
 use Rattle.contents.proofs.segment.bodies.Tie as tie

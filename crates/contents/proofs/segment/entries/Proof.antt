@@ -7,10 +7,10 @@ use native.Mathlib.Omega.{arith}
 use borrow.Author.Rules.{rules}
 use borrow.Author.Tests.{not-true, not-false}
 use Rattle.refusals.specs.Faults.{first_fault}
-use Rattle.refusals.specs.FaultSteps.{first_fault_none, first_fault_end}
-use Rattle.float.specs.Tests.{yes}
+use Rattle.refusals.proofs.FaultSteps.{first_fault_none, first_fault_end}
+use Rattle.float.proofs.Tests.{yes}
 use Rattle.contents.specs.Segments.{count, entry_passes, entry_at, entry_end, entry_fault}
-use Rattle.contents.specs.SegmentLaws.{entry_first, entry_next, body_first, name_inside}
+use Rattle.contents.proofs.SegmentLaws.{entry_first, entry_next, body_first, name_inside}
 use Rattle.contents.proofs.Steps.{row_goes, row_stops}
 use Rattle.contents.proofs.segment.entries.Statement.{statement}
 use Rattle.contents.proofs.segment.entries.Tie as tie

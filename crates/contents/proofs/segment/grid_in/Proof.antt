@@ -7,7 +7,7 @@ use native.Mathlib.Omega.{arith}
 use lib.ListN.{length}
 use borrow.Author.Rules.{rules}
 use Rattle.contents.specs.Segments.{part, count, size, name_length, entry_end, entry_at, body_at}
-use Rattle.contents.specs.SegmentLaws.{Sound, sound, header_inside, entry_first, entry_next, entry_inside, body_next, body_inside}
+use Rattle.contents.proofs.SegmentLaws.{Sound, sound, header_inside, entry_first, entry_next, entry_inside, body_next, body_inside}
 use Rattle.contents.proofs.segment.grid_in.Statement.{statement}
 use Rattle.contents.proofs.segment.grid_in.Tie as tie
 

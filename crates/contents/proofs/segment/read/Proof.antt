@@ -7,9 +7,9 @@ use native.Mathlib.Omega.{arith}
 use lib.ListN.{length}
 use borrow.Author.Rules.{rules}
 use borrow.Author.Tests.{not-true, not-false}
-use Rattle.float.specs.Tests.{yes}
+use Rattle.float.proofs.Tests.{yes}
 use Rattle.contents.specs.Segments.{header_passes, entries_fault}
-use Rattle.contents.specs.SegmentLaws.{header_inside}
+use Rattle.contents.proofs.SegmentLaws.{header_inside}
 use Rattle.contents.proofs.Faults.{header_stops, entries_stop, codec_stops, bodies_last}
 use Rattle.contents.proofs.segment.read.Statement.{statement}
 use Rattle.contents.proofs.segment.read.Tie as tie

@@ -3,7 +3,7 @@ use mathlib.Core.Path.{◌≡◌, sym, ◌∙◌}
 use mathlib.Core.List.{List}
 use Prim.Native.Nat.{ℕ}
 use Rattle.nanovdb.specs.Lent.{Tables, tables, lengths, lent_fault}
-use Rattle.nanovdb.specs.Kept.{Kept}
+use Rattle.nanovdb.proofs.Kept.{Kept}
 use Rattle.decode.proofs.grid.Answers.{paired, Begun, tree-asks, Got, tree-used, out-lent, out-bytes, out-tree, out_fault, out-accepted}
 use borrow.Author.Rules.{rules}
 use Rattle.decode.proofs.grid.read_grid.Statement.{statement}

@@ -5,7 +5,7 @@ use Prim.Native.Nat.{◌+◌, ◌*◌, ◌<◌, ◌≤◌}
 use lib.Ieee.{binary32}
 use lib.ListN.{length}
 use borrow.Author.Rules.{rules}
-use Rattle.float.specs.Literal.{zero_literal}
+use Rattle.float.proofs.Literal.{zero_literal}
 use Rattle.decode.specs.Inner.Filled.{Tabs, tabs, Kept, NodeOut}
 use Rattle.decode.specs.Inner.Rooted.{RootTabs, root_tabs, RootPut}
 use Rattle.decode.proofs.nodes.Answers.{node-number}

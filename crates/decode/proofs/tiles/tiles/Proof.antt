@@ -4,7 +4,7 @@ use mathlib.Core.Path.{sym, ◌∙◌}
 use Prim.Native.Nat.{◌-◌}
 use borrow.Author.Rules.{rules}
 use Rattle.nanovdb.specs.Lent.{Tables}
-use Rattle.nanovdb.specs.Kept.{Kept, kept_on}
+use Rattle.nanovdb.proofs.Kept.{Kept, kept_on}
 use Rattle.decode.specs.Inner.Filled.{Tabs, tabs}
 use Rattle.decode.specs.Inner.Rooted.{RootTabs, root_tabs}
 use Rattle.decode.specs.Inner.GridRead.{all_tables}

@@ -3,7 +3,7 @@ use native.Mathlib.Omega.{arith}
 use mathlib.Core.List.{List}
 use Prim.Native.Nat.{ℕ}
 use borrow.Author.Rules.{rules}
-use Rattle.nanovdb.specs.Kept.{Kept, kept_on}
+use Rattle.nanovdb.proofs.Kept.{Kept, kept_on}
 use Rattle.decode.specs.Inner.Filled.{Tabs, tabs}
 use Rattle.decode.specs.Inner.Rooted.{RootTabs, root_tabs}
 use Rattle.decode.specs.Inner.GridRead.{all_tables}

@@ -2,9 +2,9 @@
 use Rattle.std.proofs.Common.{ap, ◌∙◌, rules}
 use lib.Ieee.{Float, binary32, binary64, to_bits}
 use Rattle.float.specs.Fused.{narrow}
-use Rattle.float.specs.Tests.{yes}
-use Rattle.float.specs.Patterns.{read_back}
-use Rattle.float.specs.Numbers.{narrow_fits}
+use Rattle.float.proofs.Tests.{yes}
+use Rattle.float.proofs.Patterns.{read_back}
+use Rattle.float.proofs.Numbers.{narrow_fits}
 use Rattle.float.proofs.convert.narrow.Statement.{statement}
 use Rattle.float.proofs.convert.narrow.Tie as tie
 

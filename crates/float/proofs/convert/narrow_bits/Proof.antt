@@ -4,7 +4,7 @@ use lib.Ieee.{binary32, binary64, nan, inf, top, to_bits, of_bits, round}
 use Rattle.float.specs.Fused.{narrow}
 use Rattle.float.specs.Fields.{field_of, digits_of, place_of}
 use Rattle.float.proofs.Decode.{bits_value, bits_top, narrow_at, narrow_top, round_more, significand_lt}
-use Rattle.float.specs.Patterns.{nan_bits_lem}
+use Rattle.float.proofs.Patterns.{nan_bits_lem}
 use Rattle.float.proofs.convert.narrow_bits.Statement.{statement}
 use Rattle.float.proofs.convert.narrow_bits.Tie as tie
 

@@ -3,7 +3,7 @@ use Rattle.std.proofs.Common.{◌≡◌, ℕ, ◌+◌, ◌<◌, ◌≤◌, false
 use lib.Ieee.{binary32, binary64, top, of_bits, to_bits}
 use lib.Ieee.Bits.{nan_bits_is}
 use Rattle.float.specs.Fields.{field_of}
-use Rattle.float.specs.Patterns.{nan_bits_lem, is_nan_lem}
+use Rattle.float.proofs.Patterns.{nan_bits_lem, is_nan_lem}
 use Rattle.float.proofs.Decode.{sign_le, digits_lt}
 use Rattle.float.proofs.Special.{at_inf}
 use Rattle.float.proofs.Widening.{widen_parts, widen_zero, widen_inf}

@@ -3,7 +3,7 @@ use Rattle.std.proofs.Common.{◌≡◌, ℕ, ◌-◌, ◌*◌, ◌^◌, ◌<◌
 use lib.Ieee.{binary32, to_bits, round, sum}
 use Rattle.float.proofs.Decode.{zero_bits}
 use Rattle.float.proofs.Moves.{Moved, moved, moved_below, moved_exact, added, taken, sticky_lt}
-use Rattle.float.specs.Sums.{sum_alike, sum_above, sum_below, sum_level, sub_mul}
+use Rattle.float.proofs.Sums.{sum_alike, sum_above, sum_below, sum_level, sub_mul}
 use Rattle.float.proofs.fused.add_aligned.Statement.{statement}
 use Rattle.float.proofs.fused.add_aligned.Tie as tie
 

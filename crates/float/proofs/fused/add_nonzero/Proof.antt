@@ -3,7 +3,7 @@ use Rattle.std.proofs.Common.{◌*◌, ◌^◌, sym, ap, ◌∙◌, subst, arith
 use lib.Ieee.{binary32, to_bits}
 use Rattle.float.specs.Shifts.{Raised}
 use Rattle.float.proofs.Moves.{raised_of, aligned}
-use Rattle.float.specs.Sums.{sum_comm}
+use Rattle.float.proofs.Sums.{sum_comm}
 use Rattle.float.proofs.fused.add_nonzero.Statement.{statement}
 use Rattle.float.proofs.fused.add_nonzero.Tie as tie
 

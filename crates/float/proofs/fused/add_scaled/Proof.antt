@@ -1,7 +1,7 @@
 -- `float::fused::add_scaled` meets its contract: a zero on one side leaves the other, and two zeros the sign that both have.
 use Rattle.std.proofs.Common.{◌≡◌, ℕ, ◌*◌, ◌^◌, Bool, sym, ap, ◌∙◌, mul-pos, zero-mul, arith, pow_pos, rules}
 use lib.Ieee.{binary32, to_bits, round, sum}
-use Rattle.float.specs.Sums.{sum_comm, sum_zeros, sum_zero}
+use Rattle.float.proofs.Sums.{sum_comm, sum_zeros, sum_zero}
 use Rattle.float.proofs.fused.add_scaled.Statement.{statement}
 use Rattle.float.proofs.fused.add_scaled.Tie as tie
 

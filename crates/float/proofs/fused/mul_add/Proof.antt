@@ -2,9 +2,9 @@
 use Rattle.std.proofs.Common.{◌≡◌, ◌∙◌, rules}
 use lib.Ieee.{binary32, of_bits, to_bits}
 use Rattle.float.specs.Fused.{fma}
-use Rattle.float.specs.Tests.{yes}
-use Rattle.float.specs.Patterns.{read_back}
-use Rattle.float.specs.Numbers.{fma_fits}
+use Rattle.float.proofs.Tests.{yes}
+use Rattle.float.proofs.Patterns.{read_back}
+use Rattle.float.proofs.Numbers.{fma_fits}
 use Rattle.float.proofs.fused.mul_add.Statement.{statement}
 use Rattle.float.proofs.fused.mul_add.Tie as tie
 

@@ -2,8 +2,8 @@
 use Rattle.std.proofs.Common.{◌≡◌, ◌*◌, ◌^◌, Bool, false, ◌||◌, leb, sym, ap, ◌∙◌, rules, leb-false}
 use lib.Ieee.{binary32, top, of_bits, to_bits, nan_bits}
 use Rattle.float.specs.Fields.{field_of, digits_of, place_of}
-use Rattle.float.specs.Patterns.{nan_bits_lem, same_bits}
-use Rattle.float.specs.Tests.{neither_l, neither_r}
+use Rattle.float.proofs.Patterns.{nan_bits_lem, same_bits}
+use Rattle.float.proofs.Tests.{neither_l, neither_r}
 use Rattle.float.proofs.Special.{nan_case, at_inf, at_fin, left, right, last}
 use Rattle.float.proofs.fused.mul_add_bits.Statement.{statement}
 use Rattle.float.proofs.fused.mul_add_bits.Tie as tie

@@ -1,7 +1,7 @@
 -- `float::fused::mul_then_add` meets its contract: none of the three is a NaN, so the language's own operations apply.
 use Rattle.std.proofs.Common.{◌≡◌, false, ◌||◌, rules}
 use lib.Ieee.{binary32, nan_bits}
-use Rattle.float.specs.Tests.{no, neither_l, neither_r}
+use Rattle.float.proofs.Tests.{no, neither_l, neither_r}
 use Rattle.float.proofs.fused.mul_then_add.Statement.{statement}
 use Rattle.float.proofs.fused.mul_then_add.Tie as tie
 

@@ -2,7 +2,7 @@
 use Rattle.std.proofs.Common.{T, sym, ap, ◌∙◌, subst, rules}
 use lib.Ieee.{binary64, to_bits}
 use lib.Ieee.Compare.{differs_from_itself}
-use Rattle.float.specs.Patterns.{nan_bits_lem}
+use Rattle.float.proofs.Patterns.{nan_bits_lem}
 use Rattle.float.proofs.Special.{equal_is_no_nan}
 use Rattle.float.proofs.pattern.f64_bits.Statement.{statement}
 use Rattle.float.proofs.pattern.f64_bits.Tie as tie

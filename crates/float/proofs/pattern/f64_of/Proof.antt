@@ -1,7 +1,7 @@
 -- `float::pattern::f64_of` meets its contract: a pattern above an infinity's reads as a NaN, which 0 / 0 is.
 use Rattle.std.proofs.Common.{sym, ◌∙◌, rules}
 use lib.Ieee.{binary64}
-use Rattle.float.specs.Patterns.{read_nan, read_number, zero_by_zero}
+use Rattle.float.proofs.Patterns.{read_nan, read_number, zero_by_zero}
 use Rattle.float.proofs.pattern.f64_of.Statement.{statement}
 use Rattle.float.proofs.pattern.f64_of.Tie as tie
 

@@ -2,8 +2,8 @@
 use Rattle.std.proofs.Common.{ℕ, ltb, ap, ◌∙◌, rules}
 use lib.Ieee.{binary32}
 use lib.Ieee.Scale.{finite}
-use Rattle.float.specs.Tests.{yes}
-use Rattle.float.specs.Patterns.{read_back}
+use Rattle.float.proofs.Tests.{yes}
+use Rattle.float.proofs.Patterns.{read_back}
 use Rattle.float.proofs.Decode.{finite_test}
 use Rattle.float.proofs.pattern.is_finite.Statement.{statement}
 use Rattle.float.proofs.pattern.is_finite.Tie as tie

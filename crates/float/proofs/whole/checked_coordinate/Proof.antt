@@ -4,7 +4,7 @@ use lib.Ieee.{Float, of_bits, neg, to_signed}
 use lib.Ieee.Casts.{to_signed_in}
 use mir.ValLaws.{to_z-of_z}
 use Rattle.refusals.specs.Results.{ok, said}
-use Rattle.float.specs.Tests.{yes}
+use Rattle.float.proofs.Tests.{yes}
 use Rattle.float.proofs.Ranged.{in_64, same_signed, inside, under, over}
 use Rattle.float.proofs.whole.checked_coordinate.Statement.{statement}
 use Rattle.float.proofs.whole.checked_coordinate.Tie as tie

@@ -2,7 +2,7 @@
 use Rattle.std.proofs.Common.{◌≡◌, false, pos, sym, refl, ap, ◌∙◌, rules}
 use lib.Ieee.{Float, fin, binary64, of_bits, sub, lt}
 use Rattle.float.specs.Fused.{trunc}
-use Rattle.float.specs.Tests.{yes}
+use Rattle.float.proofs.Tests.{yes}
 use Rattle.float.proofs.Flooring.{floor_up, floor_flat}
 use Rattle.float.proofs.whole.floor.Statement.{statement}
 use Rattle.float.proofs.whole.floor.Tie as tie

@@ -2,9 +2,9 @@
 use Rattle.std.proofs.Common.{ap, ◌∙◌, rules}
 use lib.Ieee.{Float, binary64, to_bits}
 use Rattle.float.specs.Fused.{trunc}
-use Rattle.float.specs.Tests.{yes}
-use Rattle.float.specs.Patterns.{read_back}
-use Rattle.float.specs.Numbers.{trunc_fits}
+use Rattle.float.proofs.Tests.{yes}
+use Rattle.float.proofs.Patterns.{read_back}
+use Rattle.float.proofs.Numbers.{trunc_fits}
 use Rattle.float.proofs.whole.trunc.Statement.{statement}
 use Rattle.float.proofs.whole.trunc.Tie as tie
 

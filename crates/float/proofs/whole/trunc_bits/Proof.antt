@@ -3,7 +3,7 @@ use Rattle.std.proofs.Common.{ℕ, ◌-◌, ◌%◌, ◌^◌, ◌<◌, ltb, sym,
 use native.Mathlib.Nat.{mod-le}
 use lib.Ieee.{binary64}
 use Rattle.float.specs.Fields.{field_of}
-use Rattle.float.specs.Tests.{yes_or_no}
+use Rattle.float.proofs.Tests.{yes_or_no}
 use Rattle.float.proofs.Truncating.{trunc_nan, trunc_low, trunc_mid, trunc_inf}
 use Rattle.float.proofs.whole.trunc_bits.Statement.{statement}
 use Rattle.float.proofs.whole.trunc_bits.Tie as tie

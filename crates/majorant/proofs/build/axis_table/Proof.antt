@@ -1,7 +1,7 @@
 -- `majorant::build::axis_table` meets its contract. The invariant: the first k places hold the ends of their cells. Assumes nothing.
 use Rattle.std.proofs.Common.{◌≡◌, ℕ, ◌-◌, ◌<◌, ◌≤◌, length, refl, ◌∙◌, arith, length-set, rules}
 use Rattle.index.specs.Axes.{axis_ends}
-use Rattle.index.specs.Alone.{axis_told}
+use Rattle.index.proofs.Alone.{axis_told}
 use Rattle.index.specs.Answers.{as_line}
 use Rattle.majorant.specs.Rows.{ends_in}
 use Rattle.majorant.proofs.Building.{table_more}

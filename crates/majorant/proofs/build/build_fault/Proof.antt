@@ -1,6 +1,6 @@
 -- `majorant::build::build_fault` meets its contract: the table first. Assumes nothing.
 use Rattle.std.proofs.Common.{◌≡◌, ℕ, sym, ◌∙◌, rules}
-use Rattle.refusals.specs.FaultSteps.{then_stop}
+use Rattle.refusals.proofs.FaultSteps.{then_stop}
 use Rattle.sparse_grid.specs.Tables.{Grid, grid_of}
 use Rattle.sparse_grid.specs.Validate.{validate, density_fault, validate_density}
 use Rattle.cells.specs.Cells.{table_fault}

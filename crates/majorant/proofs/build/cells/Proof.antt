@@ -7,7 +7,7 @@ use Rattle.medium.specs.Record.{as_medium}
 use Rattle.index.specs.Axes.{Line, axis_ends, line_of}
 use Rattle.boxes.specs.Boxes.{box_maximum}
 use Rattle.majorant.specs.Rows.{ends_in}
-use Rattle.majorant.specs.RowLaws.{volume_is}
+use Rattle.majorant.proofs.RowLaws.{volume_is}
 use Rattle.majorant.proofs.build.cells.Statement.{statement}
 use Rattle.majorant.proofs.build.cells.Tie as tie
 

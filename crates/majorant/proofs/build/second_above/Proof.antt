@@ -4,7 +4,7 @@ use lib.Ieee.{lt}
 use Rattle.sparse_grid.specs.Tables.{Grid, grid_of}
 use Rattle.sparse_grid.specs.Lookup.{read_in}
 use Rattle.majorant.specs.Rows.{first_holds}
-use Rattle.majorant.specs.RowLaws.{held}
+use Rattle.majorant.proofs.RowLaws.{held}
 use Rattle.majorant.proofs.build.second_above.Statement.{statement}
 use Rattle.majorant.proofs.build.second_above.Tie as tie
 

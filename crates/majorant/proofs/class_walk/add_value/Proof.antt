@@ -1,7 +1,7 @@
 -- `majorant::class_walk::add_value` meets its contract: one count grows, that of the value's class. Assumes nothing.
 use Rattle.std.proofs.Common.{ℕ, ◌+◌, ◌*◌, ◌<◌, eqb, length, get_or, ap, ◌∙◌, arith, length-set, rules}
 use Rattle.sparse_grid.specs.Count.{bit}
-use Rattle.walk.specs.ClassLaws.{class_most}
+use Rattle.walk.proofs.ClassLaws.{class_most}
 use Rattle.majorant.proofs.Tallying.{count_more}
 use Rattle.majorant.proofs.class_walk.add_value.Statement.{statement}
 use Rattle.majorant.proofs.class_walk.add_value.Tie as tie

@@ -2,7 +2,7 @@
 use Rattle.std.proofs.Common.{◌≡◌, ℕ, ◌+◌, ◌-◌, ◌*◌, ◌%◌, ◌≤◌, length, get_or, sym, refl, ap, ◌∙◌, arith, rules}
 use lib.Ieee.{nan}
 use Rattle.float.specs.Zero.{+0}
-use Rattle.refusals.specs.ListLaws.{get_d_any}
+use Rattle.refusals.proofs.ListLaws.{get_d_any}
 use Rattle.boxes.specs.RangeMax.{leaf_read}
 use Rattle.walk.specs.Walk.{Zone}
 use Rattle.walk.specs.Gather.{zone}

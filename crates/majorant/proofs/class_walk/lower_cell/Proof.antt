@@ -2,9 +2,9 @@
 use Rattle.std.proofs.Common.{◌≡◌, ℕ, ◌+◌, ◌*◌, ◌<◌, List, length, sym, ap, ◌∙◌, arith, rules}
 use lib.Ieee.{Float}
 use Rattle.sparse_grid.specs.Tables.{entry_at}
-use Rattle.sparse_grid.specs.TableLaws.{entry_read_lem}
+use Rattle.sparse_grid.proofs.TableLaws.{entry_read_lem}
 use Rattle.boxes.specs.RangeMax.{Within, entry_read, leaf_read, lower_read, lower_slot}
-use Rattle.boxes.specs.NodeCells.{lower_same, child_link}
+use Rattle.boxes.proofs.NodeCells.{lower_same, child_link}
 use Rattle.walk.specs.Counts.{zone_in}
 use Rattle.walk.specs.Tallied.{Sides}
 use Rattle.walk.specs.TalliedLaws.{cell_tile, cell_child, ready_value}

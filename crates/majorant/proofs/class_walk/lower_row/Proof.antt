@@ -1,7 +1,7 @@
 -- `majorant::class_walk::lower_row` meets its contract. The invariant: the cells before `at` are counted. Assumes nothing.
 use Rattle.std.proofs.Common.{◌≡◌, ◌-◌, ◌≤◌, length, refl, ◌∙◌, arith}
 use Rattle.boxes.specs.RangeMax.{lower_read}
-use Rattle.boxes.specs.NodeCells.{cut_z}
+use Rattle.boxes.proofs.NodeCells.{cut_z}
 use Rattle.walk.specs.Walk.{Zone}
 use Rattle.walk.specs.Gather.{zone}
 use Rattle.walk.specs.Counts.{zone_in}

@@ -2,7 +2,7 @@
 use Rattle.std.proofs.Common.{ℕ, refl, arith, rules}
 use lib.Ieee.{Float}
 use Rattle.boxes.specs.RangeMax.{upper_read}
-use Rattle.boxes.specs.NodeCells.{child_room}
+use Rattle.boxes.proofs.NodeCells.{child_room}
 use Rattle.walk.specs.Counts.{zone_in}
 use Rattle.walk.specs.TalliedLaws.{cell_tile, cell_child, ready_value}
 use Rattle.majorant.proofs.class_walk.root_classes.Statement.{statement}

@@ -2,9 +2,9 @@
 use Rattle.std.proofs.Common.{◌≡◌, ℕ, ◌+◌, ◌*◌, ◌<◌, List, length, sym, ap, ◌∙◌, arith, rules}
 use lib.Ieee.{Float}
 use Rattle.sparse_grid.specs.Tables.{entry_at}
-use Rattle.sparse_grid.specs.TableLaws.{entry_read_lem}
+use Rattle.sparse_grid.proofs.TableLaws.{entry_read_lem}
 use Rattle.boxes.specs.RangeMax.{Within, entry_read, lower_read, upper_read, upper_slot}
-use Rattle.boxes.specs.NodeCells.{upper_same, child_link}
+use Rattle.boxes.proofs.NodeCells.{upper_same, child_link}
 use Rattle.walk.specs.Counts.{zone_in}
 use Rattle.walk.specs.Tallied.{Sides}
 use Rattle.walk.specs.TalliedLaws.{cell_tile, cell_child, ready_value}

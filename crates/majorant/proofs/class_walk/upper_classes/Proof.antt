@@ -1,7 +1,7 @@
 -- `majorant::class_walk::upper_classes` meets its contract. The invariant: the planes before `at` are counted. Assumes nothing.
 use Rattle.std.proofs.Common.{◌≡◌, ◌-◌, ◌≤◌, length, refl, ◌∙◌, arith}
 use Rattle.boxes.specs.RangeMax.{upper_read}
-use Rattle.boxes.specs.NodeCells.{cut_x}
+use Rattle.boxes.proofs.NodeCells.{cut_x}
 use Rattle.walk.specs.Walk.{Zone}
 use Rattle.walk.specs.Gather.{zone}
 use Rattle.walk.specs.Counts.{zone_in}

@@ -1,7 +1,7 @@
 -- `majorant::classes::classes_fault` meets its contract: the grid's fault first, then those of the limits and the sides. Assumes nothing.
 use Rattle.std.proofs.Common.{◌≡◌, sym, ◌∙◌, rules}
 use Rattle.refusals.specs.Faults.{◌then◌}
-use Rattle.refusals.specs.FaultSteps.{then_stop, then_next}
+use Rattle.refusals.proofs.FaultSteps.{then_stop, then_next}
 use Rattle.walk.specs.Classes.{limits_fault, sides_fault}
 use Rattle.boxes.specs.Boxes.{Box, between}
 use Rattle.majorant.proofs.Classing.{side_handed}

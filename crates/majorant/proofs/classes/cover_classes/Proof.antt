@@ -1,7 +1,7 @@
 -- `majorant::classes::cover_classes` meets its contract: a root misses the box, or holds one part of it. Assumes nothing.
 use Rattle.std.proofs.Common.{sym, ◌∙◌, inl, inr, arith, rules}
 use Rattle.sparse_grid.specs.Tables.{Grid, grid_of, block_at}
-use Rattle.sparse_grid.specs.TableLaws.{entry_read_lem}
+use Rattle.sparse_grid.proofs.TableLaws.{entry_read_lem}
 use Rattle.majorant.proofs.RootStep.{Rooted, Clips, IsEntry, value_in_lem, child_in_lem, part}
 use Rattle.majorant.proofs.Gone.{gone_misses, part_sides, part_ready, covered_few, gone_meets}
 use Rattle.majorant.proofs.classes.cover_classes.Statement.{statement}

@@ -2,7 +2,7 @@
 use Rattle.std.proofs.Common.{◌≡◌, ℕ, ◌-◌, ◌≤◌, Bool, length, sym, refl, ap, ◌∙◌, arith, rules}
 use borrow.Author.Tests.{not-true, not-false}
 use Rattle.refusals.specs.Faults.{unless, first_fault}
-use Rattle.refusals.specs.FaultSteps.{first_fault_none, first_fault_next}
+use Rattle.refusals.proofs.FaultSteps.{first_fault_none, first_fault_next}
 use Rattle.majorant.proofs.Classing.{limit_fault, limits_few, limits_pass, limit_stops}
 use Rattle.majorant.proofs.classes.limits_fault.Statement.{statement}
 use Rattle.majorant.proofs.classes.limits_fault.Tie as tie

@@ -3,7 +3,7 @@ use Rattle.std.proofs.Common.{◌≡◌, ℕ, ◌+◌, ◌*◌, ◌<◌, get_or,
 use lib.Signed.{mag}
 use Rattle.sparse_grid.specs.Tables.{Grid, grid_of}
 use Rattle.sparse_grid.specs.Lookup.{read_in}
-use Rattle.sparse_grid.specs.Signs.{seen}
+use Rattle.sparse_grid.proofs.Signs.{seen}
 use Rattle.boxes.specs.Boxes.{box_maximum, between}
 use Rattle.majorant.proofs.maxima.maximum_at.Statement.{statement}
 use Rattle.majorant.proofs.maxima.maximum_at.Tie as tie

@@ -1,6 +1,6 @@
 -- A turn of `majorant::node_max::leaf_max` joins what a plane gives.
 use Rattle.std.proofs.Common.{arith}
-use Rattle.boxes.specs.MostLaws.{join_x}
+use Rattle.boxes.proofs.MostLaws.{join_x}
 use Rattle.majorant.proofs.node_max.leaf_max.Goals as goal
 
 pub loop-at-preserved : goal.loop-at-preserved

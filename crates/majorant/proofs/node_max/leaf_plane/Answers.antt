@@ -1,6 +1,6 @@
 -- A turn of `majorant::node_max::leaf_plane` joins what a row gives.
 use Rattle.std.proofs.Common.{arith}
-use Rattle.boxes.specs.MostLaws.{join_y}
+use Rattle.boxes.proofs.MostLaws.{join_y}
 use Rattle.majorant.proofs.node_max.leaf_plane.Goals as goal
 
 pub loop-at-preserved : goal.loop-at-preserved

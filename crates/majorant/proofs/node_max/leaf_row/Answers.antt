@@ -2,10 +2,10 @@
 use Rattle.std.proofs.Common.{◌≡◌, ℕ, ◌+◌, ◌-◌, ◌*◌, ◌%◌, ◌<◌, List, length, get_or, ap, ◌∙◌, subst, arith}
 use lib.Ieee.{Float, nan}
 use Rattle.float.specs.Zero.{+0}
-use Rattle.refusals.specs.ListLaws.{get_d_any}
+use Rattle.refusals.proofs.ListLaws.{get_d_any}
 use Rattle.boxes.specs.Boxes.{greater}
 use Rattle.boxes.specs.Most.{Most, Inside}
-use Rattle.boxes.specs.MostLaws.{step_z}
+use Rattle.boxes.proofs.MostLaws.{step_z}
 use Rattle.boxes.specs.RangeMax.{leaf_read}
 use Rattle.majorant.proofs.node_max.leaf_row.Goals as goal
 

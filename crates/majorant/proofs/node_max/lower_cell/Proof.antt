@@ -3,14 +3,14 @@ use Rattle.std.proofs.Common.{◌≡◌, ℕ, ◌+◌, ◌*◌, ◌<◌, List, l
 use lib.Ieee.{Float}
 use Rattle.sparse_grid.specs.declared.Entry.{Entry}
 use Rattle.sparse_grid.specs.Tables.{entry_at}
-use Rattle.sparse_grid.specs.TableLaws.{entry_read_lem}
+use Rattle.sparse_grid.proofs.TableLaws.{entry_read_lem}
 use Rattle.boxes.specs.RangeMax.{Within, entry_read, leaf_read, lower_read, lower_slot}
-use Rattle.boxes.specs.NodeCells.{cell_tile, cell_child, lower_same, child_link}
+use Rattle.boxes.proofs.NodeCells.{cell_tile, cell_child, lower_same, child_link}
 use Rattle.walk.specs.Walk.{Price, lowers_only, leaves_only, below as walk_below}
 use Rattle.walk.specs.Counts.{zone_in, lower_count}
 use Rattle.walk.specs.Gather.{volume}
-use Rattle.walk.specs.CountLaws.{lower_entry_lem}
-use Rattle.walk.specs.MoreLaws.{and, equal}
+use Rattle.walk.proofs.CountLaws.{lower_entry_lem}
+use Rattle.walk.proofs.MoreLaws.{and, equal}
 use Rattle.majorant.proofs.node_max.lower_cell.Statement.{statement}
 use Rattle.majorant.proofs.node_max.lower_cell.Tie as tie
 

@@ -1,7 +1,7 @@
 -- `majorant::node_max::lower_row` meets its contract. The invariant: what the cells before `at` hold. Assumes nothing.
 use Rattle.std.proofs.Common.{◌-◌, arith}
-use Rattle.boxes.specs.NodeCells.{cut_z}
-use Rattle.boxes.specs.JoinedLaws.{joined_not_below}
+use Rattle.boxes.proofs.NodeCells.{cut_z}
+use Rattle.boxes.proofs.JoinedLaws.{joined_not_below}
 use Rattle.majorant.proofs.Turns.{lower, along_z_lem, Gathered, first, turn, till}
 use Rattle.majorant.proofs.node_max.lower_row.Statement.{statement}
 use Rattle.majorant.proofs.node_max.lower_row.Tie as tie

@@ -1,6 +1,6 @@
 -- `majorant::node_max::tally` meets its contract: one entry more at its place, where the caller counts. Assumes nothing.
 use Rattle.std.proofs.Common.{sym, ◌∙◌, true≢false, rules}
-use Rattle.walk.specs.WordLaws.{entry_more}
+use Rattle.walk.proofs.WordLaws.{entry_more}
 use Rattle.majorant.proofs.node_max.tally.Statement.{statement}
 use Rattle.majorant.proofs.node_max.tally.Tie as tie
 

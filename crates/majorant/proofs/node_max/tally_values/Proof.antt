@@ -3,7 +3,7 @@ use Rattle.std.proofs.Common.{ℕ, ◌-◌, ◌*◌, ◌<◌, ◌≤◌, List, s
 use Rattle.boxes.specs.declared.Span.{Span}
 use Rattle.boxes.specs.RangeMax.{InCell}
 use Rattle.walk.specs.Counts.{More}
-use Rattle.walk.specs.WordLaws.{values_more, values_carry}
+use Rattle.walk.proofs.WordLaws.{values_more, values_carry}
 use Rattle.majorant.proofs.node_max.tally_values.Statement.{statement}
 use Rattle.majorant.proofs.node_max.tally_values.Tie as tie
 use Rattle.majorant.proofs.node_max.tally_values.Lts.{then-low-size, else-low-size}

@@ -3,13 +3,13 @@ use Rattle.std.proofs.Common.{◌≡◌, ℕ, ◌+◌, ◌*◌, ◌<◌, List, l
 use lib.Ieee.{Float}
 use Rattle.sparse_grid.specs.declared.Entry.{Entry}
 use Rattle.sparse_grid.specs.Tables.{entry_at}
-use Rattle.sparse_grid.specs.TableLaws.{entry_read_lem}
+use Rattle.sparse_grid.proofs.TableLaws.{entry_read_lem}
 use Rattle.boxes.specs.RangeMax.{Within, entry_read, lower_read, upper_read, upper_slot}
-use Rattle.boxes.specs.NodeCells.{cell_tile, cell_child, upper_same, child_link}
+use Rattle.boxes.proofs.NodeCells.{cell_tile, cell_child, upper_same, child_link}
 use Rattle.walk.specs.Walk.{Price, uppers_only, lowers_only, leaves_only, below as walk_below}
 use Rattle.walk.specs.Counts.{lower_count, upper_count}
-use Rattle.walk.specs.CountLaws.{upper_entry_lem, no_uppers}
-use Rattle.walk.specs.MoreLaws.{and, equal}
+use Rattle.walk.proofs.CountLaws.{upper_entry_lem, no_uppers}
+use Rattle.walk.proofs.MoreLaws.{and, equal}
 use Rattle.majorant.proofs.node_max.upper_cell.Statement.{statement}
 use Rattle.majorant.proofs.node_max.upper_cell.Tie as tie
 

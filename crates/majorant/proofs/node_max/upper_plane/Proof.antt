@@ -1,7 +1,7 @@
 -- `majorant::node_max::upper_plane` meets its contract. The invariant: what the rows before `at` hold. Assumes nothing.
 use Rattle.std.proofs.Common.{◌-◌, arith}
-use Rattle.boxes.specs.NodeCells.{cut_y}
-use Rattle.boxes.specs.JoinedLaws.{joined_not_below}
+use Rattle.boxes.proofs.NodeCells.{cut_y}
+use Rattle.boxes.proofs.JoinedLaws.{joined_not_below}
 use Rattle.majorant.proofs.Turns.{upper, along_y_lem, Gathered, first, turn, till}
 use Rattle.majorant.proofs.node_max.upper_plane.Statement.{statement}
 use Rattle.majorant.proofs.node_max.upper_plane.Tie as tie

@@ -1,8 +1,8 @@
 -- `majorant::range_max::cover` meets its contract: a root misses the box, or holds one block of it. Assumes nothing.
 use Rattle.std.proofs.Common.{sym, ◌∙◌, inl, inr, ⊎_elim, arith, rules}
 use Rattle.sparse_grid.specs.Tables.{Grid, grid_of, block_at}
-use Rattle.sparse_grid.specs.TableLaws.{entry_read_lem}
-use Rattle.boxes.specs.JoinedLaws.{most_not_below}
+use Rattle.sparse_grid.proofs.TableLaws.{entry_read_lem}
+use Rattle.boxes.proofs.JoinedLaws.{most_not_below}
 use Rattle.majorant.proofs.RootStep.{Rooted, Touched, IsEntry, value_in_lem, child_in_lem, part, part_in}
 use Rattle.majorant.proofs.RootStep.{clipped, misses, meets_tile, meets_child, step_as}
 use Rattle.majorant.proofs.range_max.cover.Statement.{statement}

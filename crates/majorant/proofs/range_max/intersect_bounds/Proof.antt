@@ -1,7 +1,7 @@
 -- `majorant::range_max::intersect_bounds` meets its contract: the higher of two low ends and the lower of two high ones. Assumes nothing.
 use Rattle.std.proofs.Common.{◌≡◌, ap, ◌∙◌, arith, rules}
 use Rattle.sparse_grid.specs.Biased.{raised}
-use Rattle.sparse_grid.specs.Signs.{seen}
+use Rattle.sparse_grid.proofs.Signs.{seen}
 use Rattle.majorant.proofs.range_max.intersect_bounds.Statement.{statement}
 use Rattle.majorant.proofs.range_max.intersect_bounds.Tie as tie
 

@@ -2,7 +2,7 @@
 use Rattle.std.proofs.Common.{◌≡◌, ℕ, ◌-◌, ◌/◌, Bool, true, false, ◌||◌, ltb, sym, ap, ◌∙◌, arith, rules, le-ltb, lt-ltb}
 use Rattle.sparse_grid.specs.Biased.{raised}
 use Rattle.boxes.specs.RangeMax.{apart}
-use Rattle.sparse_grid.specs.Signs.{seen}
+use Rattle.sparse_grid.proofs.Signs.{seen}
 use Rattle.majorant.proofs.range_max.is_apart.Statement.{statement}
 use Rattle.majorant.proofs.range_max.is_apart.Tie as tie
 

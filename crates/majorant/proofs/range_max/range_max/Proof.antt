@@ -2,12 +2,12 @@
 -- since only one number is, and what is read by them is what is read for the box. Assumes nothing.
 use Rattle.std.proofs.Common.{T, sym, ◌∙◌, rules}
 use lib.Ieee.{binary32, fits}
-use Rattle.float.specs.Tests.{yes}
+use Rattle.float.proofs.Tests.{yes}
 use Rattle.layout.specs.Coordinates.{Coord}
 use Rattle.sparse_grid.specs.Tables.{Grid, grid_of}
 use Rattle.sparse_grid.specs.Lookup.{read_in}
 use Rattle.sparse_grid.specs.Sound.{sound}
-use Rattle.majorant.specs.FitLaws.{read_fits, fine}
+use Rattle.majorant.proofs.FitLaws.{read_fits, fine}
 use Rattle.majorant.proofs.Corners.{Spans, filled, seen_ends, is_none, is_maximum, no_more, all_more}
 use Rattle.majorant.proofs.range_max.range_max.Statement.{statement}
 use Rattle.majorant.proofs.range_max.range_max.Tie as tie

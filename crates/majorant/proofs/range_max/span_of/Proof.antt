@@ -1,7 +1,7 @@
 -- `majorant::range_max::span_of` meets its contract: each end is biased by itself. Assumes nothing.
 use Rattle.std.proofs.Common.{◌≡◌, ◌+◌, ◌-◌, sym, ap, ◌∙◌, arith, rules}
 use Rattle.sparse_grid.specs.Biased.{back}
-use Rattle.sparse_grid.specs.Signs.{seen}
+use Rattle.sparse_grid.proofs.Signs.{seen}
 use Rattle.majorant.proofs.range_max.span_of.Statement.{statement}
 use Rattle.majorant.proofs.range_max.span_of.Tie as tie
 

@@ -1,6 +1,6 @@
 -- `majorant::range_max::tally_roots` meets its contract: so many roots more, where the caller counts. Assumes nothing.
 use Rattle.std.proofs.Common.{sym, ◌∙◌, true≢false, rules}
-use Rattle.walk.specs.WordLaws.{roots_more}
+use Rattle.walk.proofs.WordLaws.{roots_more}
 use Rattle.majorant.proofs.range_max.tally_roots.Statement.{statement}
 use Rattle.majorant.proofs.range_max.tally_roots.Tie as tie
 

@@ -3,7 +3,7 @@ use mathlib.Core.Path.{◌≡◌, ◌∙◌}
 use lib.Ieee.{Float, binary32}
 use borrow.Author.Rules.{rules}
 use Rattle.refusals.specs.Results.{Result}
-use Rattle.float.specs.Patterns.{nought}
+use Rattle.float.proofs.Patterns.{nought}
 use Rattle.layout.specs.Coordinates.{Coord}
 use Rattle.sparse_grid.specs.Answers.{at}
 use Rattle.sparse_grid.specs.Spots.{leaves_of, answer_from, read_from}

@@ -1,7 +1,7 @@
 -- `mix::point::lerp` meets its contract: 1.0 is the definition's unit. Assumes nothing.
 use mathlib.Core.Path.{◌≡◌, refl}
 use lib.Ieee.{of_bits, binary32, add, sub, mul}
-use Rattle.float.specs.Exactly.{unit}
+use Rattle.float.proofs.Exactly.{unit}
 use Rattle.mix.specs.Mix.{lerp}
 use Rattle.mix.proofs.point.lerp.Statement.{statement}
 use Rattle.mix.proofs.point.lerp.Tie as tie

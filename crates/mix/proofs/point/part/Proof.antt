@@ -2,8 +2,8 @@
 use mathlib.Core.Path.{ap, ◌∙◌}
 use lib.Ieee.{binary32, binary64, sub}
 use Rattle.float.specs.Fused.{floor, narrow}
-use Rattle.float.specs.Tests.{yes}
-use Rattle.float.specs.Parts.{floor_by_64}
+use Rattle.float.proofs.Tests.{yes}
+use Rattle.float.proofs.Parts.{floor_by_64}
 use Rattle.mix.specs.Mix.{part}
 use borrow.Author.Rules.{rules}
 use Rattle.mix.proofs.point.part.Statement.{statement}

@@ -2,9 +2,9 @@
 use Rattle.std.proofs.Common.{◌≡◌, ℕ, ◌^◌, ◌<◌, ◌≤◌, cond, pos, negsuc, ◌+ℤ◌, sym, ap, ◌∙◌, arith, w32, to_z, rules}
 use lib.Ieee.{Float, binary32, add, sub, mul, div, le, of_int}
 use mir.Facts.{to_z_pos}
-use Rattle.float.specs.Whole.{one_literal}
+use Rattle.float.proofs.WholeLaws.{one_literal}
 use Rattle.rays.specs.Open.{cell_at, track_from}
-use Rattle.float.specs.Literal.{zero_literal}
+use Rattle.float.proofs.Literal.{zero_literal}
 use Rattle.rays.proofs.start.track_from.Statement.{statement}
 use Rattle.rays.proofs.start.track_from.Tie as tie
 

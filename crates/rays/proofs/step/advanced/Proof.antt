@@ -2,7 +2,7 @@
 use Rattle.std.proofs.Common.{◌≡◌, ◌+ℤ◌, sym, ◌∙◌, subst, w32, SFits, to_z, of_z}
 use lib.Ieee.{binary32, add}
 use Rattle.rays.specs.Answers.{as_track}
-use Rattle.rays.specs.Remaining.{sound_cell, sound_step}
+use Rattle.rays.proofs.Remaining.{sound_cell, sound_step}
 use Rattle.rays.proofs.Signs.{seen, moved_fits}
 use Rattle.rays.proofs.step.advanced.Statement.{statement}
 use Rattle.rays.proofs.step.advanced.Tie as tie

@@ -1,6 +1,6 @@
 -- `rays::step::index_of` meets its contract: a cell that is inside is not negative. Assumes nothing.
 use Rattle.std.proofs.Common.{◌^◌, ◌<◌, ℤ, nat_abs, sym, ap, subst, lit≤, w64}
-use Rattle.rays.specs.Remaining.{inside_lt}
+use Rattle.rays.proofs.Remaining.{inside_lt}
 use Rattle.rays.proofs.Signs.{seen, inside_sign, unsigned}
 use Rattle.rays.proofs.step.index_of.Statement.{statement}
 use Rattle.rays.proofs.step.index_of.Tie as tie

@@ -3,7 +3,7 @@ use Rattle.std.proofs.Common.{◌+◌, ◌^◌, ◌<◌, eqb, ℤ, ◌+ℤ◌, n
 use Rattle.layout.specs.Coordinates.{eq_z}
 use Rattle.rays.specs.Ray.{limit}
 use Rattle.rays.specs.Answers.{as_track}
-use Rattle.rays.specs.Remaining.{inside_lt, sound_cell, sound_step}
+use Rattle.rays.proofs.Remaining.{inside_lt, sound_cell, sound_step}
 use Rattle.rays.proofs.Signs.{seen, inside_sign, unsigned, step_forth, leaves_forth, leaves_back}
 use Rattle.rays.proofs.step.leaves.Statement.{statement}
 use Rattle.rays.proofs.step.leaves.Tie as tie

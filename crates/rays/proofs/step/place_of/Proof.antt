@@ -2,7 +2,7 @@
 use Rattle.std.proofs.Common.{◌≡◌, ◌+◌, ◌*◌, true, ℤ, nat_abs, ap, ◌∙◌, w32, SFits, to_z, of_z, rules}
 use Rattle.rays.specs.Ray.{Track, inside, sound}
 use Rattle.rays.specs.Answers.{as_track}
-use Rattle.rays.specs.Remaining.{sound_cell}
+use Rattle.rays.proofs.Remaining.{sound_cell}
 use Rattle.rays.proofs.Signs.{seen}
 use Rattle.rays.proofs.step.place_of.Statement.{statement}
 use Rattle.rays.proofs.step.place_of.Tie as tie

@@ -1,6 +1,6 @@
 -- The count over the roots that are used, and what it answers.
 use Rattle.std.proofs.Common.{rules}
-use Rattle.text.specs.PageLaws.{wrote}
+use Rattle.text.proofs.PageLaws.{wrote}
 use Rattle.medium.specs.Record.{as_medium}
 use Rattle.decode.specs.Answers.{answer}
 use Rattle.report.specs.ClassReport.{index_box}

@@ -1,5 +1,5 @@
 -- The lines of three classes, and their total.
-use Rattle.text.specs.PageLaws.{wrote}
+use Rattle.text.proofs.PageLaws.{wrote}
 use Rattle.std.proofs.Common.{get_or}
 use Rattle.report.proofs.Counting.{three_lines}
 use Rattle.report.proofs.classes.put_counts.Goals as goal

@@ -1,5 +1,5 @@
 -- A blank and the eight digits of the bits.
-use Rattle.text.specs.PageLaws.{wrote}
+use Rattle.text.proofs.PageLaws.{wrote}
 use Rattle.report.proofs.Fields.{put_bits}
 use Rattle.report.proofs.lines.put_bits.Goals as goal
 

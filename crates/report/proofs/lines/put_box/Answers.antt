@@ -1,6 +1,6 @@
 -- The parts of its line, one after another.
 use Rattle.std.proofs.Common.{rules}
-use Rattle.text.specs.PageLaws.{wrote, ◌then◌}
+use Rattle.text.proofs.PageLaws.{wrote, ◌then◌}
 use Rattle.medium.specs.Record.{coord_of}
 use Rattle.report.specs.Report.{box_word, box_line}
 use Rattle.report.proofs.Fields.{Fit, held_triple}

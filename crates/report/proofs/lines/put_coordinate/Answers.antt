@@ -1,5 +1,5 @@
 -- A blank and the signed digits.
-use Rattle.text.specs.PageLaws.{wrote}
+use Rattle.text.proofs.PageLaws.{wrote}
 use Rattle.report.proofs.Fields.{put_coordinate}
 use Rattle.report.proofs.lines.put_coordinate.Goals as goal
 

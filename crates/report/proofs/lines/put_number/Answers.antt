@@ -1,5 +1,5 @@
 -- A blank and the digits.
-use Rattle.text.specs.PageLaws.{wrote, ◌then◌}
+use Rattle.text.proofs.PageLaws.{wrote, ◌then◌}
 use Rattle.report.specs.Report.{number}
 use Rattle.report.proofs.lines.put_number.Goals as goal
 

@@ -1,5 +1,5 @@
 -- The parts of its line, one after another.
-use Rattle.text.specs.PageLaws.{wrote, ◌then◌}
+use Rattle.text.proofs.PageLaws.{wrote, ◌then◌}
 use Rattle.report.specs.Report.{refused_word, refused_line}
 use Rattle.report.proofs.lines.put_refused.Goals as goal
 

@@ -1,6 +1,6 @@
 -- The parts of its line, one after another.
 use Rattle.std.proofs.Common.{[], arith, rules}
-use Rattle.text.specs.PageLaws.{wrote, ◌then◌}
+use Rattle.text.proofs.PageLaws.{wrote, ◌then◌}
 use Rattle.sparse_grid.specs.Tables.{block_at}
 use Rattle.report.specs.Report.{root_word, root_line}
 use Rattle.report.specs.Inner.{roots_in}

@@ -1,7 +1,7 @@
 -- One root more.
 use Rattle.std.proofs.Common.{refl, arith}
 use Rattle.text.specs.Page.{puts}
-use Rattle.text.specs.PageLaws.{wrote}
+use Rattle.text.proofs.PageLaws.{wrote}
 use Rattle.report.specs.Report.{root_lines}
 use Rattle.report.proofs.Fields.{root_more}
 use Rattle.report.proofs.lines.put_roots.Goals as goal

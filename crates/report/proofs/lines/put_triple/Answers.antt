@@ -1,5 +1,5 @@
 -- One coordinate after another.
-use Rattle.text.specs.PageLaws.{wrote}
+use Rattle.text.proofs.PageLaws.{wrote}
 use Rattle.report.specs.Inner.{coord_of}
 use Rattle.report.proofs.Fields.{Fit, put_triple}
 use Rattle.report.proofs.lines.put_triple.Goals as goal

@@ -1,6 +1,6 @@
 -- By the difference of the exponents.
 use Rattle.std.proofs.Common.{◌∙◌, arith}
-use Rattle.sheet.specs.GradeLaws.{compare_up, compare_down}
+use Rattle.sheet.proofs.GradeLaws.{compare_up, compare_down}
 use Rattle.sheet.proofs.grade.at_most.Goals as goal
 
 pub returns-then-p-q : goal.returns-then-p-q

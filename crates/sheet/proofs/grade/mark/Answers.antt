@@ -3,7 +3,7 @@ use Rattle.std.proofs.Common.{◌+◌, Bool, sym, ap, ◌∙◌}
 use Rattle.std.specs.Prelude.{cond}
 use Rattle.std.specs.Float.{binary32}
 use Rattle.std.specs.Float.Ieee.{eq}
-use Rattle.float.specs.Patterns.{nought}
+use Rattle.float.proofs.Patterns.{nought}
 use Rattle.sheet.specs.Grades.{units_of, grade, mark}
 use Rattle.sheet.proofs.grade.mark.Goals as goal
 

@@ -2,9 +2,9 @@
 use Rattle.std.proofs.Common.{ℕ, ◌*◌, ◌<◌, sym, ap, ◌∙◌, subst}
 use Rattle.std.specs.Prelude.{◌^◌}
 use Rattle.std.specs.Float.{binary32}
-use Rattle.float.specs.Tests.{yes}
+use Rattle.float.proofs.Tests.{yes}
 use Rattle.float.specs.Fields.{digits_of, place_of}
-use Rattle.sheet.specs.UnitLaws.{digits_lt, units_bits}
+use Rattle.sheet.proofs.UnitLaws.{digits_lt, units_bits}
 use Rattle.sheet.proofs.grade.units.Goals as goal
 
 pub returns : goal.returns

@@ -1,7 +1,7 @@
 -- The parts of its line, one after another.
 use Rattle.std.proofs.Common.{ℕ, ap}
 use Rattle.text.specs.Numerals.{hex8}
-use Rattle.text.specs.PageLaws.{wrote, ◌then◌, same_text}
+use Rattle.text.proofs.PageLaws.{wrote, ◌then◌, same_text}
 use Rattle.sheet.specs.Sheet.{layer_word, head_line}
 use Rattle.sheet.proofs.lines.put_head.Goals as goal
 

@@ -2,8 +2,8 @@ use Rattle.std.proofs.Common.{arith}
 use Rattle.std.specs.Float.{nan}
 use Rattle.std.specs.Float.Ieee.Scale.{finite}
 use Rattle.std.specs.Float.Ieee.Bits.{is_true}
-use Rattle.float.specs.Tests.{yes}
-use Rattle.figures.specs.FigureLaws.{every_at}
+use Rattle.float.proofs.Tests.{yes}
+use Rattle.figures.proofs.FigureLaws.{every_at}
 use Rattle.text.specs.Page.{page}
 use Rattle.sheet.proofs.Pages.{marks_more, marks_end}
 use Rattle.sheet.proofs.lines.put_marks.Goals as goal

@@ -1,5 +1,5 @@
 -- Blanks by the number of digits, and the digits.
-use Rattle.text.specs.PageLaws.{wrote, ◌then◌, same_text}
+use Rattle.text.proofs.PageLaws.{wrote, ◌then◌, same_text}
 use Rattle.sheet.proofs.Pages.{place_one, place_two, place_three}
 use Rattle.sheet.proofs.lines.put_place.Goals as goal
 

@@ -1,5 +1,5 @@
 -- The parts of its line, one after another.
-use Rattle.text.specs.PageLaws.{wrote, ◌then◌}
+use Rattle.text.proofs.PageLaws.{wrote, ◌then◌}
 use Rattle.sheet.specs.Sheet.{row_line}
 use Rattle.sheet.proofs.lines.put_row.Goals as goal
 

@@ -2,9 +2,9 @@ use Rattle.std.proofs.Common.{◌-◌, ◌*◌, ◌+◌, List, ap, ◌∙◌, ar
 use Rattle.std.specs.Prelude.{Float}
 use Rattle.std.specs.Float.Ieee.Scale.{finite}
 use Rattle.std.specs.Float.Ieee.Bits.{is_true}
-use Rattle.float.specs.Tests.{yes}
-use Rattle.figures.specs.Parts.{part_is}
-use Rattle.figures.specs.FigureLaws.{every_take, every_drop}
+use Rattle.float.proofs.Tests.{yes}
+use Rattle.figures.proofs.Parts.{part_is}
+use Rattle.figures.proofs.FigureLaws.{every_take, every_drop}
 use Rattle.text.specs.Page.{page, puts}
 use Rattle.sheet.specs.Sheet.{row_line}
 use Rattle.sheet.proofs.Pages.{rows_more, rows_end}

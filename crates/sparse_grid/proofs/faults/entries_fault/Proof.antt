@@ -1,9 +1,9 @@
 -- `sparse_grid::faults::entries_fault` meets its contract: the invariant: no entry before i has a fault. Assumes nothing.
 use Rattle.std.proofs.Common.{◌≡◌, ℕ, ◌-◌, ◌<◌, ◌≤◌, length, get_or, sym, ap, ◌∙◌, arith, rules}
 use Rattle.refusals.specs.Faults.{first_fault}
-use Rattle.refusals.specs.FaultSteps.{first_fault_none, first_fault_next, first_fault_end}
+use Rattle.refusals.proofs.FaultSteps.{first_fault_none, first_fault_next, first_fault_end}
 use Rattle.float.specs.Zero.{+0}
-use Rattle.sparse_grid.specs.TableLaws.{entry_read_lem}
+use Rattle.sparse_grid.proofs.TableLaws.{entry_read_lem}
 use Rattle.sparse_grid.specs.Validate.{entry_fault}
 use Rattle.sparse_grid.specs.Inner.{fault_of}
 use Rattle.sparse_grid.proofs.Blocks.{slot_entry}

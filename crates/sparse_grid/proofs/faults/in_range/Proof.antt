@@ -3,7 +3,7 @@ use Rattle.std.proofs.Common.{◌≡◌, sym, ap, ◌∙◌, rules}
 use borrow.Author.Tests.{not-true, not-false}
 use Rattle.sparse_grid.specs.declared.Root.{Root}
 use Rattle.sparse_grid.specs.Validate.{block_in}
-use Rattle.sparse_grid.specs.Signs.{seen}
+use Rattle.sparse_grid.proofs.Signs.{seen}
 use Rattle.sparse_grid.proofs.Blocks.{Fit}
 use Rattle.sparse_grid.proofs.Tests.{stop_1, stop_2, go_3}
 use Rattle.sparse_grid.proofs.faults.in_range.Statement.{statement}

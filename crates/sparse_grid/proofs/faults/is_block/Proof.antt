@@ -1,7 +1,7 @@
 -- `sparse_grid::faults::is_block` meets its contract: numbers are compared by their bits, and those are equal where the numbers are. Assumes nothing.
 use Rattle.std.proofs.Common.{◌≡◌, true, sym, ◌∙◌, eq-eqb, ne_eqb}
 use Rattle.layout.specs.Coordinates.{eq_z}
-use Rattle.sparse_grid.specs.Signs.{eqb_bits}
+use Rattle.sparse_grid.proofs.Signs.{eqb_bits}
 use Rattle.sparse_grid.proofs.Blocks.{Fit}
 use Rattle.sparse_grid.proofs.Tests.{stop_1, stop_2, go_3}
 use Rattle.sparse_grid.proofs.faults.is_block.Statement.{statement}

@@ -1,7 +1,7 @@
 -- `sparse_grid::faults::is_density` meets its contract: how the code has the zero. Assumes nothing.
 use Rattle.std.proofs.Common.{not, ap}
 use lib.Ieee.{Float, binary32, lt}
-use Rattle.float.specs.Patterns.{nought}
+use Rattle.float.proofs.Patterns.{nought}
 use Rattle.sparse_grid.proofs.faults.is_density.Statement.{statement}
 use Rattle.sparse_grid.proofs.faults.is_density.Tie as tie
 

@@ -1,7 +1,7 @@
 -- `sparse_grid::faults::is_zero` meets its contract: how the code has the zero. Assumes nothing.
 use Rattle.std.proofs.Common.{ap}
 use lib.Ieee.{binary32, eq}
-use Rattle.float.specs.Patterns.{nought}
+use Rattle.float.proofs.Patterns.{nought}
 use Rattle.sparse_grid.proofs.faults.is_zero.Statement.{statement}
 use Rattle.sparse_grid.proofs.faults.is_zero.Tie as tie
 

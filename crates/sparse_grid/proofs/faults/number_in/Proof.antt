@@ -2,7 +2,7 @@
 use Rattle.std.proofs.Common.{◌≡◌, Bool, ◌&&◌, ℤ, pos, negsuc, sym, ap, ◌∙◌, w32, to_z, of_z}
 use lib.Signed.{le_z}
 use Rattle.sparse_grid.specs.Validate.{block_in}
-use Rattle.sparse_grid.specs.Signs.{seen}
+use Rattle.sparse_grid.proofs.Signs.{seen}
 use Rattle.sparse_grid.proofs.faults.number_in.Statement.{statement}
 use Rattle.sparse_grid.proofs.faults.number_in.Tie as tie
 

@@ -3,7 +3,7 @@ use Rattle.std.proofs.Common.{◌≡◌, ℕ, ◌+◌, ◌*◌, ◌<◌, true, �
 use Rattle.sparse_grid.specs.Validate.{block_in}
 use Rattle.sparse_grid.specs.Biased.{raised}
 use Rattle.sparse_grid.specs.Inner.{rank, block_of_root}
-use Rattle.sparse_grid.specs.Signs.{seen, raised_below}
+use Rattle.sparse_grid.proofs.Signs.{seen, raised_below}
 use Rattle.sparse_grid.proofs.Blocks.{ranged_all, Fit}
 use Rattle.sparse_grid.proofs.faults.rank_of.Statement.{statement}
 use Rattle.sparse_grid.proofs.faults.rank_of.Tie as tie

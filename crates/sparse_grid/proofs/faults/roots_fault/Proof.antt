@@ -2,7 +2,7 @@
 use Rattle.std.proofs.Common.{◌≡◌, ℕ, ◌-◌, ◌<◌, ◌≤◌, true, length, sym, ap, ◌∙◌, subst, arith, rules}
 use borrow.Author.Tests.{not-true, not-false}
 use Rattle.refusals.specs.Faults.{first_fault}
-use Rattle.refusals.specs.FaultSteps.{first_fault_none, first_fault_next, first_fault_end}
+use Rattle.refusals.proofs.FaultSteps.{first_fault_none, first_fault_next, first_fault_end}
 use Rattle.sparse_grid.specs.Inner.{Has, fault_of, ranged, Topped, root_fault_in, rank, root_block, block_of_root}
 use Rattle.sparse_grid.proofs.Blocks.{topped_none, topped_next, Roots, Read, fault_at, repeats, outside, again, entry_left}
 use Rattle.sparse_grid.proofs.Steps.{stops}

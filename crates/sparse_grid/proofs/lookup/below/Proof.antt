@@ -3,7 +3,7 @@ use Rattle.std.proofs.Common.{◌≡◌, Bool, cond, length, sym, ap, ◌∙◌,
 use Rattle.layout.specs.Walk.{of_background}
 use Rattle.sparse_grid.specs.declared.Entry.{Entry}
 use Rattle.sparse_grid.specs.Tables.{Grid, entry_at}
-use Rattle.sparse_grid.specs.TableLaws.{entry_read_lem}
+use Rattle.sparse_grid.proofs.TableLaws.{entry_read_lem}
 use Rattle.sparse_grid.specs.Lookup.{Found, value, root_entry}
 use Rattle.sparse_grid.specs.Inner.{below_of, placed, from_root}
 use Rattle.sparse_grid.proofs.Nodes.{upper_only}

@@ -1,5 +1,5 @@
 -- `sparse_grid::lookup::block_of` meets its contract: the shift of the bits is the shift of the number. Assumes nothing.
-use Rattle.sparse_grid.specs.Signs.{shifted}
+use Rattle.sparse_grid.proofs.Signs.{shifted}
 use Rattle.sparse_grid.proofs.lookup.block_of.Statement.{statement}
 use Rattle.sparse_grid.proofs.lookup.block_of.Tie as tie
 

@@ -2,7 +2,7 @@
 use Rattle.std.proofs.Common.{ℕ, ◌+◌, ◌*◌, ◌%◌, length, get_or, ap, ◌∙◌, arith}
 use lib.Ieee.{Float, nan}
 use Rattle.float.specs.Zero.{+0}
-use Rattle.refusals.specs.ListLaws.{get_d_any}
+use Rattle.refusals.proofs.ListLaws.{get_d_any}
 use Rattle.layout.specs.Walk.{of_leaf}
 use Rattle.sparse_grid.specs.Lookup.{value}
 use Rattle.sparse_grid.proofs.Nodes.{missing, present, leaf_slot}

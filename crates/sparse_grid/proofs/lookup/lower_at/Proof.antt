@@ -2,7 +2,7 @@
 use Rattle.std.proofs.Common.{◌≡◌, ◌+◌, ◌*◌, [], length, sym, ap, ◌∙◌, arith, rules}
 use Rattle.sparse_grid.specs.declared.Entry.{Entry}
 use Rattle.sparse_grid.specs.Tables.{Grid, entry_at}
-use Rattle.sparse_grid.specs.TableLaws.{entry_read_lem}
+use Rattle.sparse_grid.proofs.TableLaws.{entry_read_lem}
 use Rattle.sparse_grid.specs.Lookup.{Found, lower_entry, lower_at}
 use Rattle.sparse_grid.specs.Inner.{nodes_of, placed}
 use Rattle.sparse_grid.proofs.Nodes.{missing, present, lower_slot_lem}

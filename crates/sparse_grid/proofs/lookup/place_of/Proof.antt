@@ -1,7 +1,7 @@
 -- `sparse_grid::lookup::place_of` meets its contract: each axis is biased by itself. Assumes nothing.
 use Rattle.std.proofs.Common.{sym, ◌∙◌, rules}
 use Rattle.sparse_grid.specs.Answers.{at}
-use Rattle.sparse_grid.specs.Signs.{seen}
+use Rattle.sparse_grid.proofs.Signs.{seen}
 use Rattle.sparse_grid.proofs.lookup.place_of.Statement.{statement}
 use Rattle.sparse_grid.proofs.lookup.place_of.Tie as tie
 

@@ -6,7 +6,7 @@ use Rattle.sparse_grid.specs.Tables.{Grid, grid_of}
 use Rattle.sparse_grid.specs.Answers.{at}
 use Rattle.sparse_grid.specs.Inner.{root_from}
 use Rattle.sparse_grid.specs.Sound.{Paired, pairs}
-use Rattle.sparse_grid.specs.Signs.{seen}
+use Rattle.sparse_grid.proofs.Signs.{seen}
 use Rattle.sparse_grid.proofs.lookup.root_for.Statement.{statement}
 use Rattle.sparse_grid.proofs.lookup.root_for.Tie as tie
 

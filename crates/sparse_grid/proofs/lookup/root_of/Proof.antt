@@ -3,7 +3,7 @@ use Rattle.std.proofs.Common.{◌≡◌, ℕ, ◌-◌, ◌≤◌, List, ℤ, sym
 use Rattle.layout.specs.Coordinates.{Coord, block_of, same_block}
 use Rattle.sparse_grid.specs.Answers.{at}
 use Rattle.sparse_grid.specs.Inner.{root_block, root_from}
-use Rattle.sparse_grid.specs.Signs.{shifted_on}
+use Rattle.sparse_grid.proofs.Signs.{shifted_on}
 use Rattle.sparse_grid.proofs.Nodes.{hit, miss, none}
 use Rattle.sparse_grid.proofs.lookup.root_of.Statement.{statement}
 use Rattle.sparse_grid.proofs.lookup.root_of.Tie as tie

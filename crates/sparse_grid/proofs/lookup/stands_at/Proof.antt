@@ -2,7 +2,7 @@
 use Rattle.std.proofs.Common.{◌≡◌, true, sym, ◌∙◌, arith, w32, SFits, eq-eqb, ne_eqb}
 use Rattle.layout.specs.Coordinates.{Coord, eq_z}
 use Rattle.sparse_grid.specs.Inner.{root_block}
-use Rattle.sparse_grid.specs.Signs.{eqb_bits}
+use Rattle.sparse_grid.proofs.Signs.{eqb_bits}
 use Rattle.sparse_grid.proofs.Tests.{stop_1, stop_2, go_3}
 use Rattle.sparse_grid.proofs.lookup.stands_at.Statement.{statement}
 use Rattle.sparse_grid.proofs.lookup.stands_at.Tie as tie

@@ -3,12 +3,12 @@ use Rattle.std.proofs.Common.{◌≡◌, ℕ, ◌+◌, ◌*◌, List, [], length
 use lib.Ieee.{Float}
 use Rattle.layout.specs.Coordinates.{Coord}
 use Rattle.sparse_grid.specs.Tables.{Grid, entry_at}
-use Rattle.sparse_grid.specs.TableLaws.{entry_read_lem}
+use Rattle.sparse_grid.proofs.TableLaws.{entry_read_lem}
 use Rattle.sparse_grid.specs.Lookup.{lower_entry, lower_at}
 use Rattle.sparse_grid.specs.Answers.{value_only}
 use Rattle.sparse_grid.specs.Inner.{nodes_of, placed}
 use Rattle.sparse_grid.specs.Spots.{Cube}
-use Rattle.sparse_grid.specs.SpotLaws.{lower_same}
+use Rattle.sparse_grid.proofs.SpotLaws.{lower_same}
 use Rattle.sparse_grid.proofs.Nodes.{missing, present, lower_slot_lem}
 use Rattle.sparse_grid.proofs.shared.lower_spot.Statement.{statement}
 use Rattle.sparse_grid.proofs.shared.lower_spot.Tie as tie

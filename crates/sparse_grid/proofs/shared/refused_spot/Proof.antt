@@ -1,6 +1,6 @@
 -- `sparse_grid::shared::refused_spot` meets its contract: the number is all that counts of it. Assumes nothing.
 use Rattle.std.proofs.Common.{arith}
-use Rattle.refusals.specs.FaultSteps.{passing_stop}
+use Rattle.refusals.proofs.FaultSteps.{passing_stop}
 use Rattle.sparse_grid.proofs.shared.refused_spot.Statement.{statement}
 use Rattle.sparse_grid.proofs.shared.refused_spot.Tie as tie
 

@@ -4,7 +4,7 @@ use lib.Ieee.{Float}
 use Rattle.layout.specs.Coordinates.{Coord}
 use Rattle.layout.specs.Walk.{of_background}
 use Rattle.sparse_grid.specs.Tables.{Grid, entry_at}
-use Rattle.sparse_grid.specs.TableLaws.{entry_read_lem}
+use Rattle.sparse_grid.proofs.TableLaws.{entry_read_lem}
 use Rattle.sparse_grid.specs.Lookup.{Found, value, root_entry}
 use Rattle.sparse_grid.specs.Answers.{value_only}
 use Rattle.sparse_grid.specs.Inner.{below_of, from_root}

@@ -1,0 +1,10 @@
+pub mod ColumnLaws
+pub mod CutExamples
+pub mod CutLaws
+pub mod Greatest
+pub mod JoinedLaws
+pub mod Maximum
+pub mod MostLaws
+pub mod NodeCells
+pub mod Offsets
+pub mod RootReads

@@ -1,0 +1,10 @@
+pub mod Back
+pub mod ByClass
+pub mod Examples
+pub mod FileTheorem
+pub mod Loads
+pub mod MixTheorem
+pub mod Passed
+pub mod RaysTheorem
+pub mod TemperatureTheorem
+pub mod Theorem

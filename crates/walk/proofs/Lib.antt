@@ -1,0 +1,17 @@
+pub mod Axes
+pub mod Bound
+pub mod Caps
+pub mod Cells
+pub mod ClassExamples
+pub mod ClassLaws
+pub mod CountLaws
+pub mod Cubes
+pub mod Dearest
+pub mod Local
+pub mod MoreLaws
+pub mod NodeWalk
+pub mod Placed
+pub mod Reached
+pub mod Shared
+pub mod WalkExamples
+pub mod WordLaws
