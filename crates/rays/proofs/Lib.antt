@@ -3,7 +3,7 @@ pub mod Signs
 pub mod Laws
 pub mod Tracing
 pub mod Examples
-pub mod Opened
+pub mod OpenedLaws
 pub mod Remaining
 pub mod Runs
 pub mod Theorems

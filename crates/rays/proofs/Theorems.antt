@@ -23,7 +23,7 @@ use Rattle.rays.specs.Run.{zero_state, left, calls, pieces, Chained, most}
 use Rattle.rays.proofs.Remaining.{inside_lt, sound_cell}
 use Rattle.rays.proofs.Turns.{sounds, same_cells_lem, same_end}
 use Rattle.rays.proofs.Runs.{stays_over, few, over_after, unrefused, chained}
-use Rattle.rays.proofs.Opened.{opened_ready, opened_at}
+use Rattle.rays.proofs.OpenedLaws.{opened_ready, opened_at}
 
 -- ---- an opened ray, with the table that it was opened for
 

@@ -8,7 +8,7 @@ use Rattle.cells.specs.Cells.{table_fault}
 use Rattle.cells.specs.Counted.{tabled}
 use Rattle.index.specs.Cells.{cells_on}
 use Rattle.rays.specs.Open.{Beam, beam_fault, start_of, open_ray}
-use Rattle.rays.proofs.Opened.{few_on}
+use Rattle.rays.proofs.OpenedLaws.{few_on}
 use Rattle.rays.specs.Answers.{beam_of}
 use Rattle.rays.proofs.Laws.{opened_refused, opened_taken}
 use Rattle.rays.proofs.open_ray.Statement.{statement}

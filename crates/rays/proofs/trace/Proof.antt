@@ -7,7 +7,7 @@ use Rattle.medium.specs.Medium.{Medium}
 use Rattle.medium.specs.Record.{as_medium}
 use Rattle.rays.specs.Ray.{State}
 use Rattle.rays.specs.Open.{Beam, open_ray}
-use Rattle.rays.proofs.Opened.{opened_state}
+use Rattle.rays.proofs.OpenedLaws.{opened_state}
 use Rattle.rays.specs.Run.{zero_state, pieces, most}
 use Rattle.rays.specs.Followed.{Followed}
 use Rattle.rays.specs.Trace.{fitted, traced}
