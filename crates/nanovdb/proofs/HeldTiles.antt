@@ -15,8 +15,8 @@ use Rattle.sparse_grid.specs.declared.Entry.TheVariants.{Child, Tile}
 use Rattle.nanovdb.specs.Spans.{Span, at, seen}
 use Rattle.nanovdb.specs.Nodes.{Places, State, with_span, claim, child_target, Read, node, empty}
 use Rattle.nanovdb.specs.Tree.{Root, Roots, field, key_passes, root_of, tile_read, tiles_read, tree}
-use Rattle.nanovdb.specs.Held.{seen_other, not_seen, Good, good_map, target_is}
-use Rattle.nanovdb.specs.HeldNodes.{claim_is, Inv2, Grown2, UpperIn, same2, stable2, read_upper}
+use Rattle.nanovdb.proofs.Held.{seen_other, not_seen, Good, good_map, target_is}
+use Rattle.nanovdb.proofs.HeldNodes.{claim_is, Inv2, Grown2, UpperIn, same2, stable2, read_upper}
 
 abbrev pub no_root : Root
 no_root = record { x = pos 0; y = pos 0; z = pos 0; entry = Tile +0 }

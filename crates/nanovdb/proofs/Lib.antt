@@ -6,3 +6,6 @@ pub mod Lookups
 pub mod Marks
 pub mod Numbers
 pub mod UsedLaws
+pub mod Growth
+pub mod Held
+pub mod HeldNodes

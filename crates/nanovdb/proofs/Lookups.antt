@@ -25,10 +25,10 @@ use Rattle.medium.specs.Medium.{each}
 use Rattle.nanovdb.specs.Nodes.{entries_of, mask_of, table_of, Places}
 use Rattle.nanovdb.specs.Tree.{Root, Roots, field}
 use Rattle.nanovdb.specs.Decode.{link_of, value_of, blocks_of, tables_of, Accepted, decode_scalar, decode_density}
-use Rattle.nanovdb.specs.Held.{Leaf, Node, Good, in_node}
+use Rattle.nanovdb.proofs.Held.{Leaf, Node, Good, in_node}
 use Rattle.nanovdb.specs.Agreement.{ReadsAs}
 use Rattle.nanovdb.specs.Passed.{Passed, scalar_passed, density_passed}
-use Rattle.nanovdb.specs.HeldNodes.{UpperIn, LowerIn}
+use Rattle.nanovdb.proofs.HeldNodes.{UpperIn, LowerIn}
 use Rattle.nanovdb.proofs.HeldTiles.{no_root, tile_at, Tiled, root_of_bytes, tree_holds}
 use Rattle.nanovdb.proofs.Keys.{key_same, slot_leaf, slot_lower, slot_upper, u32_lt, bits_kept}
 

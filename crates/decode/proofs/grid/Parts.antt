@@ -16,7 +16,7 @@ use Rattle.sparse_grid.specs.declared.Entry.{Entry}
 use Rattle.nanovdb.specs.Tree.{Root, Roots}
 use Rattle.nanovdb.specs.Decode.{link_of, value_of, blocks_of, tables_of, medium_at, medium_of, root_place}
 use Rattle.nanovdb.specs.Lent.{lengths, answer_of, left_of}
-use Rattle.nanovdb.specs.HeldNodes.{Inv2}
+use Rattle.nanovdb.proofs.HeldNodes.{Inv2}
 use Rattle.decode.specs.Inner.Filled.{Tabs, Starts, Holds}
 use Rattle.decode.specs.Inner.Stored.{zero_behind}
 use Rattle.decode.specs.Inner.Rooted.{RootTabs, RootsHeld}

@@ -10,7 +10,7 @@ use Rattle.layout.specs.Bytes.{u64_at, mask_bit}
 use Rattle.sparse_grid.specs.declared.Entry.{Entry}
 use Rattle.nanovdb.specs.Spans.{Span, nowhere, seen}
 use Rattle.nanovdb.specs.Nodes.{Places, State, claim, with_span, size_of, entries_of, mask_of, table_of, nodes_at, places_at, leaf_placed, placed, slots_read, node}
-use Rattle.nanovdb.specs.HeldNodes.{span_of, opening}
+use Rattle.nanovdb.proofs.HeldNodes.{span_of, opening}
 use Rattle.decode.specs.Inner.WorkTable.{size, node_span, Pushed, EnterOut, ClaimOut}
 use Rattle.decode.specs.Inner.Filled.{of_target, slot_target, count_in, places_of, room_in, grown_by, Tabs, Kept, Fit, Holds, Lends, Reads, NodeOut}
 use Rattle.decode.specs.Inner.Filled.{filling, numbered, with_work, NewNode}

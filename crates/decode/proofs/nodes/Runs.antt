@@ -9,7 +9,7 @@ use lib.Seq.{set-append_seam}
 use lib.Ieee.{Float}
 use Rattle.layout.specs.Bytes.{f32_at}
 use Rattle.nanovdb.specs.Nodes.{size_of, entries_of, leaf_values}
-use Rattle.nanovdb.specs.Held.{leaf_values_length}
+use Rattle.nanovdb.proofs.Held.{leaf_values_length}
 use Rattle.decode.specs.Inner.Filled.{room_in, Starts}
 use Rattle.decode.specs.Inner.Stored.{leaf_value, slot_value, Stored, stored_none, stored_more, at_upper, at_lower, TilesStored, tiles_none, tiles_more}
 

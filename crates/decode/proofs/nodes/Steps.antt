@@ -14,7 +14,7 @@ use Rattle.sparse_grid.specs.declared.Entry.TheVariants.{Child, Tile}
 use Rattle.nanovdb.specs.Spans.{at, nowhere, seen}
 use Rattle.nanovdb.specs.Nodes.{Places, State, Read, Slots, Reader, claim, with_span, entries_of, mask_of, table_of, nodes_at, places_at}
 use Rattle.nanovdb.specs.Nodes.{slot_read, slots_read, placed, leaf_placed, opened, again, node}
-use Rattle.nanovdb.specs.HeldNodes.{span_of, opening}
+use Rattle.nanovdb.proofs.HeldNodes.{span_of, opening}
 use Rattle.decode.specs.Inner.Filled.{slot_target, filling, numbered}
 use Rattle.decode.proofs.nodes.Levels.{less_one}
 

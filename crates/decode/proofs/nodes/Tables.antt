@@ -14,7 +14,7 @@ use Rattle.sparse_grid.specs.declared.Entry.TheVariants.{Child, Tile}
 use Rattle.nanovdb.specs.Spans.{Span}
 use Rattle.nanovdb.specs.Nodes.{by_level, Places, State, Read, Slots, entries_of, nodes_at, leaf_placed, placed, slots_read, node}
 use Rattle.nanovdb.specs.Decode.{link_of, value_of}
-use Rattle.nanovdb.specs.HeldNodes.{span_of, opening, lower_filled, upper_filled, read_leaf, read_lower}
+use Rattle.nanovdb.proofs.HeldNodes.{span_of, opening, lower_filled, upper_filled, read_leaf, read_lower}
 use Rattle.decode.specs.Inner.WorkTable.{spans, size, Pushed}
 use Rattle.decode.specs.Inner.Filled.{count_in, grown_by, Tabs, tabs, with_work, Holds, Ready, Shut}
 use Rattle.decode.specs.Inner.Stored.{leaf_value, Stored, at_upper, at_lower}

@@ -7,7 +7,7 @@ use Rattle.layout.specs.Bytes.{signed}
 use Rattle.sparse_grid.specs.declared.Entry.{Entry}
 use Rattle.nanovdb.specs.Nodes.{by_level, size_of, entries_of, mask_of, nodes_at, Places, State, Read, Slots, child_target, slots_read, leaf_placed, placed, node}
 use Rattle.nanovdb.specs.Decode.{link_of, value_of}
-use Rattle.nanovdb.specs.HeldNodes.{Inv0, Inv1, Inv2, opening}
+use Rattle.nanovdb.specs.InTables.{Inv0, Inv1, Inv2, opening}
 use Rattle.decode.specs.Inner.WorkTable.{Rep, nodes, spans}
 use Rattle.decode.specs.Inner.Packed.{Packed}
 use Rattle.decode.specs.declared.spans.Spans.{Spans}

@@ -17,7 +17,8 @@ use Rattle.sparse_grid.specs.declared.Entry.{Entry}
 use Rattle.sparse_grid.specs.declared.Entry.TheVariants.{Child, Tile}
 use Rattle.nanovdb.specs.Spans.{Span, Seen, at, nowhere, seen}
 use Rattle.nanovdb.specs.Nodes.{State, Read, Slots, Reader, child_target, entries_of, mask_of, table_of, slot_read, slots_read, leaf_values}
-use Rattle.nanovdb.specs.Growth.{Prefix, prefix_length, prefix_at}
+pub use Rattle.nanovdb.specs.InTables.{Leaf, Good, SlotGood, Node}
+use Rattle.nanovdb.proofs.Growth.{Prefix, prefix_length, prefix_at}
 
 -- ---- spans
 
@@ -68,34 +69,11 @@ seen_other (r ∷ ss) s source level h =
 
 -- ---- a node of the bytes, in the tables
 
--- leaf number k is the one at source
-pub record Leaf (b : List ℕ) (leaf : List Float) (source k : ℕ) : Type 0 where
-  pub fits : 512 * (k + 1) ≤ length leaf
-  pub each : (i : ℕ) → i < 512 → get_or leaf (512 * k + i) +0 ≡ of_bits binary32 (u32_at b (source + 96 + 4 * i))
-
--- an entry where the bytes have a value (the first argument says so), or else a child
-abbrev pub Good : (ℕ → ℕ → Type 0) → Bool → ℕ → ℕ → Entry → Type 0
-Good child true bits target (Tile v) = v ≡ of_bits binary32 bits
-Good child true bits target (Child j) = ⊥
-Good child false bits target (Tile v) = ⊥
-Good child false bits target (Child j) = child target j
-
 pub good_map : {P Q : ℕ → ℕ → Type 0} → ((s k : ℕ) → P s k → Q s k) → (x : Bool) (bits target : ℕ) (e : Entry) → Good P x bits target e → Good Q x bits target e
 good_map f true bits target (Tile v) g = g
 good_map f true bits target (Child j) g = g
 good_map f false bits target (Tile v) g = g
 good_map f false bits target (Child j) g = f target j g
-
--- slot i of the node at source
-abbrev pub SlotGood : (ℕ → ℕ → Type 0) → List ℕ → ℕ → ℕ → ℕ → Entry → Type 0
-SlotGood child b level source i e =
-    Good child (eqb (mask_bit b (source + mask_of level) i) 0) (u32_at b (source + table_of level + 8 * i))
-    (shift source (i64_at b (source + table_of level + 8 * i))) e
-
--- node number k of the table is the one at source
-pub record Node (child : ℕ → ℕ → Type 0) (b : List ℕ) (level : ℕ) (table : List Entry) (source k : ℕ) : Type 0 where
-  pub fits : entries_of level * (k + 1) ≤ length table
-  pub each : (i : ℕ) → i < entries_of level → SlotGood child b level source i (get_or table (entries_of level * k + i) (Tile +0))
 
 pub leaf_grown : {b : List ℕ} {l m : List Float} → Prefix l m → (s k : ℕ) → Leaf b l s k → Leaf b m s k
 leaf_grown {l = l} p s k r = record {

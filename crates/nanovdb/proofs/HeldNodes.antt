@@ -6,8 +6,9 @@ use Rattle.refusals.specs.ResultLaws.{ok_injective, bind_ok, need_ok}
 use Rattle.nanovdb.specs.Spans.{Span, Seen, at, nowhere, seen, overlaps}
 use Rattle.nanovdb.specs.Nodes.{Places, State, with_span, claim, size_of, nodes_at, places_at, counted, Read, Slots, slots_read, leaf_values, placed}
 use Rattle.nanovdb.specs.Nodes.{leaf_placed, opened, again, node}
-use Rattle.nanovdb.specs.Growth.{Prefix, prefix_same, prefix_more, prefix_trans}
-use Rattle.nanovdb.specs.Held.{seen_new, seen_other, Leaf, Node, leaf_grown, node_grown, node_new, leaf_length, leaf_new, Step, Filled, slots_filled}
+pub use Rattle.nanovdb.specs.InTables.{span_of, opening, LeafIn, LowerIn, UpperIn, Inv0, Inv1, Inv2, Leaf, Node}
+use Rattle.nanovdb.proofs.Growth.{Prefix, prefix_same, prefix_more, prefix_trans}
+use Rattle.nanovdb.proofs.Held.{seen_new, seen_other, leaf_grown, node_grown, node_new, leaf_length, leaf_new, Step, Filled, slots_filled}
 
 -- ---- what an accepted claim, opening and reuse say
 
@@ -18,14 +19,6 @@ claim_is b p t s e =
     (need (not (overlaps t.spans s.start s.end)) 6 (need (ltb (length t.spans) p.spans) 9 (ok (with_span t s)))) e in
     let free = need_ok (not (overlaps t.spans s.start s.end)) 6 (need (ltb (length t.spans) p.spans) 9 (ok (with_span t s))) end.1 in
     ok_injective (need_ok (ltb (length t.spans) p.spans) 9 (ok (with_span t s)) free.1).1
-
--- the span of a new node
-abbrev pub span_of : ℕ → ℕ → State → Span
-span_of level source t = record { start = source; end = source + size_of level; level = level; number = nodes_at t level }
-
--- the state in which a new node's slots are read
-abbrev pub opening : ℕ → ℕ → State → State
-opening level source t = counted (with_span t (span_of level source t)) level
 
 opened_ok : (b : List ℕ) (p : Places) (level source : ℕ) (t : State) (fill : State → Result State) {r : Read} → opened b p level source t fill ≡ ok r
     → (v : State) × (fill (opening level source t) ≡ ok v) × (◌≡◌ {A = Read} (record { number = nodes_at t level; state = v }) r)
@@ -61,10 +54,6 @@ old_or_new P ss sp level old new s k e =
 
 -- ---- leaves
 
-pub record Inv0 (b : List ℕ) (t : State) : Type 0 where
-  pub full : length t.leaf ≡ 512 * t.leaf_nodes
-  pub known : (s k : ℕ) → seen t.spans s 0 ≡ at k → Leaf b t.leaf s k
-
 pub record Grown0 (t u : State) : Type 0 where
   pub leaf : Prefix t.leaf u.leaf
   pub lower : u.lower ≡ t.lower
@@ -87,9 +76,6 @@ join0 t u v g h = record {
   seen1 = λ s. h.seen1 s ∙ g.seen1 s;
   seen2 = λ s. h.seen2 s ∙ g.seen2 s;
 }
-
-abbrev pub LeafIn : List ℕ → State → ℕ → ℕ → Type 0
-LeafIn b t = Leaf b t.leaf
 
 stable0 : (b : List ℕ) (t u : State) → Grown0 t u → (s k : ℕ) → LeafIn b t s k → LeafIn b u s k
 stable0 b t u g s k l = leaf_grown g.leaf s k l
@@ -133,14 +119,6 @@ read_leaf b p source t r i e = read_node (Inv0 b) (LeafIn b) Grown0 b p 0 source
     r e
 
 -- ---- lower nodes
-
-abbrev pub LowerIn : List ℕ → State → ℕ → ℕ → Type 0
-LowerIn b t = Node (Leaf b t.leaf) b 1 t.lower
-
-pub record Inv1 (b : List ℕ) (t : State) : Type 0 where
-  pub below : Inv0 b t
-  pub full : length t.lower ≡ 4096 * t.lower_nodes
-  pub known : (s k : ℕ) → seen t.spans s 1 ≡ at k → LowerIn b t s k
 
 pub record Grown1 (t u : State) : Type 0 where
   pub leaf : Prefix t.leaf u.leaf
@@ -221,14 +199,6 @@ read_lower b p source t r i e = read_node (Inv1 b) (LowerIn b) Grown1 b p 1 sour
     place = λ (s : Slots). ok (placed 1 s)
 
 -- ---- upper nodes
-
-abbrev pub UpperIn : List ℕ → State → ℕ → ℕ → Type 0
-UpperIn b t = Node (LowerIn b t) b 2 t.upper
-
-pub record Inv2 (b : List ℕ) (t : State) : Type 0 where
-  pub below : Inv1 b t
-  pub full : length t.upper ≡ 32768 * t.upper_nodes
-  pub known : (s k : ℕ) → seen t.spans s 2 ≡ at k → UpperIn b t s k
 
 pub record Grown2 (t u : State) : Type 0 where
   pub leaf : Prefix t.leaf u.leaf
