@@ -102,7 +102,8 @@ eight_at m p x y z = corner_of (floors_on m p x_axis) (floors_on m p y_axis) (fl
 eight_around : (m : Medium) (p : Point) (x y z : Bool) → AroundIn m p (eight_at m p x y z)
 unfolding floors_on eight_at
 eight_around m p x y z = λ a. elim a as (λ b. (on_coord b (eight_at m p x y z) ≡ floor_z (world_to_index m p b))
-    ⊎ (on_coord b (eight_at m p x y z) ≡ suc_ℤ (floor_z (world_to_index m p b)))) [ x_axis ↦ either x_axis x | y_axis ↦ either y_axis y | z_axis ↦ either z_axis z ]
+    ⊎ (on_coord b (eight_at m p x y z)
+    ≡ suc_ℤ (floor_z (world_to_index m p b)))) [ x_axis ↦ either x_axis x | y_axis ↦ either y_axis y | z_axis ↦ either z_axis z ]
   where
     either : (a : Axis) (o : Bool)
         → (cond o (suc_ℤ (floor_z (world_to_index m p a))) (floor_z (world_to_index m p a)) ≡ floor_z (world_to_index m p a))

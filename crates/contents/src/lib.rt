@@ -1,5 +1,6 @@
 // Whole .nvdb files: which part of a file's bytes holds grid n, and which part its name. Every segment is tested, whatever n is.
 #![tactic(auto)]
+
 ghost use Rattle.std.specs.Prelude.{◌≡◌};
 ghost use Rattle.refusals.specs.Results.{refused};
 ghost use Rattle.contents.specs.Contents.{pick, pick_name, located, loaded};

@@ -23,7 +23,17 @@ file = before ++ (sample ++ [])
 
 -- 999 roots, no nodes, and work for two spans
 abbrev lent : Lent
-lent = record { blocks = 2997; root_links = 999; root_values = 999; upper_links = 0; upper_values = 0; lower_links = 0; lower_values = 0; leaf_values = 0; work = 8 }
+lent = record {
+  blocks = 2997;
+  root_links = 999;
+  root_values = 999;
+  upper_links = 0;
+  upper_values = 0;
+  lower_links = 0;
+  lower_values = 0;
+  leaf_values = 0;
+  work = 8;
+}
 
 found : pick file 0 ≡ ok (part 193 832)
 unfolding pick located file_fault places segments_fault grid_of segment_fault header_holds entry_holds entry_at body_at first_fault le written sample

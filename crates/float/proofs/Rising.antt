@@ -142,8 +142,10 @@ negative_le f q j r k = go q r (nat_lt (q * 2 ^ j) (2 ^ (low f + suc (emax f))))
     go : (q r : ℕ) (a b : Bool)
         → T (le (neg (cond a (odd (suc (prec f)) false q j (low f)) (inf false))) (cond b (odd (suc (prec f)) false r k (low f)) (inf false)))
     go zero zero true true = tt
-    go zero (suc r) true true = fins 0 (pos 0) (suc r / 2 ^ count_trailing_zeros (suc (prec f)) (suc r)) (minus (k + count_trailing_zeros (suc (prec f)) (suc r)) (low f))
-    go (suc q) zero true true = fins (suc q / 2 ^ count_trailing_zeros (suc (prec f)) (suc q)) (minus (j + count_trailing_zeros (suc (prec f)) (suc q)) (low f)) 0 (pos 0)
+    go zero (suc r) true true =
+        fins 0 (pos 0) (suc r / 2 ^ count_trailing_zeros (suc (prec f)) (suc r)) (minus (k + count_trailing_zeros (suc (prec f)) (suc r)) (low f))
+    go (suc q) zero true true =
+        fins (suc q / 2 ^ count_trailing_zeros (suc (prec f)) (suc q)) (minus (j + count_trailing_zeros (suc (prec f)) (suc q)) (low f)) 0 (pos 0)
     go (suc q) (suc r) true true =
         fins (suc q / 2 ^ count_trailing_zeros (suc (prec f)) (suc q)) (minus (j + count_trailing_zeros (suc (prec f)) (suc q)) (low f))
         (suc r / 2 ^ count_trailing_zeros (suc (prec f)) (suc r)) (minus (k + count_trailing_zeros (suc (prec f)) (suc r)) (low f))

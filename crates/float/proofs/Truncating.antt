@@ -197,7 +197,8 @@ trunc_special f s x (inr e) = ap (trunc f) e ∙ sym e
 
 pub trunc_nan : (b : ℕ) → 9218868437227405312 < b % 9223372036854775808 → 9221120237041090560 ≡ to_bits binary64 (trunc binary64 (of_bits binary64 b))
 trunc_nan b h =
-    nan_bits_lem binary64 ∙ sym (ap (to_bits binary64) (trunc_special binary64 false (of_bits binary64 b) (inl (read_nan binary64 b h)) ∙ read_nan binary64 b h))
+    nan_bits_lem binary64
+    ∙ sym (ap (to_bits binary64) (trunc_special binary64 false (of_bits binary64 b) (inl (read_nan binary64 b h)) ∙ read_nan binary64 b h))
 
 -- an infinity
 pub trunc_inf : (b : ℕ) → b < 2 ^ 64 → b % 9223372036854775808 ≤ 9218868437227405312 → 2047 ≤ field_of binary64 b

@@ -374,7 +374,12 @@ module _ {B C : Type 0} (F S : Axis → Result Ends) (make : Ends → Ends → E
 
 own_is : (m : Medium) (n : Cells) (k : ℕ) (a : Axis) → ends_at m n k a ≡ own_of m (cell_corner m n k 0) (cell_corner m n k 1) a
 own_is m n k a =
-    elim a as (λ b. ends_at m n k b ≡ own_of m (cell_corner m n k 0) (cell_corner m n k 1) b) [ x_axis ↦ go x_axis n.x (cell_axis n k x_axis) | y_axis ↦ go y_axis n.y (cell_axis n k y_axis) | z_axis ↦ go z_axis n.z (cell_axis n k z_axis) ]
+    elim a as (λ b. ends_at m n k b ≡ own_of m (cell_corner m n k 0) (cell_corner m n k 1) b) [
+      | x_axis ↦ go x_axis n.x
+          (cell_axis n k x_axis)
+      | y_axis ↦ go y_axis n.y (cell_axis n k y_axis)
+      | z_axis ↦ go z_axis n.z (cell_axis n k z_axis)
+    ]
   where
     go : (a : Axis) (N K : ℕ) → axis_ends (line_of m a) N K ≡ ends_on (line_of m a) (corner m a N (K + 0)) (corner m a N (K + 1))
     go a N K =
@@ -424,7 +429,8 @@ boxes_alone {B} {C} m M n k make G = elim (only x_axis) [
         → both (first_ends m n k) (second_ends m n k) make G
         ≡ G (make x.0.first y.0.first z.0.first) (make x.0.second y.0.second z.0.second)
     take x y z =
-        let h : (a : Axis) → (e : Both) × (ends_at m n k a ≡ ok e) = λ a. elim a as (λ b. (e : Both) × (ends_at m n k b ≡ ok e)) [ x_axis ↦ x | y_axis ↦ y | z_axis ↦ z ] in
+        let h : (a : Axis) → (e : Both)
+        × (ends_at m n k a ≡ ok e) = λ a. elim a as (λ b. (e : Both) × (ends_at m n k b ≡ ok e)) [ x_axis ↦ x | y_axis ↦ y | z_axis ↦ z ] in
         let o : (a : Axis) → (e : Both) × (own_of m (cell_corner m n k 0) (cell_corner m n k 1) a ≡ ok e) = λ a. ((h a).0, sym (own_is m n k a) ∙ (h a).1) in
         both_taken (first_ends m n k) (second_ends m n k) make G (λ a. (h a).0)
         (λ a. let r = from_own m (straight m M) (cell_corner m n k 0) (cell_corner m n k 1) o a (h a).0 (o a).1 in

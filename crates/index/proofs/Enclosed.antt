@@ -33,7 +33,8 @@ pub record Numbered (n : Cells) : Type 0 where
 pub numbered : {n : Cells} → Counted n → Numbered n
 numbered {n = n} N = record {
   some = λ a. elim a as (λ b. 0 < cells_on n b) [ x_axis ↦ N.x.some | y_axis ↦ N.y.some | z_axis ↦ N.z.some ];
-  few = λ a. elim a as (λ b. cells_on n b ≤ 2 ^ 24) [ x_axis ↦ le_trans N.x.most (lit≤ tt) | y_axis ↦ le_trans N.y.most (lit≤ tt) | z_axis ↦ le_trans N.z.most (lit≤ tt) ];
+  few = λ a. elim a as
+      (λ b. cells_on n b ≤ 2 ^ 24) [ x_axis ↦ le_trans N.x.most (lit≤ tt) | y_axis ↦ le_trans N.y.most (lit≤ tt) | z_axis ↦ le_trans N.z.most (lit≤ tt) ];
 }
 
 bounds_finite : (m : Medium) (a : Axis) → bounds_fault m a ≡ 0 → T (finite (on_point a m.low)) × T (finite (on_point a m.high))
@@ -116,7 +117,8 @@ cell_below m n p l = go (ltb x n.x) refl (ltb y n.y) refl (ltb z n.z) refl
     all t = cond t (cell_of n x y z) (n.x * n.y * n.z)
 
     go : (a : Bool) → ltb x n.x ≡ a → (b : Bool) → ltb y n.y ≡ b → (c : Bool) → ltb z n.z ≡ c → Met m n p
-    go true i true j true k = λ a. elim a as (λ b. cell_on m n p b < cells_on n b) [ x_axis ↦ ltb-true x n.x i | y_axis ↦ ltb-true y n.y j | z_axis ↦ ltb-true z n.z k ]
+    go true i true j true k =
+        λ a. elim a as (λ b. cell_on m n p b < cells_on n b) [ x_axis ↦ ltb-true x n.x i | y_axis ↦ ltb-true y n.y j | z_axis ↦ ltb-true z n.z k ]
     go false i b j c k = absurd (lt_irrefl _ (subst (λ (t : Bool). all (t && ltb y n.y && ltb z n.z) < n.x * n.y * n.z) i l))
     go true i false j c k = absurd (lt_irrefl _ (subst (λ (t : Bool). all (t && ltb z n.z) < n.x * n.y * n.z) (and_same i j) l))
     go true i true j false k = absurd (lt_irrefl _ (subst (λ (t : Bool). all t < n.x * n.y * n.z) (and_same (and_same i j) k) l))
@@ -138,12 +140,13 @@ met_ends m n p a i e l =
 
 -- a number that is a cell's is that of one which encloses the point
 pub cell_encloses : (m : Medium) (n : Cells) (p : Point) → cell_at m n p < n.x * n.y * n.z → EnclosesIn m n (cell_at m n p) p
-cell_encloses m n p l = subst (λ (k : ℕ). EnclosesIn m n k p) (sym (cell_met m n p f)) (λ a. elim a as (λ b. (le (on_point b (cell_corner m n k 0)) (on_point b p) ≡ true)
+cell_encloses m n p l =
+    subst (λ (k : ℕ). EnclosesIn m n k p) (sym (cell_met m n p f)) (λ a. elim a as (λ b. (le (on_point b (cell_corner m n k 0)) (on_point b p) ≡ true)
     × (le (on_point b p) (on_point b (cell_corner m n k 1)) ≡ true)) [
-  | x_axis ↦ met_ends m n p x_axis (cell_axis n k x_axis) (cell_x n x y z (f x_axis) (f y_axis) (f z_axis)) (f x_axis)
-  | y_axis ↦ met_ends m n p y_axis (cell_axis n k y_axis) (cell_y n x y z (f x_axis) (f y_axis) (f z_axis)) (f y_axis)
-  | z_axis ↦ met_ends m n p z_axis (cell_axis n k z_axis) (cell_z n x y z (f x_axis) (f y_axis) (f z_axis)) (f z_axis)
-])
+      | x_axis ↦ met_ends m n p x_axis (cell_axis n k x_axis) (cell_x n x y z (f x_axis) (f y_axis) (f z_axis)) (f x_axis)
+      | y_axis ↦ met_ends m n p y_axis (cell_axis n k y_axis) (cell_y n x y z (f x_axis) (f y_axis) (f z_axis)) (f y_axis)
+      | z_axis ↦ met_ends m n p z_axis (cell_axis n k z_axis) (cell_z n x y z (f x_axis) (f y_axis) (f z_axis)) (f z_axis)
+    ])
   where
     f : Met m n p
     f = cell_below m n p l

@@ -51,7 +51,8 @@ figures_at maximum m n (suc c) l e =
       ap length (sym s) ∙ length-append l' (v ∷ []) ∙ ap (λ (x : ℕ). x + 1) z ∙ native.Mathlib.Numerals.add-one c,
       λ k h. elim (eq-or-lt_of_le (le_of_suc-le-suc h)) [
         | inl e ↦ ap (figure maximum m n) e ∙ r
-            ∙ ap ok (sym (ap (λ (x : List Float). get_or x k +0) (sym s) ∙ ap (λ (i : ℕ). get_or (l' ++ (v ∷ [])) i +0) (e ∙ sym z) ∙ get_or-append_seam l' v [] +0))
+            ∙ ap ok (sym (ap (λ (x : List Float). get_or x k +0) (sym s) ∙ ap (λ (i : ℕ). get_or (l' ++ (v ∷ [])) i +0) (e ∙ sym z)
+            ∙ get_or-append_seam l' v [] +0))
         | inr j ↦ f k j ∙ ap ok (sym (ap (λ (x : List Float). get_or x k +0) (sym s) ∙ get_or-append l' (v ∷ []) +0 k (subst (λ (i : ℕ). k < i) (sym z) j)))
       ],
     )
@@ -137,11 +138,17 @@ inside m n k s p c S e r a f =
         → (on_coord a c ≡ floor_z (world_to_index m p a)) ⊎ (on_coord a c ≡ suc_ℤ (floor_z (world_to_index m p a)))
         → T (int_le (on_coord a s.lo) (on_coord a c)) × T (int_le (on_coord a c) (on_coord a s.hi))
     both l h (inl e) =
-        subst (λ (z : ℤ). T (int_le (on_coord a s.lo) z) × T (int_le z (on_coord a s.hi))) (sym e)
-        (l, le_z_through (floor_z (world_to_index m p a)) (suc_ℤ (floor_z (world_to_index m p a))) (on_coord a s.hi) (le_z_suc (floor_z (world_to_index m p a))) h)
+        subst (λ (z : ℤ). T (int_le (on_coord a s.lo) z) × T (int_le z (on_coord a s.hi))) (sym e) (
+          l,
+          le_z_through (floor_z (world_to_index m p a)) (suc_ℤ (floor_z (world_to_index m p a))) (on_coord a s.hi)
+              (le_z_suc (floor_z (world_to_index m p a))) h,
+        )
     both l h (inr e) =
-        subst (λ (z : ℤ). T (int_le (on_coord a s.lo) z) × T (int_le z (on_coord a s.hi))) (sym e)
-        (le_z_through (on_coord a s.lo) (floor_z (world_to_index m p a)) (suc_ℤ (floor_z (world_to_index m p a))) l (le_z_suc (floor_z (world_to_index m p a))), h)
+        subst (λ (z : ℤ). T (int_le (on_coord a s.lo) z) × T (int_le z (on_coord a s.hi))) (sym e) (
+          le_z_through (on_coord a s.lo) (floor_z (world_to_index m p a)) (suc_ℤ (floor_z (world_to_index m p a))) l
+              (le_z_suc (floor_z (world_to_index m p a))),
+          h,
+        )
 
 pub figure_bounds : (read : Coord → Float) (m : Medium) (n : Cells) (k : ℕ) (v : Float) → Scaled m → figure (box_maximum read) m n k ≡ ok v
     → (p : Point) → EnclosesIn m n k p → (c : Coord) → AroundIn m p c → Signed32 c × (lt v (read c) ≡ false)

@@ -42,7 +42,8 @@ module _ (maximum : Box → Float) where
         → ok f ≡ cell_figure maximum (both_of x) (both_of y) (both_of z)
     cell_bounded o i h = ap ok i ∙ ap (λ (t : Bool). need (not t) 17 (ok (maximum (first_box x y z)))) (sym h) ∙ taken o
 
-    pub cell_above : n ≡ 0 → lt (maximum (first_box x y z)) (maximum (second_box x y z)) ≡ true → refused 17 ≡ cell_figure maximum (both_of x) (both_of y) (both_of z)
+    pub cell_above : n ≡ 0 → lt (maximum (first_box x y z)) (maximum (second_box x y z)) ≡ true
+        → refused 17 ≡ cell_figure maximum (both_of x) (both_of y) (both_of z)
     cell_above o h = ap (λ (t : Bool). need (not t) 17 (ok (maximum (first_box x y z)))) (sym h) ∙ taken o
 
 -- ---- the table of an axis

@@ -17,7 +17,8 @@ abbrev pub cells_of : List ℕ → Cells
 cells_of l = cells (get_or l 0 0) (get_or l 1 0) (get_or l 2 0)
 
 abbrev pub nine_of : List Float → List Float
-nine_of l = get_or l 0 nan ∷ get_or l 1 nan ∷ get_or l 2 nan ∷ get_or l 3 nan ∷ get_or l 4 nan ∷ get_or l 5 nan ∷ get_or l 6 nan ∷ get_or l 7 nan ∷ get_or l 8 nan ∷ []
+nine_of l = get_or l 0 nan ∷ get_or l 1 nan ∷ get_or l 2 nan ∷ get_or l 3 nan ∷ get_or l 4 nan ∷ get_or l 5 nan
+    ∷ get_or l 6 nan ∷ get_or l 7 nan ∷ get_or l 8 nan ∷ []
 
 abbrev pub as_temperature : Heat.Temperature → Temperature
 as_temperature t = record { present = t.present; offset = t.offset; scale = t.scale }

@@ -2,6 +2,7 @@
 // translation, how many cells a build cuts the world box into on each axis, and whether a temperature grid stands beside the
 // density grid. Its checks are the decode's and the build's: each answers its number, or 0 where the record passes.
 #![tactic(auto)]
+
 ghost use Rattle.std.specs.Prelude.{◌≡◌, ◌&&◌};
 ghost use Rattle.std.specs.Int.Signed.{le_z};
 ghost use Rattle.std.specs.Float.{binary32};

@@ -88,7 +88,8 @@ tile_read_lem b p root n r r' f e =
     visit = λ (target : ℕ). bind (node 2 b p target r.state) after
 
     rest : Bool → Result Roots
-    rest x = cond x (ok (record { roots = r.roots ++ (root_of k (Tile (of_bits binary32 bits)) ∷ []); state = r.state })) (bind (child_target root offset) visit)
+    rest x = cond x (ok (record { roots = r.roots ++ (root_of k (Tile (of_bits binary32 bits)) ∷ []); state = r.state }))
+        (bind (child_target root offset) visit)
 
     go : (x : Bool)
         → ((u : State) (e : Entry) → Inv2 b u → Grown2 r.state u → Good (UpperIn b u) x bits (shift root offset) e

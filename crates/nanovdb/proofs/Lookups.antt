@@ -242,7 +242,8 @@ found b bytes r c small tiled s =
     let g = tables_of b r in
     let is_count : length g.root_links ≡ count = length-map r.roots (λ (e : Root). link_of e.entry) ∙ tiled.size in
     let first : tile_at root 0 ≡ root + 64 = omega arith in
-    let all : Agrees (tiles_walk count b root (tile_at root 0) c) (roots_from g count 0 c) = roots_agree b bytes r count tiled s c small count 0 (omega arith) in
+    let all : Agrees (tiles_walk count b root (tile_at root 0) c) (roots_from g count 0 c) =
+    roots_agree b bytes r count tiled s c small count 0 (omega arith) in
     met (eqb (pair_fault g) 0) (walk b c) (roots_from g (length g.root_links) 0 c) (refused (pair_fault g)) (eq→eqb (pair_fault g) 0 s.paired)
     (subst (λ (n : ℕ). Agrees (tiles_walk count b root (root + 64) c) (roots_from g n 0 c)) (sym is_count)
     (subst (λ (z : ℕ). Agrees (tiles_walk count b root z c) (roots_from g count 0 c)) first all))

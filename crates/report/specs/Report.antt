@@ -98,7 +98,17 @@ long_line = long_word ++ newline
 
 -- 999 roots, no nodes and a work table of two spans
 abbrev pub lent : Lent
-lent = record { blocks = 2997; root_links = 999; root_values = 999; upper_links = 0; upper_values = 0; lower_links = 0; lower_values = 0; leaf_values = 0; work = 8 }
+lent = record {
+  blocks = 2997;
+  root_links = 999;
+  root_values = 999;
+  upper_links = 0;
+  upper_values = 0;
+  lower_links = 0;
+  lower_values = 0;
+  leaf_values = 0;
+  work = 8;
+}
 
 -- a grid has its text; a refusal prints one line alone
 unfoldable pub result_text : (ℕ → Accepted → List ℕ) → ℕ → Result Accepted → List ℕ

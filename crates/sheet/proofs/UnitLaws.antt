@@ -30,7 +30,8 @@ fields_value f s (suc x) t h =
     (subst (λ (v : Float). HasValue v s ((hid f + t) * 2 ^ x) (2 ^ low f)) (sym (cond_no (eqb (suc x) (ones f)) low_part value (neq (suc x) (ones f) h)))
     (odd_sign (prec f) s (hid f + t) x (low f))))
 
-bits_value : (b : ℕ) → field_of binary32 b < 255 → HasValue (of_bits binary32 b) (leb (top binary32) b) (digits_of binary32 b * 2 ^ place_of binary32 b) (2 ^ 149)
+bits_value : (b : ℕ) → field_of binary32 b < 255
+    → HasValue (of_bits binary32 b) (leb (top binary32) b) (digits_of binary32 b * 2 ^ place_of binary32 b) (2 ^ 149)
 unfolding of_bits
 bits_value b h = fields_value binary32 (leb (top binary32) b) (field_of binary32 b) (b % hid binary32) h
 

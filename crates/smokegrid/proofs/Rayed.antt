@@ -142,7 +142,8 @@ module _ (m : List Float) (c : List ℕ) (b : Beam) (places times numbers : ℕ)
       let u = unfit (λ z. h (e ∙ z)) in
       subst (λ (j : ℕ). OpensRay m c b places times numbers j t n) (sym (e ∙ u.0)) (open_unfit u.1 p q)
 
-  opens : length m ≡ 18 → length c ≡ 3 → Sized times numbers → ray_open_flat m c b places times numbers ≡ open_ray (medium_from m (replicate 6 (pos 0)) c) b places
+  opens : length m ≡ 18 → length c ≡ 3 → Sized times numbers
+      → ray_open_flat m c b places times numbers ≡ open_ray (medium_from m (replicate 6 (pos 0)) c) b places
   unfolding ray_open_flat
   opens p q z = rw (eq-eqb (length m) 18 p, eq-eqb (length c) 3 q, eq-eqb times 8 z.times_is, eq-eqb numbers 9 z.numbers_is)
 

@@ -149,7 +149,8 @@ module _ {numbers : List ℕ} {figures : List Float} {before : WindowArrays} whe
 
   pub push_taken : {number : ℕ} {v : Window} {words : List ℕ} {m a : List Float} → sized numbers (length before.window) ≡ true
       → number ≡ push_fault (state_from before) (table_from numbers figures) → number ≡ 0
-      → state_of v m a ≡ push (state_from before) (table_from numbers figures) → words ≡ words_of v → PushesTable numbers figures before 0 (window_arrays words m a)
+      → state_of v m a ≡ push (state_from before) (table_from numbers figures) → words ≡ words_of v
+      → PushesTable numbers figures before 0 (window_arrays words m a)
   unfolding pushed_flat
   push_taken {m = m} {a} h n z s e =
       let all = n ∙ own_is numbers figures before h in

@@ -78,7 +78,8 @@ point l k = record { x = get_or l k nan; y = get_or l (k + 1) nan; z = get_or l 
 abbrev pub medium_from : List Float → List ℤ → List ℕ → Medium
 medium_from l c n =
     make_medium (point l 0) (point l 3) (three c 0) (three c 3)
-    (get_or l 6 nan ∷ get_or l 7 nan ∷ get_or l 8 nan ∷ get_or l 9 nan ∷ get_or l 10 nan ∷ get_or l 11 nan ∷ get_or l 12 nan ∷ get_or l 13 nan ∷ get_or l 14 nan ∷ [])
+    (get_or l 6 nan ∷ get_or l 7 nan ∷ get_or l 8 nan ∷ get_or l 9 nan ∷ get_or l 10 nan ∷ get_or l 11 nan
+    ∷ get_or l 12 nan ∷ get_or l 13 nan ∷ get_or l 14 nan ∷ [])
     (point l 15) (cells_of n)
 
 -- 18 for a medium or index bits of another length; corners and cells play no part

@@ -159,7 +159,8 @@ value_at (r ∷ rs) zero = refl
 value_at (r ∷ rs) (suc i) = value_at rs i
 
 -- three numbers a record
-block_on : (rs : List RootRecord) (i o : ℕ) → slice_index_or (blocks_of rs) (3 * suc i + o) (pos 0) ≡ slice_index_or (blocks_of rs) (suc (suc (suc (3 * i + o)))) (pos 0)
+block_on : (rs : List RootRecord) (i o : ℕ)
+    → slice_index_or (blocks_of rs) (3 * suc i + o) (pos 0) ≡ slice_index_or (blocks_of rs) (suc (suc (suc (3 * i + o)))) (pos 0)
 block_on rs i o = ap (λ (k : ℕ). get_or (blocks_of rs) k (pos 0)) (omega arith)
 
 x_at : (rs : List RootRecord) (i : ℕ) → slice_index_or (blocks_of rs) (3 * i) (pos 0) ≡ (get_or rs i none).block.x

@@ -128,14 +128,16 @@ one_root g v i j p q e = split_lt i j (λ l. before i j q e l) (λ k. split_lt j
   where
     before : (i j : ℕ) → j < length g.root_links → block_at g i ≡ block_at g j → i < j → i ≡ j
     before i j q e l =
-        clash (ap (λ (b : Coord). same_block (block_at g i) b) (sym e) ∙ block_self (block_at g i)) (earlier_none g j (block_at g j) ((sound g v).apart j q) i l)
+        clash (ap (λ (b : Coord). same_block (block_at g i) b) (sym e) ∙ block_self (block_at g i))
+        (earlier_none g j (block_at g j) ((sound g v).apart j q) i l)
 
 roots_passed : (g : Grid) → validate g ≡ 0 → (i : ℕ) → i < length g.root_links → root_fault g i ≡ 0
 unfolding validate
 roots_passed g v =
     first_fault_zero (length g.root_links) (root_fault g) (then_zero _ _ (then_zero (shape_fault g) _ (then_zero (pair_fault g) _ v).1).1).0
 
-entry_passed : (g : Grid) (i : ℕ) → root_fault g i ≡ 0 → entry_fault (length g.upper_links / 32768) (slice_index g.root_links i) (slice_index_or g.root_values i +0) ≡ 0
+entry_passed : (g : Grid) (i : ℕ) → root_fault g i ≡ 0
+    → entry_fault (length g.upper_links / 32768) (slice_index g.root_links i) (slice_index_or g.root_values i +0) ≡ 0
 unfolding root_fault
 entry_passed g i h =
     let b = block_at g i in

@@ -42,4 +42,8 @@ entry_at links values i = entry_of (slice_index links i) (slice_index_or values 
 
 -- the block of root i
 abbrev pub block_at : Grid → ℕ → Coord
-block_at g i = record { x = slice_index_or g.blocks (3 * i) (pos 0); y = slice_index_or g.blocks (3 * i + 1) (pos 0); z = slice_index_or g.blocks (3 * i + 2) (pos 0) }
+block_at g i = record {
+  x = slice_index_or g.blocks (3 * i) (pos 0);
+  y = slice_index_or g.blocks (3 * i + 1) (pos 0);
+  z = slice_index_or g.blocks (3 * i + 2) (pos 0);
+}

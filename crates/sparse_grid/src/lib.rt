@@ -1,6 +1,7 @@
 // A sparse grid of lent tables: entries, validate, validate_density, get_reading, get_value (sparse_grid.rs).
 // A grid is its background and eight tables side by side, always in this order. A root's block is three numbers of `blocks`.
 #![tactic(auto)]
+
 ghost use Rattle.std.specs.Prelude.{◌≡◌, List, [], Float};
 ghost use Rattle.layout.specs.Coordinates.{Coord};
 ghost use Rattle.refusals.specs.Results.{said};

@@ -68,7 +68,17 @@ unpaired = refl
 
 -- 999 roots, no nodes, and work for two spans
 abbrev lent : Lent
-lent = record { blocks = 2997; root_links = 999; root_values = 999; upper_links = 0; upper_values = 0; lower_links = 0; lower_values = 0; leaf_values = 0; work = 8 }
+lent = record {
+  blocks = 2997;
+  root_links = 999;
+  root_values = 999;
+  upper_links = 0;
+  upper_values = 0;
+  lower_links = 0;
+  lower_values = 0;
+  leaf_values = 0;
+  work = 8;
+}
 
 -- the sample with -0.5 in its tile
 abbrev cold : List ℕ

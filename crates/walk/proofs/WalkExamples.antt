@@ -53,7 +53,10 @@ abbrev hollow : Box
 hollow = between (pos 9) (pos 0) (pos 0) (pos 8) (pos 7) (pos 7)
 
 hollow_read : (roots_read shared_grid hollow ≡ 0) × (leaves_read shared_grid hollow ≡ 0)
-hollow_read = (empty_steps roots_only shared_grid (zone_of hollow) (inl (omega arith)), empty_steps leaves_only shared_grid (zone_of hollow) (inl (omega arith)))
+hollow_read = (
+  empty_steps roots_only shared_grid (zone_of hollow) (inl (omega arith)),
+  empty_steps leaves_only shared_grid (zone_of hollow) (inl (omega arith)),
+)
 
 -- eight roots that share one upper node, one lower node and one leaf: the cube from (-1, -1, -1) to (0, 0, 0) reads an entry of each node on every path
 shared_read : (roots_read shared_grid (around 2) ≡ 8) × (uppers_read shared_grid (around 2) ≡ 8) × (lowers_read shared_grid (around 2) ≡ 8)

@@ -37,7 +37,8 @@ module _ (t : List ℕ) (i n : ℕ) {r : ℕ} (e : r ≡ (get_or t i 0 + n) % wo
   stays : (j : ℕ) → (j ≡ i → ⊥) → get_or (set t i r) j 0 % word ≡ (get_or t j 0 + 0) % word
   stays j d = omega (arith, other t i r j d)
 
-  leaves_stay : i < 3 → words_of (get_or (set t i r) 3 0) (get_or (set t i r) 4 0) % (word * word) ≡ (words_of (get_or t 3 0) (get_or t 4 0) + 0) % (word * word)
+  leaves_stay : i < 3 → words_of (get_or (set t i r) 3 0) (get_or (set t i r) 4 0) % (word * word)
+      ≡ (words_of (get_or t 3 0) (get_or t 4 0) + 0) % (word * word)
   leaves_stay l =
       (λ k. words_of (other t i r 3 (λ e. omega arith) k) (other t i r 4 (λ e. omega arith) k) % (word * word))
       ∙ ap (λ (k : ℕ). k % (word * word)) (sym (add-zero (words_of (get_or t 3 0) (get_or t 4 0))))

@@ -208,7 +208,8 @@ module _ (v : ℕ) (n : Cells) where
       subst (λ (l : List (List Float)). Has (run (push s t) ts) l) (cond_append b h (accepted n ts) t.figures) (kept_run ts (push s t) _ here)
 
   -- the window that an opening leaves has taken none
-  kept_none : (memory answer : ℕ) → suc v ≤ 16 → memory ≡ suc v * (cell_count n) → answer ≡ cell_count n → Kept [] 0 0 (replicate memory +0) (replicate answer +0)
+  kept_none : (memory answer : ℕ) → suc v ≤ 16 → memory ≡ suc v * (cell_count n) → answer ≡ cell_count n
+      → Kept [] 0 0 (replicate memory +0) (replicate answer +0)
   unfolding ring
   kept_none memory answer high m a = record {
     high = high;

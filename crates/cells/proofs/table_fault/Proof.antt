@@ -39,7 +39,8 @@ returns-2 c =
 returns-3 : tie.Need-returns-else-places-table_length
 returns-3 c =
     let p = c.before in
-    table_next (asked (at-fault p)) (places p) (passed p) (ap (λ (t : Bool). unless t 18) (ne_eqb (places p) _ (λ e. c.if-places-table_length.false (e ∙ sym (long p)))))
+    table_next (asked (at-fault p)) (places p) (passed p)
+    (ap (λ (t : Bool). unless t 18) (ne_eqb (places p) _ (λ e. c.if-places-table_length.false (e ∙ sym (long p)))))
 
 pub table_fault_spec : {M : Type 1} → statement M
 table_fault_spec = tie.close (tie.spec (λ c κs. search rules) returns (λ c κs. search rules) returns-2 returns-3)

@@ -42,7 +42,8 @@ file h = (at-start h).args.file.now
 faulty : (c : Turn) → c.read-s.result.fault ≡ segment_fault (file (at_head c)) (at_head c).loop-at.at
 faulty c = c.read-s.ensures.fault
 
-ended : (c : tie.Else-s-ne0 invariant-loop decreases-loop) → let t = c.before.before in t.read-s.result.end ≡ segment_end (file (at_head t)) (at_head t).loop-at.at
+ended : (c : tie.Else-s-ne0 invariant-loop decreases-loop) → let t = c.before.before in
+    t.read-s.result.end ≡ segment_end (file (at_head t)) (at_head t).loop-at.at
 ended c = c.before.before.read-s.ensures.end c.if-s-ne0.false
 
 -- past the last segment

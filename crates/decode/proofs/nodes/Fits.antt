@@ -138,7 +138,8 @@ abbrev pub room_of : ℕ → Tabs → ℕ
 room_of level t = room_in level (length t.upper_links) (length t.lower_links)
 
 -- a node that has a place has one for each of its entries
-pub room_of_lem : (level : ℕ) (t : Tabs) {k base : ℕ} → 0 < level → k < places_of level t → base ≡ k * entries_of level → base + entries_of level ≤ room_of level t
+pub room_of_lem : (level : ℕ) (t : Tabs) {k base : ℕ} → 0 < level → k < places_of level t → base ≡ k * entries_of level
+    → base + entries_of level ≤ room_of level t
 room_of_lem zero t p h e = absurd (omega arith)
 room_of_lem (suc zero) t p h e = omega arith
 room_of_lem (suc (suc n)) t p h e = omega arith

@@ -55,9 +55,9 @@ returns-3 c =
     let h = at_high (at_b c) in
     let d = at_low h in
     let lo = seen c.greater-lo.result (search rules) ∙ c.greater-lo.ensures
-        ∙ (λ i. max_z (seen c.in-At.a (search rules) i) (seen c.args.l.index_low (search rules) i)) in
+    ∙ (λ i. max_z (seen c.in-At.a (search rules) i) (seen c.args.l.index_low (search rules) i)) in
     let hi = seen c.lesser-hi.result (search rules) ∙ c.lesser-hi.ensures
-        ∙ (λ i. min_z (seen c.in-At-first_high.b (search rules) i) (seen c.args.l.index_high (search rules) i)) in
+    ∙ (λ i. min_z (seen c.in-At-first_high.b (search rules) i) (seen c.args.l.index_high (search rules) i)) in
     (λ i. ok (record { lo = lo i; hi = hi i }))
     ∙ first_taken (line d) (start d).args.p (start d).args.q (case (low d) h.in-At.is) (case (high h) c.in-At-first_high.is)
 

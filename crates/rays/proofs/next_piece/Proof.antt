@@ -190,7 +190,8 @@ returns-5 : tie.Need-returns-then-sound
 returns-5 c =
     let a = at-z c in
     let other = c.before.before in
-    let e = axis_z (axis_in (state a)) (λ q. other.before.if-axis-eq0.false (a.axis_of-axis.ensures ∙ q)) (λ q. other.if-axis-eq1.false (a.axis_of-axis.ensures ∙ q)) in
+    let e = axis_z (axis_in (state a)) (λ q. other.before.if-axis-eq0.false (a.axis_of-axis.ensures ∙ q))
+    (λ q. other.if-axis-eq1.false (a.axis_of-axis.ensures ∙ q)) in
     c.stepped-then-sound.ensures ∙ ap (along_z_lem (state a) (got a)) c.before.advanced-then-sound.ensures ∙ finish a z_axis e
 
 returns-6 : tie.Need-returns

@@ -27,7 +27,8 @@ built-out c =
     let m = b.before.before in
     let t = m.before in
     let e = t.before in
-    build_taken e.before.if-medium-ne18.false e.if-corners-ne6.false t.if-cells-ne3.false m.medium_from.ensures b.build_majorant.ensures.0 b.build_majorant.ensures.1
+    build_taken e.before.if-medium-ne18.false e.if-corners-ne6.false t.if-cells-ne3.false m.medium_from.ensures
+    b.build_majorant.ensures.0 b.build_majorant.ensures.1
 
 pub smokegrid_build_majorant_spec : {M : Type 1} → statement M
 smokegrid_build_majorant_spec =

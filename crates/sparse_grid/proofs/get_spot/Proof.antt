@@ -71,4 +71,5 @@ returns-2 c = λ leaves d s.
     (root ∙ ap (λ (b : Coord). root_from g.blocks (length g.root_links) 0 b) (ap block_of (same a) ∙ sym (block_same s))) refl)
 
 pub get_spot_spec : {M : Type 1} → statement M
-get_spot_spec = tie.close (tie.spec (λ c κs. search rules) (λ c κs. pos_of_ne-zero c.if-fault-ne0.true) returns (λ c κs. search rules) root-spot-requires returns-2)
+get_spot_spec = tie.close
+    (tie.spec (λ c κs. search rules) (λ c κs. pos_of_ne-zero c.if-fault-ne0.true) returns (λ c κs. search rules) root-spot-requires returns-2)

@@ -53,7 +53,8 @@ returns : tie.Need-returns-then-not-entry_passes invariant-loop decreases-loop
 returns c =
     let t = c.before in
     record {
-      fault = row_stops (passes t) (number t) (at_head t).loop-i.invariant.2 (count (file t) (segment t)) (search rules) (tested t ∙ c.if-not-entry_passes.true);
+      fault = row_stops (passes t) (number t) (at_head t).loop-i.invariant.2 (count (file t) (segment t)) (search rules)
+          (tested t ∙ c.if-not-entry_passes.true);
       end = λ e. absurd (omega arith);
     }
 

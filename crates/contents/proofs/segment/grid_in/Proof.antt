@@ -54,7 +54,8 @@ add-entry c = let a = c.before.args in omega (arith, header_inside a.file.now a.
 loop-holds : tie.Need-loop-i-init invariant-loop decreases-loop
 loop-holds c = (omega arith, sym (entry_first _ _), c.before.requires.1)
 
-sized : (c : tie.After-size_at-at invariant-loop decreases-loop) → let h = c.before.before in c.size_at-at.result ≡ size (file h) (entry_at (file h) (segment h) (number h))
+sized : (c : tie.After-size_at-at invariant-loop decreases-loop) → let h = c.before.before in
+    c.size_at-at.result ≡ size (file h) (entry_at (file h) (segment h) (number h))
 sized c = let h = c.before.before in c.size_at-at.ensures ∙ ap (size (file h)) h.loop-i.invariant.1
 
 add_at : tie.Need-overflow_add-at invariant-loop decreases-loop

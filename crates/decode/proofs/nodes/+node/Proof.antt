@@ -252,7 +252,7 @@ module _ (t : ℕ) where
 
   -- the ways out: a leaf, all slots read, the refusal of a target, and that of a child
   returns-3 : At lts.Need-returns-then-level-eq0
-  returns-3 c = let z = c.before.before.before.before in out-leaf (new (leaf_new z)) z.if-level-eq0.true c.leaf.ensures
+  returns-3 c = let l = c.before.before in let z = l.before.before in out-leaf (new (leaf_new z)) z.if-level-eq0.true c.leaf.ensures
 
   returns-4 : At lts.Need-returns-then-j-o
   returns-4 c = let r = end-run c in out-ends (internal (run-loop r)) (run r) c.if-j-o.true

@@ -59,7 +59,8 @@ abbrev roots-after : tie.After-tile invariant-loop decreases-loop → RootTabs
 roots-after c = let n = c.tile.new in root_tabs n.blocks n.rl n.rv
 
 -- ---- what is known there
-tile-keeps : (c : tie.After-tile invariant-loop decreases-loop) → let l = (turn c).before in Kept (all_tables (nodes l) (roots l)) (all_tables (nodes-after c) (roots-after c))
+tile-keeps : (c : tie.After-tile invariant-loop decreases-loop) → let l = (turn c).before in
+    Kept (all_tables (nodes l) (roots l)) (all_tables (nodes-after c) (roots-after c))
 tile-keeps c =
     let n = c.tile.auto in
     record {
@@ -74,7 +75,8 @@ tile-keeps c =
       work = n.work;
     }
 
-keeps : (c : tie.In-Stop invariant-loop decreases-loop) → let p = at-refusal c in Kept (lent (start (turn p).before)) (all_tables (nodes-after p) (roots-after p))
+keeps : (c : tie.In-Stop invariant-loop decreases-loop) → let p = at-refusal c in
+    Kept (lent (start (turn p).before)) (all_tables (nodes-after p) (roots-after p))
 keeps c = let p = at-refusal c in kept_on (turn p).before.loop-i.invariant.kept (tile-keeps p)
 
 -- ---- the call and the loop

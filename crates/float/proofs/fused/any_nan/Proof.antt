@@ -11,7 +11,8 @@ rest c = nan_bits binary32 c.before.args.b || nan_bits binary32 c.before.args.c
 past-a : (c : tie.After-is_nan) (t : Bool) → c.is_nan.result ≡ t → (nan_bits binary32 c.before.args.a || rest c) ≡ (t || rest c)
 past-a c t e = ap (λ (x : Bool). x || rest c) (sym c.is_nan.ensures ∙ e)
 
-past-b : (c : tie.After-is_nan-else-is_nan) (t : Bool) → c.is_nan-else-is_nan.result ≡ t → rest c.before.before ≡ (t || nan_bits binary32 c.before.before.before.args.c)
+past-b : (c : tie.After-is_nan-else-is_nan) (t : Bool) → c.is_nan-else-is_nan.result ≡ t
+    → rest c.before.before ≡ (t || nan_bits binary32 c.before.before.before.args.c)
 past-b c t e = ap (λ (x : Bool). x || nan_bits binary32 c.before.before.before.args.c) (sym c.is_nan-else-is_nan.ensures ∙ e)
 
 returns-2 : tie.Need-returns-then-is_nan-2

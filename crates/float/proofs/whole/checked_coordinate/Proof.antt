@@ -26,7 +26,8 @@ whole c =
 cast-t8 : tie.Need-overflow_cast-result
 cast-t8 c =
     let v = c.before.before.before.args.v in
-    subst (λ (z : ℤ). SFits w32 (to_z w64 (of_z w64 z))) (sym (whole c)) (subst (λ (z : ℤ). SFits w32 z) (sym (back-64 v)) (record { sfits = to_signed_in 31 v }))
+    subst (λ (z : ℤ). SFits w32 (to_z w64 (of_z w64 z))) (sym (whole c))
+    (subst (λ (z : ℤ). SFits w32 z) (sym (back-64 v)) (record { sfits = to_signed_in 31 v }))
 
 returns : tie.Need-returns-then-v-2
 unfolding of_bits neg

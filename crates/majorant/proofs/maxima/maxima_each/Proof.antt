@@ -9,12 +9,14 @@ use Rattle.majorant.proofs.maxima.maxima_each.Statement.{statement}
 use Rattle.majorant.proofs.maxima.maxima_each.Tie as tie
 
 abbrev invariant-loop : tie.invariant-loop-i
-invariant-loop background blocks root-links root-values upper-links upper-values lower-links lower-values leaf-values boxes maxima₀ greatest₀ i₀ maxima greatest i =
+invariant-loop background blocks root-links root-values upper-links upper-values lower-links lower-values leaf-values boxes maxima₀ greatest₀ i₀
+    maxima greatest i =
     let g = grid_of background blocks root-links root-values upper-links upper-values lower-links lower-values leaf-values in
     (i ≤ length maxima₀) × (length maxima ≡ length maxima₀) × Listed (box_maximum (read_in g)) boxes maxima greatest i
 
 abbrev decreases-loop : tie.decreases-loop-i
-decreases-loop background blocks root-links root-values upper-links upper-values lower-links lower-values leaf-values boxes maxima₀ greatest₀ i₀ maxima greatest i =
+decreases-loop background blocks root-links root-values upper-links upper-values lower-links lower-values leaf-values boxes maxima₀ greatest₀ i₀
+    maxima greatest i =
     length maxima₀ - i
 
 -- ---- places on the way to a place, and the maximum of a box of the call's grid
@@ -46,7 +48,8 @@ loop-again c =
     let t = p.loop-i.maxima in (
       omega (arith, p.loop-i.invariant.1, c.before.before.loop-i-test.true),
       length-set t p.loop-i.i c.before.maximum_at-maximum.result ∙ p.loop-i.invariant.1,
-      one_more (maximum s) s.args.boxes.now c.before.before.loop-i-test.true p.loop-i.invariant.2 c.before.maximum_at-maximum.ensures c.greater-greatest.ensures,
+      one_more (maximum s) s.args.boxes.now c.before.before.loop-i-test.true p.loop-i.invariant.2
+          c.before.maximum_at-maximum.ensures c.greater-greatest.ensures,
     )
 
 returns : tie.Need-returns invariant-loop decreases-loop

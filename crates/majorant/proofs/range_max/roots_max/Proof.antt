@@ -11,13 +11,15 @@ use Rattle.majorant.proofs.range_max.roots_max.Statement.{statement}
 use Rattle.majorant.proofs.range_max.roots_max.Tie as tie
 
 abbrev invariant-loop : tie.invariant-loop-i
-invariant-loop background blocks root-links root-values upper-links upper-values lower-links lower-values leaves x y z counting counts₀ covered₀ i₀ counts covered i =
+invariant-loop background blocks root-links root-values upper-links upper-values lower-links lower-values leaves x y z counting counts₀ covered₀ i₀
+    counts covered i =
     let g = grid_of background blocks root-links root-values upper-links upper-values lower-links lower-values leaves in
     (i ≤ length root-links) × CoveredIn g i x y z covered.maximum covered.blocks
     × CountedTo g (zone_in x y z) i covered.blocks counting counts₀ counts
 
 abbrev decreases-loop : tie.decreases-loop-i
-decreases-loop background blocks root-links root-values upper-links upper-values lower-links lower-values leaves x y z counting counts₀ covered₀ i₀ counts covered i =
+decreases-loop background blocks root-links root-values upper-links upper-values lower-links lower-values leaves x y z counting counts₀ covered₀ i₀
+    counts covered i =
     length root-links - i
 
 -- places
@@ -82,7 +84,11 @@ cover-requires c κs =
     (b.requires.0, t.loop-i-test.true, b.requires.1, t.before.loop-i.invariant.1)
 
 loop-again : tie.Need-loop-i-preserved invariant-loop decreases-loop
-loop-again c = (omega arith, c.cover-covered.ensures.0, counted_next c.before.before.before.loop-i.invariant.2 c.cover-covered.ensures.1 c.cover-covered.ensures.2)
+loop-again c = (
+  omega arith,
+  c.cover-covered.ensures.0,
+  counted_next c.before.before.before.loop-i.invariant.2 c.cover-covered.ensures.1 c.cover-covered.ensures.2,
+)
 
 mul-total : tie.Need-overflow_mul-total invariant-loop decreases-loop
 mul-total c = record { fits = let h = mul-le-mul c.before.blocks_along-2.ensures.1 c.blocks_along-3.ensures.1 in omega arith }

@@ -10,7 +10,8 @@ returns-then-n-lt10 c =
 
 pub returns-then-n-lt100 : goal.returns-then-n-lt100
 returns-then-n-lt100 c =
-    (same_text (wrote c.put_byte-one-then-n-lt100.ensures then wrote c.put_decimal-then-n-lt100.ensures) (place_two c.args.n c.if-n-lt10.false c.if-n-lt100.true)).is
+    (same_text (wrote c.put_byte-one-then-n-lt100.ensures then wrote c.put_decimal-then-n-lt100.ensures)
+    (place_two c.args.n c.if-n-lt10.false c.if-n-lt100.true)).is
 
 pub returns : goal.returns
 returns c = (same_text (wrote c.put_decimal-2.ensures) (place_three c.args.n c.if-n-lt10.false c.if-n-lt100.false)).is

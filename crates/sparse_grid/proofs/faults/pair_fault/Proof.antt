@@ -14,7 +14,11 @@ returns-2 c = simp (eq-eqb _ _ c.before.if-root_links-root_values.false, ne_eqb 
 
 returns-3 : tie.Need-returns-then-upper_links-upper_values
 unfolding pair_fault
-returns-3 c = simp (eq-eqb _ _ c.before.before.if-root_links-root_values.false, eq-eqb _ _ c.before.if-blocks-root_links.false, ne_eqb _ _ c.if-upper_links-upper_values.true)
+returns-3 c = simp (
+  eq-eqb _ _ c.before.before.if-root_links-root_values.false,
+  eq-eqb _ _ c.before.if-blocks-root_links.false,
+  ne_eqb _ _ c.if-upper_links-upper_values.true,
+)
 
 returns-4 : tie.Need-returns-then-lower_links-lower_values
 unfolding pair_fault

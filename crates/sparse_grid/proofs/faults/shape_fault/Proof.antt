@@ -8,7 +8,8 @@ use Rattle.sparse_grid.proofs.faults.shape_fault.Tie as tie
 whole : (c : tie.Else-leaf_values-ne0)
     → let a = c.before.before.before.args in
     (eqb (length a.upper_links.now % 32768) 0 && eqb (length a.lower_links.now % 4096) 0 && eqb (length a.leaf_values.now % 512) 0) ≡ true
-whole c = λ k. eq-eqb _ _ c.before.before.if-upper_links-ne0.false k && eq-eqb _ _ c.before.if-lower_links-ne0.false k && eq-eqb _ _ c.if-leaf_values-ne0.false k
+whole c = λ k. eq-eqb _ _ c.before.before.if-upper_links-ne0.false k && eq-eqb _ _ c.before.if-lower_links-ne0.false k
+    && eq-eqb _ _ c.if-leaf_values-ne0.false k
 
 returns : tie.Need-returns-then-upper_links-ne0
 unfolding shape_fault
@@ -34,7 +35,12 @@ returns-6 : tie.Need-returns-then-lower_links-ge-LIMIT
 unfolding shape_fault
 returns-6 c =
     let p = c.before.before in
-    simp (whole p.before, lt-ltb _ (2 ^ 32) p.if-root_links-ge-LIMIT.false, lt-ltb _ (2 ^ 32) c.before.if-upper_links-ge-LIMIT.false, le-ltb _ (2 ^ 32) c.if-lower_links-ge-LIMIT.true)
+    simp (
+      whole p.before,
+      lt-ltb _ (2 ^ 32) p.if-root_links-ge-LIMIT.false,
+      lt-ltb _ (2 ^ 32) c.before.if-upper_links-ge-LIMIT.false,
+      le-ltb _ (2 ^ 32) c.if-lower_links-ge-LIMIT.true,
+    )
 
 returns-7 : tie.Need-returns-then-leaf_values-ge-LIMIT
 unfolding shape_fault
