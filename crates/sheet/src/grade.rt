@@ -5,7 +5,7 @@ ghost use Rattle.std.specs.Float.Ieee.Scale.{finite};
 ghost use Rattle.sheet.specs.Grades.{units_of, grade as grade_of, mark as mark_of};
 
 // digits × 2^place.
-#[derive(Drop)]
+#[derive(Clone, Copy)]
 pub struct Scaled {
     pub digits: u64,
     pub place: u64,

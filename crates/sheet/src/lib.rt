@@ -19,7 +19,7 @@ use figures::{figures_fault, greater};
 use refusals::{LAYER, NO_PLACE};
 
 // The number of a refusal, or 0, and how many bytes were written.
-#[derive(Drop)]
+#[derive(Clone, Copy)]
 pub struct Printed {
     pub number: u32,
     pub written: u64,

@@ -28,7 +28,7 @@ pub struct Window {
 }
 
 // The number of a refusal, or 0, and the window.
-#[derive(Drop)]
+#[derive(Clone, Copy)]
 pub struct Pushed {
     pub number: u32,
     pub window: Window,
