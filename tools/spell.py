@@ -1,7 +1,7 @@
 #!/usr/bin/env python3
 """Spells the repository's own definitions and lemmas as today's library spells its own: words in snake case, types and modules in camel case.
 
-usage: python3 tools/spell.py [--list]     at the top of the repository, once, after /opt/rattle/port/port.py
+usage: python3 tools/spell.py [--list]     at the top of the repository, once, after the kit's port.py
 
 A name is the repository's own if a file of specs/ or a lemma file of proofs/ declares it: a definition, a lemma, a field, a constructor, or what a
 `where` or a `let` names. Names that a library exports stay in the files that import them from it. Functions of src/, exported names and strings stay.
