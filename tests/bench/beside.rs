@@ -1,9 +1,11 @@
 //! `beside`: the library beside another one with the same interface, in one process and by turns, as a table in Markdown.
 
+mod asked;
 mod grids;
 #[allow(dead_code)] // the best of several ways is bench.rs's
 mod timing;
 
+use asked::asked;
 use std::hint::black_box;
 use std::process::exit;
 use timing::{agree, seconds, timed, Way, ROUND};
@@ -14,15 +16,9 @@ const SIDES: [i32; 7] = [1, 2, 3, 4, 8, 16, 64];
 const CELLS: [[u32; 3]; 3] = [[64, 64, 64], [32, 32, 32], [128, 128, 64]];
 
 fn main() {
-    let words: Vec<String> = std::env::args().skip(1).collect();
-    let Some((rounds, names)) =
-        words.split_first().and_then(|(n, names)| Some((n.parse().ok()?, names)))
-    else {
-        eprintln!("usage: beside ROUNDS GRID...");
-        exit(2)
-    };
+    let (rounds, names) = asked("beside");
     println!("| grid | job | other | ours | other / ours, median of {rounds} turns (quarter, three quarters) |\n|---|---|---|---|---|");
-    for name in names {
+    for name in &names {
         measure(name, rounds);
     }
 }

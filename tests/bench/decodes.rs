@@ -1,6 +1,7 @@
 //! `decodes`: the decode of the library beside another one's, in one process and by turns into the same tables, which have been used before,
 //! with the machine's copy of the same bytes; as a table in Markdown.
 
+mod asked;
 mod grids;
 #[path = "../../rust/smokegrid/src/tables.rs"]
 #[allow(dead_code)] // of the crate's tables, what lends them
@@ -8,21 +9,16 @@ mod tables;
 #[allow(dead_code)] // the best of several ways is bench.rs's
 mod timing;
 
+use asked::asked;
 use std::hint::black_box;
 use std::process::exit;
 use tables::{Places, Tables};
 use timing::{seconds, timed, ROUND};
 
 fn main() {
-    let words: Vec<String> = std::env::args().skip(1).collect();
-    let Some((rounds, names)) =
-        words.split_first().and_then(|(n, names)| Some((n.parse().ok()?, names)))
-    else {
-        eprintln!("usage: decodes ROUNDS GRID...");
-        exit(2)
-    };
+    let (rounds, names) = asked("decodes");
     println!("| grid | | other | ours | other / ours | copy | ours / copy |\n|---|---|---|---|---|---|---|");
-    for name in names {
+    for name in &names {
         measure(name, rounds);
     }
 }
