@@ -7,7 +7,8 @@ use Rattle.refusals.specs.Faults.{◌then◌, unless}
 use Rattle.refusals.specs.FaultLaws.{then_zero}
 use Rattle.float.specs.Zero.{+0}
 use Rattle.window.specs.Window.{Table, State, push_fault, pushed, push, open_fault, opened}
-use Rattle.window.proofs.Runs.{run, last_answer, runs}
+use Rattle.window.specs.Runs.{run, last_answer}
+use Rattle.window.proofs.Runs.{runs}
 use Rattle.smokegrid.specs.FlatTables.{WindowArrays, window_arrays, arrays_of, table_from, size_fault, open_flat, opened_flat, push_flat, pushed_flat}
 
 -- what one push is handed

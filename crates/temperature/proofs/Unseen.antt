@@ -17,18 +17,7 @@ use Rattle.mix.specs.Density.{density_at, density_by, mix_between}
 use Rattle.boxes.specs.Boxes.{Box, box_maximum}
 use Rattle.majorant.specs.Figures.{box_of, figure, figures}
 use Rattle.majorant.specs.Build.{build, build_into}
-
--- a record without its temperature: what is made of its other fields
-abbrev pub bare : Medium → Medium
-bare m = make_medium m.low m.high m.index_low m.index_high m.map m.translation m.cells
-
--- a function of a record's other fields
-abbrev pub OfTheRest : {A : Type 0} → (Medium → A) → Type 0
-OfTheRest f = (m : Medium) → f m ≡ f (bare m)
-
--- two records that differ in temperature only
-abbrev pub ButTemperature : Medium → Medium → Type 0
-ButTemperature m n = bare m ≡ bare n
+use Rattle.temperature.specs.Unseen.{bare, OfTheRest, ButTemperature}
 
 -- such a function does not tell them apart
 pub unseen : {A : Type 0} (f : Medium → A) → OfTheRest f → (m n : Medium) → ButTemperature m n → f m ≡ f n

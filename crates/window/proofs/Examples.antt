@@ -6,7 +6,7 @@ use Rattle.float.specs.Zero.{+0}
 use Rattle.cells.specs.Cells.{cells}
 use Rattle.window.specs.Tables.{raised_by}
 use Rattle.window.specs.Window.{Table, window_of, state_of, table_of, fault_of, push, open_fault, opened}
-use Rattle.window.proofs.Runs.{run, accepted, last_answer}
+use Rattle.window.specs.Runs.{run, accepted, last_answer}
 
 abbrev half : Float
 half = fin false 1 (negsuc 0)

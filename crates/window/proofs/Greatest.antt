@@ -12,7 +12,8 @@ use Rattle.figures.specs.Figures.{greater, figures_fault}
 use Rattle.window.specs.Tables.{raised, raised_by, answer_of, last_of}
 use Rattle.window.specs.Window.{Table, same_cells, open_fault, opened}
 use Rattle.window.proofs.FaultLaws.{same_cells_lem}
-use Rattle.window.proofs.Runs.{run, own_fault, accepted, runs}
+use Rattle.window.specs.Runs.{run, own_fault, accepted}
+use Rattle.window.proofs.Runs.{runs}
 use Rattle.window.proofs.TableLaws.{raised_by_length}
 
 -- the figure of cell i in table k

@@ -20,36 +20,10 @@ use Rattle.figures.proofs.Parts.{place_in}
 use Rattle.window.specs.Tables.{answer_of, last_of}
 use Rattle.window.specs.Window.{Table, State, window_of, state_of, after, stored, ring, width_in, same_cells}
 use Rattle.window.specs.Window.{fault_of, push_fault, pushed, push, open_fault, opened, shut}
+use Rattle.window.specs.Runs.{run, own_fault, accepted, last_answer}
 use Rattle.window.proofs.TableLaws.{raised_by_length, raised_by_none, stored_length}
 use Rattle.window.proofs.RingLaws.{after_in, ring_rest, ring_more, last_more, last_rest, last_short}
 use Rattle.window.proofs.FaultLaws.{same_cells_lem, taken, open_told}
-
--- ---- what the law says
-
--- what a run of pushes leaves
-unfoldable pub run : State → List Table → State
-unfolding push
-run s [] = s
-run s (t ∷ ts) = run (push s t) ts
-
--- the fault of a table before a window over the cells n, whatever it holds
-unfoldable pub own_fault : Cells → Table → ℕ
-unfolding cells_fault figures_fault
-own_fault n t =
-    cells_fault t.cells
-    then unless (same_cells t.cells n) 26
-    then unless (eqb (length t.figures) (cell_count t.cells)) 18
-    then figures_fault t.figures
-
--- the figures of the tables that have none, in their order
-unfoldable pub accepted : Cells → List Table → List (List Float)
-unfolding own_fault
-accepted n [] = []
-accepted n (t ∷ ts) = cond (eqb (own_fault n t) 0) (t.figures ∷ accepted n ts) (accepted n ts)
-
--- the answer after a run, over the accepted tables alone
-abbrev pub last_answer : ℕ → Cells → List Table → List Float
-last_answer w n ts = answer_of (cell_count n) (last_of w (accepted n ts))
 
 -- ---- what holds along a run, over w = suc v places
 
