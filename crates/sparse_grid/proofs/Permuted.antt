@@ -13,7 +13,8 @@ use Rattle.sparse_grid.specs.Lookup.{Found, lookup}
 use Rattle.sparse_grid.specs.Count.{split_eq}
 use Rattle.sparse_grid.specs.Sound.{Paired, pairs, sound}
 use Rattle.sparse_grid.specs.Roots.{RootRecord, blocks_of, links_of, values_of, with_roots, rooted, record_at, records_from, records_of, Reordered}
-use Rattle.sparse_grid.proofs.Reorder.{Moved, moved_valid, moved_lookup}
+use Rattle.sparse_grid.specs.Reorder.{Moved}
+use Rattle.sparse_grid.proofs.Reorder.{moved_valid, moved_lookup}
 
 -- ---- where a permutation moves the records
 

@@ -8,4 +8,5 @@ pub mod Biased
 pub mod BiasedLaws
 pub mod Sound
 pub mod Roots
+pub mod Reorder
 pub mod Inner
