@@ -2,7 +2,8 @@
 use Rattle.std.specs.Prelude.{◌≡◌, [], ◌∷◌, ◌^◌, pos, negsuc}
 use Rattle.refusals.specs.Results.{ok, refused, number_of}
 use Rattle.float.specs.Zero.{+0}
-use Rattle.float.proofs.Examples.{mul_add, narrowed, low, fused_once, narrow_tie, low_half, low_least, low_tiny}
+use Rattle.float.specs.Examples.{mul_add, narrowed, low}
+use Rattle.float.proofs.Examples.{fused_once, narrow_tie, low_half, low_least, low_tiny}
 use Rattle.layout.specs.Coordinates.{block_of}
 use Rattle.layout.proofs.Sample.{field, sample_with}
 use Rattle.sparse_grid.specs.declared.Entry.{Entry}

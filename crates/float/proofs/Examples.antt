@@ -1,17 +1,12 @@
 -- Worked examples and edges, by computation.
-use Rattle.std.specs.Prelude.{◌≡◌, ℕ, true, false, ℤ, pos, negsuc, refl}
+use Rattle.std.specs.Prelude.{◌≡◌, true, false, pos, negsuc, refl}
 use Rattle.std.specs.Float.{nan, fin, binary32, binary64}
 use Rattle.std.specs.Float.Ieee.{of_bits, to_bits, of_int, sum, round, add, sub, mul, le, to_signed}
-use Rattle.refusals.specs.Results.{Result, ok, refused}
+use Rattle.refusals.specs.Results.{ok, refused}
 use Rattle.float.specs.Fused.{plus, fma, narrow, trunc, floor}
 use Rattle.float.specs.Coordinate.{coordinate}
 use Rattle.float.specs.Saturated.{saturated}
-
-abbrev pub mul_add : ℕ → ℕ → ℕ → ℕ
-mul_add a b c = to_bits binary32 (fma binary32 (of_bits binary32 a) (of_bits binary32 b) (of_bits binary32 c))
-
-abbrev pub narrowed : ℕ → ℕ
-narrowed b = to_bits binary32 (narrow (of_bits binary64 b))
+use Rattle.float.specs.Examples.{mul_add, narrowed, low}
 
 -- ---- mul_add is rounded once: two roundings give 0
 pub fused_once : mul_add 0x3f80_0001 0x3f80_0001 0xbf80_0002 ≡ 0x2880_0000
@@ -63,11 +58,7 @@ floor_half : floor binary64 (fin true 1 (negsuc 0)) ≡ fin true 1 (pos 0)
 unfolding floor round
 floor_half = refl
 
--- ---- the low end of the first box: less 1 in f64, truncated, as an i32
-abbrev pub low : ℕ → Result ℤ
-low b = coordinate (trunc binary64 (sub binary64 (of_bits binary32 b) (of_int binary64 (pos 1))))
-
--- 0.5 gives 0, and -2147483648 is refused
+-- ---- the low end of the first box: 0.5 gives 0, and -2147483648 is refused
 pub low_half : low 0x3f00_0000 ≡ ok (pos 0)
 unfolding coordinate trunc floor sub of_bits of_int le to_signed
 low_half = refl

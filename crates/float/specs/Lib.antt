@@ -7,5 +7,7 @@ pub mod Answers
 pub mod Integer
 pub mod Fields
 pub mod Units
+-- What the worked examples of proofs/Examples speak of.
+pub mod Examples
 -- Definitions that only contracts within the crate cite.
 pub mod Shifts
