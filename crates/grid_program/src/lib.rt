@@ -6,12 +6,14 @@ ghost use Rattle.std.specs.Prelude.{◌≡◌, ◌≤◌, length, take, OnOk, If
 ghost use Rattle.std.specs.Io.KnownBytes.{Appends};
 ghost use Rattle.grid_program.specs.Texts.{text_of};
 
-use std::alloc::Global;
+mod input;
+
+use input::read_full;
 use std::io;
 use std::io::{Read, Write};
 
 // How many bytes of an input are read.
-const READ: u64 = 32769;
+const READ: usize = 32769;
 
 // Either text of the bytes, at the front of `out`.
 fn put_text(bytes: &[u8], out: &mut [u8; 65536], classes: bool) -> usize
@@ -26,22 +28,21 @@ fn put_text(bytes: &[u8], out: &mut [u8; 65536], classes: bool) -> usize
 
 // Writes either text of a grid that is read to its end.
 pub fn write_text<R: Read + Drop, W: Write>(
-    input: R,
+    mut input: R,
     output: &mut W,
-    alloc: Global,
     classes: bool,
 ) -> io::Result<()>
     ensures { OnOk result (IfSome (R.remaining input)
         (λ bytes. Appends (W.contents output.old) (W.contents output.new) (text_of classes bytes))) }
 {
-    let mut bytes = Vec::new(alloc);
-    input.take(READ).read_to_end(&mut bytes)?;
+    let mut bytes = [0u8; READ];
+    let read = read_full(&mut input, &mut bytes)?;
     let mut out = [0u8; 65536];
-    let n = put_text(&bytes, &mut out, classes);
+    let n = put_text(&bytes[..read], &mut out, classes);
     output.write_all(&out[..n])
 }
 
 // Prints the report of the grid on standard input, or its classes.
-pub fn print(rt: &(impl Input + Print), alloc: Global, classes: bool) -> io::Result<()> {
-    write_text(rt.reader(), &mut io::writer(rt), alloc, classes)
+pub fn print(rt: &(impl Input + Print), classes: bool) -> io::Result<()> {
+    write_text(rt.reader(), &mut io::writer(rt), classes)
 }

@@ -5,5 +5,5 @@
 use std::io;
 
 fn main(rt: HostRuntime) -> io::Result<()> {
-    grid_program::print(&rt, rt.alloc(), true)
+    grid_program::print(&rt, true)
 }

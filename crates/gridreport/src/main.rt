@@ -4,5 +4,5 @@
 use std::io;
 
 fn main(rt: HostRuntime) -> io::Result<()> {
-    grid_program::print(&rt, rt.alloc(), false)
+    grid_program::print(&rt, false)
 }

@@ -1,0 +1,53 @@
+// An input, read into lent bytes: nothing is allocated, so that a read can fail only as the input itself does.
+ghost use Rattle.std.specs.Prelude.{◌≡◌, ◌+◌, ◌<◌, ◌≤◌, length, take, drop, IfOk, IfSome};
+ghost use Rattle.std.specs.Io.{ReadsAtMost};
+ghost use Rattle.std.specs.Io.KnownBytes.{Consumes, IsAtEnd};
+
+use std::io;
+use std::io::{ErrorKind, Read};
+
+// One read, made again where a signal interrupts it.
+fn read_once<R: Read>(input: &mut R, bytes: &mut [u8]) -> io::Result<usize>
+    ensures bound { ReadsAtMost result bytes.new }
+    ensures ok { IfOk result (λ n. Consumes (R.remaining input.old) (R.remaining input.new) (take n bytes.new)) }
+    ensures end { IfOk result (λ n. n ≡ 0 → 0 < length bytes.old → IsAtEnd (R.remaining input.new)) }
+{
+    for _ in 0..u64::MAX {
+        match input.read(bytes) {
+            Ok(n) => return Ok(n),
+            Err(e) => {
+                if e.kind() != ErrorKind::Interrupted {
+                    return Err(e);
+                }
+            }
+        }
+    }
+    input.read(bytes)
+}
+
+// One read behind the first `at` bytes.
+fn read_at<R: Read>(input: &mut R, bytes: &mut [u8], at: usize) -> io::Result<usize>
+    requires { at < length bytes.old }
+    ensures front { take at bytes.new ≡ take at bytes.old }
+    ensures fits { IfOk result (λ n. at + n ≤ length bytes.new) }
+    ensures ok { IfOk result (λ n. Consumes (R.remaining input.old) (R.remaining input.new) (take n (drop at bytes.new))) }
+    ensures end { IfOk result (λ n. n ≡ 0 → IsAtEnd (R.remaining input.new)) }
+{
+    read_once(input, &mut bytes[at..])
+}
+
+// Reads until the bytes are full or the input ends, and says how many it gave.
+pub(crate) fn read_full<R: Read>(input: &mut R, bytes: &mut [u8]) -> io::Result<usize>
+    ensures within { IfOk result (λ n. n ≤ length bytes.new) }
+    ensures front { IfOk result (λ n. IfSome (R.remaining input.old) (λ all. take n bytes.new ≡ take (length bytes.old) all)) }
+{
+    let mut n: usize = 0;
+    while n < bytes.len() {
+        let more = read_at(input, bytes, n)?;
+        if more == 0 {
+            return Ok(n);
+        }
+        n += more;
+    }
+    Ok(n)
+}
