@@ -2,15 +2,16 @@
 // Standard input is read once, to its end. No contract can say what it holds; what is read from the list is what stands there.
 #![tactic(auto)]
 
-ghost use Rattle.std.specs.Prelude.{◌≡◌, ◌*◌, ◌%◌, ◌≤◌, ◌++◌, min, length, take, drop, set, OnOk, IfOk, IfSome};
+ghost use Rattle.std.specs.Prelude.{◌≡◌, ◌*◌, ◌%◌, ◌≤◌, ◌++◌, min, length, take, drop, set, OnOk, IfOk, IfErr, IfSome, ◌≢◌};
 ghost use Rattle.std.specs.Fmt.{decimal};
 ghost use Rattle.std.specs.Io.KnownBytes.{Appends};
+ghost use Rattle.std.specs.IoError.{error_kind};
 ghost use Rattle.layout.specs.Bytes.{u32_at, i32_at, f32_at};
 ghost use Rattle.replay.specs.Filled.{filled};
 
 use std::alloc::Global;
 use std::io;
-use std::io::{Read, Write};
+use std::io::{ErrorKind, Read, Write};
 
 // How many cases a list may have.
 const MOST: u32 = 4096;
@@ -21,9 +22,11 @@ pub struct Listing<'a> {
     pub rest: &'a [u8],
 }
 
-// All bytes of an input.
+// All bytes of an input. A list has no greatest length, so it is held in a `Vec`: where memory is refused, the answer is `OutOfMemory`, and there is
+// no list. The other errors are the input's own; that a signal interrupted a read is none of them.
 pub fn read_list<R: Read + Drop>(mut input: R, alloc: Global) -> io::Result<Vec<u8>>
-    ensures { IfOk result (λ list. IfSome (R.remaining input) (λ bytes. list.items ≡ bytes)) }
+    ensures list { IfOk result (λ list. IfSome (R.remaining input) (λ bytes. list.items ≡ bytes)) }
+    ensures retried { IfErr result (λ e. error_kind e ≢ ErrorKind.Interrupted) }
 {
     let mut bytes = Vec::new(alloc);
     input.read_to_end(&mut bytes)?;
