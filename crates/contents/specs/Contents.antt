@@ -9,7 +9,7 @@ unfoldable pub places : ℕ → List ℕ → ℕ → List ℕ
 places zero b at = []
 places (suc bound) b at = cond (leb (length b) at) [] (at ∷ places bound b (segment_end b at))
 
--- all the segments from `at` on: none is empty, so there are no more than bytes (`segments-end` and `segments-step` are free of the bound)
+-- all the segments from `at` on: none is empty, so there are no more than bytes (`segments_end` and `segments_step` are free of the bound)
 abbrev pub segments_from : List ℕ → ℕ → List ℕ
 segments_from b at = places (length b - at) b at
 

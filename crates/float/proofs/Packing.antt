@@ -1,4 +1,4 @@
--- What `round` makes of a number n * 2 ^ e over 2 ^ c, as a bit pattern: `round-bits`. n's highest digit stands at bit b.
+-- What `round` makes of a number n * 2 ^ e over 2 ^ c, as a bit pattern: `round_bits`. n's highest digit stands at bit b.
 use Rattle.std.proofs.Common.{◌≡◌, ℕ, suc, ◌+◌, ◌-◌, ◌*◌, ◌/◌, ◌%◌, ◌^◌, ◌<◌, ◌≤◌, min, Bool, true, false, cond, not, T, ltb, sym, refl, ap, ◌∙◌, subst, inl, inr, le_trans, le_of_eq, le_refl, lt_of_lt_of_le, le_of_suc-le-suc, lt_of_le_of_lt, add_assoc, lt_irrefl, mul-le-mul_right, mul_assoc, suc-mul, div-lt_iff_lt-mul, add-mul, eq-zero-or-pos, le_antisymm, eq-or-lt_of_le, mul-pos, one-mul, lt_of_not-le, le-div_iff_mul-le, mul-one, not-le_of_lt, le_of_mul-le-mul_right, div-one, mul-div_cancel, arith, ltb→lt, nltb→le, pow_pos, pow_mono, pow-add, shl_lt}
 use Prim.Native.Nat.{compare}
 use native.Mathlib.Nat.{pow-succ', div-div-eq-div-mul}

@@ -1,5 +1,5 @@
 -- Rounding a number with a sticky digit. `Sticky W X E`: W is X / E where E divides X, and otherwise W is odd and X / E lies strictly between W - 1 and W + 1.
--- Where W has two digits more than the format keeps, X and W * E round alike (`sticky-round`).
+-- Where W has two digits more than the format keeps, X and W * E round alike (`sticky_round`).
 use Rattle.std.proofs.Common.{◌≡◌, ℕ, suc, ◌+◌, ◌-◌, ◌*◌, ◌/◌, ◌%◌, ◌^◌, ◌<◌, ◌≤◌, Bool, ltb, ◌⊎◌, sym, refl, ap, ◌∙◌, subst, inl, inr, le_trans, le_of_eq, lt_of_lt_of_le, lt_of_le_of_lt, le_of_lt, add_assoc, mul-le-mul_right, mod-lt, mul_assoc, suc-mul, mul_comm, add-mul, mul-lt-mul_of_pos_right, mul-pos, div-add-mod', mul-add, mul_right_comm, mul_left_comm, le-add_left, arith, ltb→lt, nltb→le, pow_pos, pow-add}
 use Prim.Native.Nat.{compare}
 use native.Mathlib.Nat.{pow-succ'}

@@ -1,5 +1,5 @@
 -- A whole ray at one call: its pieces, where the tables that are lent for their ends and their figures hold them. Where each piece begins is not
--- written: at the end of the one before, and the first at t_min (Theorems.end-to-end).
+-- written: at the end of the one before, and the first at t_min (Theorems.end_to_end).
 use Rattle.std.specs.Prelude.{◌≡◌, ℕ, ◌&&◌, List, [], ◌∷◌, length, nat_le, Float}
 use Rattle.refusals.specs.Results.{Result, ok, number_of, value_or, bind, need}
 use Rattle.float.specs.Zero.{+0}

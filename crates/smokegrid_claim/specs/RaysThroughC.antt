@@ -1,5 +1,5 @@
 -- Rays over what the contracts of the C interface say: an opening that answers 0, and then calls for pieces, each handed the two arrays that the one before
--- left. The state in the arrays is that of `calls`, so every theorem of `rays/specs/Theorems` speaks of what C is told.
+-- left. The state in the arrays is that of `calls`, so every theorem of `rays/proofs/Theorems` speaks of what C is told.
 use Rattle.std.specs.Prelude.{ℕ, zero, suc, ◌≤◌, ◌≡◌, List, ℤ, pos, length, replicate, Float}
 use Rattle.refusals.specs.Results.{ok}
 use Rattle.medium.specs.Medium.{Medium}

@@ -14,6 +14,24 @@ use Rattle.medium.specs.Medium.{Medium, Point, make_medium, each, bounds_fault}
 use Rattle.nanovdb.specs.Decode.{bound_at, cells64, medium_at, medium_of, header_passes, bytes_fault}
 use Rattle.decode.specs.Inner.Halves.{SameWorld, SameFrame}
 
+-- a record of all the fields, each that of the bytes, is their medium
+pub medium_is : (b : List ℕ) (root : ℕ) {l₀ l₁ l₂ h₀ h₁ h₂ m₀ m₁ m₂ m₃ m₄ m₅ m₆ m₇ m₈ t₀ t₁ t₂ : Float} {i₀ i₁ i₂ j₀ j₁ j₂ : ℤ}
+    → l₀ ≡ bound_at b 560 → l₁ ≡ bound_at b 568 → l₂ ≡ bound_at b 576 → h₀ ≡ bound_at b 584 → h₁ ≡ bound_at b 592 → h₂ ≡ bound_at b 600
+    → i₀ ≡ i32_at b root → i₁ ≡ i32_at b (root + 4) → i₂ ≡ i32_at b (root + 8)
+    → j₀ ≡ i32_at b (root + 12) → j₁ ≡ i32_at b (root + 16) → j₂ ≡ i32_at b (root + 20)
+    → m₀ ≡ f32_at b 332 → m₁ ≡ f32_at b 336 → m₂ ≡ f32_at b 340 → m₃ ≡ f32_at b 344 → m₄ ≡ f32_at b 348 → m₅ ≡ f32_at b 352
+    → m₆ ≡ f32_at b 356 → m₇ ≡ f32_at b 360 → m₈ ≡ f32_at b 364
+    → t₀ ≡ f32_at b 368 → t₁ ≡ f32_at b 372 → t₂ ≡ f32_at b 376
+    → make_medium (record { x = l₀; y = l₁; z = l₂ }) (record { x = h₀; y = h₁; z = h₂ })
+    (record { x = i₀; y = i₁; z = i₂ }) (record { x = j₀; y = j₁; z = j₂ })
+    (m₀ ∷ m₁ ∷ m₂ ∷ m₃ ∷ m₄ ∷ m₅ ∷ m₆ ∷ m₇ ∷ m₈ ∷ []) (record { x = t₀; y = t₁; z = t₂ }) cells64
+    ≡ medium_at b root
+unfolding medium_at
+medium_is b root l₀ l₁ l₂ h₀ h₁ h₂ i₀ i₁ i₂ j₀ j₁ j₂ m₀ m₁ m₂ m₃ m₄ m₅ m₆ m₇ m₈ t₀ t₁ t₂ = λ k.
+    make_medium (record { x = l₀ k; y = l₁ k; z = l₂ k }) (record { x = h₀ k; y = h₁ k; z = h₂ k })
+    (record { x = i₀ k; y = i₁ k; z = i₂ k }) (record { x = j₀ k; y = j₁ k; z = j₂ k })
+    (m₀ k ∷ m₁ k ∷ m₂ k ∷ m₃ k ∷ m₄ k ∷ m₅ k ∷ m₆ k ∷ m₇ k ∷ m₈ k ∷ []) (record { x = t₀ k; y = t₁ k; z = t₂ k }) cells64
+
 module _ (b : List ℕ) where
   -- a medium made of the world box's six fields has the world box
   pub world_is : {l₀ l₁ l₂ h₀ h₁ h₂ : Float} {i j : Coord} {p : List Float} {t : Point} {m : Medium}

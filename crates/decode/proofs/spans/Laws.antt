@@ -4,7 +4,7 @@ use mathlib.Core.Logic.{◌⊎◌, inl, inr, ⊎_elim}
 use mathlib.Core.Bool.{Bool, true, false, cond, ◌&&◌, ◌||◌}
 use mathlib.Core.List.{List, [], ◌∷◌, ◌++◌}
 use Prim.Native.Nat.{ℕ, zero, suc, ◌+◌, ◌-◌, ◌*◌, ◌/◌, ◌%◌, ◌<◌, ◌≤◌, ◌^◌}
-use native.Mathlib.Nat.{eq-or-lt_of_le, le-div_iff_mul-le, mul-div-le, mul_comm, div-lt_iff_lt-mul}
+use native.Mathlib.Nat.{eq-or-lt_of_le, le-div_iff_mul-le, mul-div-le, mul_comm, zero-div, div-lt_iff_lt-mul}
 use native.Mathlib.Omega.{arith}
 use lib.ListN.{length}
 use lib.Dec.{ltb, eqb}
@@ -294,6 +294,13 @@ unfolding size
 size_2 zero p n = absurd (p refl)
 size_2 (suc zero) p n = absurd (n refl)
 size_2 (suc (suc l)) p n = refl
+
+-- the quotient where s is less than z, and where it is not
+pub first_0 : (s z : ℕ) → 0 < z → s < z → 0 ≡ (s + 1 - z) / z
+first_0 s z p l = let e : s + 1 - z ≡ 0 = omega arith in rw (e, zero-div z)
+
+pub first_1 : (s z : ℕ) → z ≤ s → (s - z + 1) / z ≡ (s + 1 - z) / z
+first_1 s z l = let e : s - z + 1 ≡ s + 1 - z = omega arith in rw e
 
 module _ (root limit s e : ℕ) where
   pub fixed_header : s < 736 → s < e → true ≡ overlaps (header_span ∷ (root_span root limit ∷ [])) s e

@@ -1,4 +1,4 @@
--- `float::round::pack` meets its contract: the pattern that `round-bits` gives: the exponent's field, the digits rounded, and an infinity's pattern at most.
+-- `float::round::pack` meets its contract: the pattern that `round_bits` gives: the exponent's field, the digits rounded, and an infinity's pattern at most.
 use Rattle.std.proofs.Common.{◌≡◌, ℕ, ◌+◌, ◌-◌, ◌*◌, ◌^◌, ◌≤◌, min, sym, ap, ◌∙◌, arith, rules}
 use lib.Ieee.{binary32}
 use Rattle.float.proofs.Decode.{sign_le}
