@@ -36,7 +36,7 @@ fn read_at<R: Read>(input: &mut R, bytes: &mut [u8], at: usize) -> io::Result<us
     read_once(input, &mut bytes[at..])
 }
 
-// Reads until the bytes are full or the input ends, and says how many it gave.
+// Reads until the bytes are full or the input ends, and says how many bytes the input gave.
 pub(crate) fn read_full<R: Read>(input: &mut R, bytes: &mut [u8]) -> io::Result<usize>
     ensures within { IfOk result (λ n. n ≤ length bytes.new) }
     ensures front { IfOk result (λ n. IfSome (R.remaining input.old) (λ all. take n bytes.new ≡ take (length bytes.old) all)) }

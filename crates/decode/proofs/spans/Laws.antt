@@ -295,7 +295,7 @@ size_2 zero p n = absurd (p refl)
 size_2 (suc zero) p n = absurd (n refl)
 size_2 (suc (suc l)) p n = refl
 
--- the quotient where s is less than z, and where it is not
+-- (s + 1 - z) / z where s is less than z, and where it is not
 pub first_0 : (s z : ℕ) → 0 < z → s < z → 0 ≡ (s + 1 - z) / z
 first_0 s z p l = let e : s + 1 - z ≡ 0 = omega arith in rw (e, zero-div z)
 
