@@ -6,8 +6,6 @@ ghost use Rattle.std.specs.Prelude.{◌≡◌, ◌≤◌, length, take, OnOk, If
 ghost use Rattle.std.specs.Io.KnownBytes.{Appends};
 ghost use Rattle.grid_program.specs.Texts.{text_of};
 
-mod input;
-
 use input::read_full;
 use std::io;
 use std::io::{Read, Write};

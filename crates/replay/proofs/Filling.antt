@@ -1,18 +1,31 @@
 -- A table that is filled place by place.
-use Rattle.std.proofs.Common.{◌≡◌, ℕ, suc, ◌+◌, ◌-◌, ◌*◌, ◌<◌, List, drop, set, ap, ◌∙◌, arith}
+use Rattle.std.proofs.Common.{◌≡◌, ℕ, suc, ◌+◌, ◌-◌, ◌*◌, ◌<◌, List, drop, set, sym, ap, ◌∙◌, arith, Option, None, Some, IfSome}
 use Rattle.std.proofs.lemmas.List.{drop-drop}
 use Rattle.layout.specs.Bytes.{u32_at}
 use Rattle.replay.specs.Filled.{filled}
 
--- after i of the n places of the list `first`: what is left of it, and what the rest of the places still do to the table
-abbrev pub IsFilling : {A : Type 0} (value : List ℕ → A) (n i : ℕ) (first list : List ℕ) (start table : List A) → Type 0
-IsFilling value n i first list start table = (filled value (n - i) list table ≡ filled value n first start) × (list ≡ drop (8 * i) first)
+-- after i of the n places of a list that is known: what the rest of the places still do to the table, and what is left of the list
+abbrev pub IsFilling : {A : Type 0} (value : List ℕ → A) (n i : ℕ) (known left : Option (List ℕ)) (start table : List A) → Type 0
+IsFilling value n i known left start table =
+    IfSome known (λ all. (filled value (n - i) (drop (8 * i) all) table ≡ filled value n all start) × (left ≡ Some (drop (8 * i) all)))
 
-pub goes_on : {A : Type 0} (value : List ℕ → A) (n i : ℕ) (first list : List ℕ) (start table : List A) (rest : List ℕ) (put : List A) (at : ℕ) (x : A)
-    → i < n → rest ≡ drop 8 list → at ≡ u32_at list 0 → x ≡ value list → put ≡ set table at x
-    → IsFilling value n i first list start table → IsFilling value n (i + 1) first rest start put
-goes_on value n i first list start table rest put at x lt r a v p inv =
+-- one place more: `at`, `x` and `rest` are what is read where `left` is known
+pub goes_on : {A : Type 0} (value : List ℕ → A) (n i : ℕ) (known left rest : Option (List ℕ)) (start table put : List A) (at : ℕ) (x : A) → i < n
+    → IfSome left (λ all. rest ≡ Some (drop 8 all)) → IfSome left (λ all. at ≡ u32_at all 0) → IfSome left (λ all. x ≡ value all)
+    → put ≡ set table at x → IsFilling value n i known left start table → IsFilling value n (i + 1) known rest start put
+goes_on value n i None left rest start table put at x lt r a v p inv = tt
+goes_on value n i (Some all) left rest start table put at x lt r a v p inv =
     let one : n - i ≡ suc (n - (i + 1)) = omega arith in
     let places : 8 * i + 8 ≡ 8 * (i + 1) = omega arith in
+    let next : drop 8 (drop (8 * i) all) ≡ drop (8 * (i + 1)) all = drop-drop 8 (8 * i) all ∙ ap (λ (k : ℕ). drop k all) places in
+    let here = rw inv.1 at r in
+    let place = rw inv.1 at a in
+    let word = rw inv.1 at v in
     let left = rw one at inv.0 in
-    (rw (r, p, a, v) left, r ∙ ap (drop 8) inv.1 ∙ drop-drop 8 (8 * i) first ∙ ap (λ (k : ℕ). drop k first) places)
+    (rw (sym next, p, place, word) left, here ∙ ap Some next)
+
+-- what is made of a word that is the list's is what is made of the list's
+pub of_word : {A : Type 0} (value : ℕ → A) (left : Option (List ℕ)) (word : ℕ) {x : A} → IfSome left (λ all. word ≡ u32_at all 4) → x ≡ value word
+    → IfSome left (λ all. x ≡ value (u32_at all 4))
+of_word value None word same made = tt
+of_word value (Some all) word same made = made ∙ ap value same

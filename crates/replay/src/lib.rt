@@ -1,88 +1,59 @@
-// What the replay programs share: a list is read from standard input, in little-endian words of 32 bits, and counts are written.
-// Standard input is read once, to its end. No contract can say what it holds; what is read from the list is what stands there.
+// What the replay programs share: a list is read from an input, in little-endian words of 32 bits, and counts are written.
+// Each read takes what it needs, so that a list may be of any length and none of it is held. Where the list is known, which standard input is not,
+// what is read is what stands at its front.
 #![tactic(auto)]
 
-ghost use Rattle.std.specs.Prelude.{◌≡◌, ◌*◌, ◌%◌, ◌≤◌, ◌++◌, min, length, take, drop, set, OnOk, IfOk, IfErr, IfSome, ◌≢◌};
+ghost use Rattle.std.specs.Prelude.{◌≡◌, ◌*◌, ◌%◌, ◌≤◌, ◌++◌, min, length, take, drop, set, OnOk, IfOk, Some, IfSome};
 ghost use Rattle.std.specs.Fmt.{decimal};
 ghost use Rattle.std.specs.Io.KnownBytes.{Appends};
-ghost use Rattle.std.specs.IoError.{error_kind};
 ghost use Rattle.layout.specs.Bytes.{u32_at, i32_at, f32_at};
 ghost use Rattle.replay.specs.Filled.{filled};
 
-use std::alloc::Global;
+use input::read_full;
 use std::io;
-use std::io::{ErrorKind, Read, Write};
+use std::io::{Read, Write};
 
 // How many cases a list may have.
 const MOST: u32 = 4096;
 
-// What is left of a list.
-#[derive(Drop)]
-pub struct Listing<'a> {
-    pub rest: &'a [u8],
-}
-
-// All bytes of an input. A list has no greatest length, so it is held in a `Vec`: where memory is refused, the answer is `OutOfMemory`, and there is
-// no list. The other errors are the input's own; that a signal interrupted a read is none of them.
-pub fn read_list<R: Read + Drop>(mut input: R, alloc: Global) -> io::Result<Vec<u8>>
-    ensures list { IfOk result (λ list. IfSome (R.remaining input) (λ bytes. list.items ≡ bytes)) }
-    ensures retried { IfErr result (λ e. error_kind e ≢ ErrorKind.Interrupted) }
-{
-    let mut bytes = Vec::new(alloc);
-    input.read_to_end(&mut bytes)?;
-    Ok(bytes)
-}
-
 // ---- words
 
-// Passes over n bytes, or over all that are left.
-fn pass(list: &mut Listing<'_>, n: usize)
-    ensures { list.new.rest.now ≡ drop n list.old.rest.now }
-{
-    let rest = list.rest;
-    list.rest = if n < rest.len() { &rest[n..] } else { &[] };
-}
-
 // Fills lent bytes, and says how many there were: fewer than asked for where the list ends.
-pub fn read_bytes(list: &mut Listing<'_>, bytes: &mut [u8]) -> usize
-    ensures within { result ≤ length bytes.old }
-    ensures count { result ≡ min (length list.old.rest.now) (length bytes.old) }
-    ensures filled { bytes.new ≡ take (length bytes.old) list.old.rest.now ++ drop result bytes.old }
-    ensures rest { list.new.rest.now ≡ drop result list.old.rest.now }
+pub fn read_bytes<R: Read>(list: &mut R, bytes: &mut [u8]) -> io::Result<usize>
+    ensures within { IfOk result (λ n. n ≤ length bytes.old) }
+    ensures count { IfOk result (λ n. IfSome (R.remaining list.old) (λ all. n ≡ min (length all) (length bytes.old))) }
+    ensures filled { IfOk result (λ n. IfSome (R.remaining list.old) (λ all. take n bytes.new ≡ take (length bytes.old) all)) }
+    ensures rest { OnOk result (IfSome (R.remaining list.old) (λ all. R.remaining list.new ≡ Some (drop (length bytes.old) all))) }
 {
-    let rest = list.rest;
-    let count = rest.len().min(bytes.len());
-    bytes[..count].copy_from_slice(&rest[..count]);
-    pass(list, count);
-    count
+    read_full(list, bytes)
 }
 
 // The next word: without a sign, with one, and as a float. Bytes past the end count as 0.
-pub fn read_word(list: &mut Listing<'_>) -> u32
-    ensures word { result ≡ u32_at list.old.rest.now 0 }
-    ensures rest { list.new.rest.now ≡ drop 4 list.old.rest.now }
+pub fn read_word<R: Read>(list: &mut R) -> io::Result<u32>
+    ensures word { IfOk result (λ word. IfSome (R.remaining list.old) (λ all. word ≡ u32_at all 0)) }
+    ensures rest { OnOk result (IfSome (R.remaining list.old) (λ all. R.remaining list.new ≡ Some (drop 4 all))) }
 {
-    let word = layout::u32_at(list.rest, 0);
-    pass(list, 4);
-    word
+    let mut b = [0u8; 4];
+    let n = read_bytes(list, &mut b)?;
+    Ok(layout::u32_at(&b[..n], 0))
 }
 
-pub fn read_number(list: &mut Listing<'_>) -> i32
-    ensures number { result ≡ i32_at list.old.rest.now 0 }
-    ensures rest { list.new.rest.now ≡ drop 4 list.old.rest.now }
+pub fn read_number<R: Read>(list: &mut R) -> io::Result<i32>
+    ensures number { IfOk result (λ number. IfSome (R.remaining list.old) (λ all. number ≡ i32_at all 0)) }
+    ensures rest { OnOk result (IfSome (R.remaining list.old) (λ all. R.remaining list.new ≡ Some (drop 4 all))) }
 {
-    let number = layout::i32_at(list.rest, 0);
-    pass(list, 4);
-    number
+    let mut b = [0u8; 4];
+    let n = read_bytes(list, &mut b)?;
+    Ok(layout::i32_at(&b[..n], 0))
 }
 
-pub fn read_float(list: &mut Listing<'_>) -> f32
-    ensures float { result ≡ f32_at list.old.rest.now 0 }
-    ensures rest { list.new.rest.now ≡ drop 4 list.old.rest.now }
+pub fn read_float<R: Read>(list: &mut R) -> io::Result<f32>
+    ensures float { IfOk result (λ float. IfSome (R.remaining list.old) (λ all. float ≡ f32_at all 0)) }
+    ensures rest { OnOk result (IfSome (R.remaining list.old) (λ all. R.remaining list.new ≡ Some (drop 4 all))) }
 {
-    let float = layout::f32_at(list.rest, 0);
-    pass(list, 4);
-    float
+    let mut b = [0u8; 4];
+    let n = read_bytes(list, &mut b)?;
+    Ok(layout::f32_at(&b[..n], 0))
 }
 
 // The lesser of two.
@@ -93,12 +64,12 @@ pub fn least(a: u32, b: u32) -> u32
 }
 
 // How many cases are replayed: the first word of the list, and no more than 4,096.
-pub fn read_cases(list: &mut Listing<'_>) -> u32
-    ensures bound { result ≤ 4096 }
-    ensures value { result ≡ min (u32_at list.old.rest.now 0) 4096 }
-    ensures rest { list.new.rest.now ≡ drop 4 list.old.rest.now }
+pub fn read_cases<R: Read>(list: &mut R) -> io::Result<u32>
+    ensures bound { IfOk result (λ cases. cases ≤ 4096) }
+    ensures value { IfOk result (λ cases. IfSome (R.remaining list.old) (λ all. cases ≡ min (u32_at all 0) 4096)) }
+    ensures rest { OnOk result (IfSome (R.remaining list.old) (λ all. R.remaining list.new ≡ Some (drop 4 all))) }
 {
-    least(read_word(list), MOST)
+    Ok(least(read_word(list)?, MOST))
 }
 
 // ---- tables
@@ -111,19 +82,20 @@ pub struct Place {
     pub number: i32,
 }
 
-pub fn read_place(list: &mut Listing<'_>) -> Place
-    ensures at { result.at ≡ u32_at list.old.rest.now 0 }
-    ensures word { result.word ≡ u32_at list.old.rest.now 4 }
-    ensures number { result.number ≡ i32_at list.old.rest.now 4 }
-    ensures rest { list.new.rest.now ≡ drop 8 list.old.rest.now }
+pub fn read_place<R: Read>(list: &mut R) -> io::Result<Place>
+    ensures at { IfOk result (λ place. IfSome (R.remaining list.old) (λ all. place.at ≡ u32_at all 0)) }
+    ensures word { IfOk result (λ place. IfSome (R.remaining list.old) (λ all. place.word ≡ u32_at all 4)) }
+    ensures number { IfOk result (λ place. IfSome (R.remaining list.old) (λ all. place.number ≡ i32_at all 4)) }
+    ensures rest { OnOk result (IfSome (R.remaining list.old) (λ all. R.remaining list.new ≡ Some (drop 8 all))) }
 {
-    let place = Place {
-        at: layout::u32_at(list.rest, 0) as usize,
-        word: layout::u32_at(list.rest, 4),
-        number: layout::i32_at(list.rest, 4),
-    };
-    pass(list, 8);
-    place
+    let mut b = [0u8; 8];
+    let n = read_bytes(list, &mut b)?;
+    let b = &b[..n];
+    Ok(Place {
+        at: layout::u32_at(b, 0) as usize,
+        word: layout::u32_at(b, 4),
+        number: layout::i32_at(b, 4),
+    })
 }
 
 // A place past the end of a table is passed over.
@@ -160,44 +132,48 @@ fn put_value(values: &mut [f32], at: usize, value: f32)
 }
 
 // The next n words of a table, each read with its place.
-pub fn fill_bytes(list: &mut Listing<'_>, n: u32, bytes: &mut [u8])
-    ensures table { bytes.new ≡ filled (λ rest. u32_at rest 4 % 256) n list.old.rest.now bytes.old }
-    ensures rest { list.new.rest.now ≡ drop (8 * n) list.old.rest.now }
+pub fn fill_bytes<R: Read>(list: &mut R, n: u32, bytes: &mut [u8]) -> io::Result<()>
+    ensures table { OnOk result (IfSome (R.remaining list.old) (λ all. bytes.new ≡ filled (λ rest. u32_at rest 4 % 256) n all bytes.old)) }
+    ensures rest { OnOk result (IfSome (R.remaining list.old) (λ all. R.remaining list.new ≡ Some (drop (8 * n) all))) }
 {
     for _ in 0..n {
-        let place = read_place(list);
+        let place = read_place(list)?;
         put_byte(bytes, place.at, place.word);
     }
+    Ok(())
 }
 
-pub fn fill_numbers(list: &mut Listing<'_>, n: u32, numbers: &mut [i32])
-    ensures table { numbers.new ≡ filled (λ rest. i32_at rest 4) n list.old.rest.now numbers.old }
-    ensures rest { list.new.rest.now ≡ drop (8 * n) list.old.rest.now }
+pub fn fill_numbers<R: Read>(list: &mut R, n: u32, numbers: &mut [i32]) -> io::Result<()>
+    ensures table { OnOk result (IfSome (R.remaining list.old) (λ all. numbers.new ≡ filled (λ rest. i32_at rest 4) n all numbers.old)) }
+    ensures rest { OnOk result (IfSome (R.remaining list.old) (λ all. R.remaining list.new ≡ Some (drop (8 * n) all))) }
 {
     for _ in 0..n {
-        let place = read_place(list);
+        let place = read_place(list)?;
         put_number(numbers, place.at, place.number);
     }
+    Ok(())
 }
 
-pub fn fill_links(list: &mut Listing<'_>, n: u32, links: &mut [u32])
-    ensures table { links.new ≡ filled (λ rest. u32_at rest 4) n list.old.rest.now links.old }
-    ensures rest { list.new.rest.now ≡ drop (8 * n) list.old.rest.now }
+pub fn fill_links<R: Read>(list: &mut R, n: u32, links: &mut [u32]) -> io::Result<()>
+    ensures table { OnOk result (IfSome (R.remaining list.old) (λ all. links.new ≡ filled (λ rest. u32_at rest 4) n all links.old)) }
+    ensures rest { OnOk result (IfSome (R.remaining list.old) (λ all. R.remaining list.new ≡ Some (drop (8 * n) all))) }
 {
     for _ in 0..n {
-        let place = read_place(list);
+        let place = read_place(list)?;
         put_link(links, place.at, place.word);
     }
+    Ok(())
 }
 
-pub fn fill_values(list: &mut Listing<'_>, n: u32, values: &mut [f32])
-    ensures table { values.new ≡ filled (λ rest. f32_at rest 4) n list.old.rest.now values.old }
-    ensures rest { list.new.rest.now ≡ drop (8 * n) list.old.rest.now }
+pub fn fill_values<R: Read>(list: &mut R, n: u32, values: &mut [f32]) -> io::Result<()>
+    ensures table { OnOk result (IfSome (R.remaining list.old) (λ all. values.new ≡ filled (λ rest. f32_at rest 4) n all values.old)) }
+    ensures rest { OnOk result (IfSome (R.remaining list.old) (λ all. R.remaining list.new ≡ Some (drop (8 * n) all))) }
 {
     for _ in 0..n {
-        let place = read_place(list);
+        let place = read_place(list)?;
         put_value(values, place.at, float::float_of(place.word));
     }
+    Ok(())
 }
 
 // ---- the first n of a table, or all of it

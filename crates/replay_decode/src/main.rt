@@ -12,121 +12,122 @@
 //     and the cell and its figure, zeros after a refused build.
 #![tactic(auto)]
 
-ghost use Rattle.std.specs.Prelude.{◌≤◌};
+ghost use Rattle.std.specs.Prelude.{◌≤◌, IfOk};
 
 use claim::{Asked, Question};
 use decode::Decoded;
 use medium::Medium;
 use refusals::both;
 use replay::{
-    Listing, fill_bytes, first_bytes, first_links, first_numbers, first_values, read_cases,
-    read_float, read_list, read_number, read_place, read_word, report,
+    fill_bytes, first_bytes, first_links, first_numbers, first_values, read_cases, read_float,
+    read_number, read_place, read_word, report,
 };
 use std::io;
+use std::io::Read;
 
 // ---- what the answer says
 
-fn same(list: &mut Listing<'_>, a: u32) -> bool {
-    let b = read_word(list);
-    a == b
+fn same<R: Read>(list: &mut R, a: u32) -> io::Result<bool> {
+    let b = read_word(list)?;
+    Ok(a == b)
 }
 
-fn same_float(list: &mut Listing<'_>, a: f32) -> bool {
+fn same_float<R: Read>(list: &mut R, a: f32) -> io::Result<bool> {
     same(list, float::bits_of(a))
 }
 
-fn same_number(list: &mut Listing<'_>, a: i32) -> bool {
-    let b = read_number(list);
-    a == b
+fn same_number<R: Read>(list: &mut R, a: i32) -> io::Result<bool> {
+    let b = read_number(list)?;
+    Ok(a == b)
 }
 
-fn same_count(list: &mut Listing<'_>, a: usize) -> bool {
-    let b = read_word(list) as usize;
-    a == b
+fn same_count<R: Read>(list: &mut R, a: usize) -> io::Result<bool> {
+    let b = read_word(list)? as usize;
+    Ok(a == b)
 }
 
-fn same_point(list: &mut Listing<'_>, x: f32, y: f32, z: f32) -> bool {
-    let a = same_float(list, x);
-    let b = same_float(list, y);
-    let c = same_float(list, z);
-    both(a, both(b, c))
+fn same_point<R: Read>(list: &mut R, x: f32, y: f32, z: f32) -> io::Result<bool> {
+    let a = same_float(list, x)?;
+    let b = same_float(list, y)?;
+    let c = same_float(list, z)?;
+    Ok(both(a, both(b, c)))
 }
 
-fn same_corner(list: &mut Listing<'_>, x: i32, y: i32, z: i32) -> bool {
-    let a = same_number(list, x);
-    let b = same_number(list, y);
-    let c = same_number(list, z);
-    both(a, both(b, c))
+fn same_corner<R: Read>(list: &mut R, x: i32, y: i32, z: i32) -> io::Result<bool> {
+    let a = same_number(list, x)?;
+    let b = same_number(list, y)?;
+    let c = same_number(list, z)?;
+    Ok(both(a, both(b, c)))
 }
 
-fn same_medium(list: &mut Listing<'_>, m: Medium) -> bool {
-    let low = same_point(list, m.low[0], m.low[1], m.low[2]);
-    let high = same_point(list, m.high[0], m.high[1], m.high[2]);
-    let x = same_point(list, m.map[0], m.map[1], m.map[2]);
-    let y = same_point(list, m.map[3], m.map[4], m.map[5]);
-    let z = same_point(list, m.map[6], m.map[7], m.map[8]);
-    let moved = same_point(list, m.translation[0], m.translation[1], m.translation[2]);
-    let index_low = same_corner(list, m.index_low[0], m.index_low[1], m.index_low[2]);
-    let index_high = same_corner(list, m.index_high[0], m.index_high[1], m.index_high[2]);
+fn same_medium<R: Read>(list: &mut R, m: Medium) -> io::Result<bool> {
+    let low = same_point(list, m.low[0], m.low[1], m.low[2])?;
+    let high = same_point(list, m.high[0], m.high[1], m.high[2])?;
+    let x = same_point(list, m.map[0], m.map[1], m.map[2])?;
+    let y = same_point(list, m.map[3], m.map[4], m.map[5])?;
+    let z = same_point(list, m.map[6], m.map[7], m.map[8])?;
+    let moved = same_point(list, m.translation[0], m.translation[1], m.translation[2])?;
+    let index_low = same_corner(list, m.index_low[0], m.index_low[1], m.index_low[2])?;
+    let index_high = same_corner(list, m.index_high[0], m.index_high[1], m.index_high[2])?;
     let world = both(low, high);
     let map = both(both(x, y), both(z, moved));
-    both(both(world, map), both(index_low, index_high))
+    Ok(both(both(world, map), both(index_low, index_high)))
 }
 
-fn same_answer(list: &mut Listing<'_>, d: Decoded) -> bool {
-    let number = same(list, d.number);
-    let roots = same_count(list, d.roots);
-    let upper = same_count(list, d.upper);
-    let lower = same_count(list, d.lower);
-    let leaf = same_count(list, d.leaf);
-    let background = same_float(list, d.background);
-    let medium = same_medium(list, d.medium);
+fn same_answer<R: Read>(list: &mut R, d: Decoded) -> io::Result<bool> {
+    let number = same(list, d.number)?;
+    let roots = same_count(list, d.roots)?;
+    let upper = same_count(list, d.upper)?;
+    let lower = same_count(list, d.lower)?;
+    let leaf = same_count(list, d.leaf)?;
+    let background = same_float(list, d.background)?;
+    let medium = same_medium(list, d.medium)?;
     let counts = both(both(roots, upper), both(lower, leaf));
-    both(both(number, counts), both(background, medium))
+    Ok(both(both(number, counts), both(background, medium)))
 }
 
 // ---- what is left in a table, word for word
 
-fn same_numbers(list: &mut Listing<'_>, table: &[i32]) -> bool {
+fn same_numbers<R: Read>(list: &mut R, table: &[i32]) -> io::Result<bool> {
     let mut same = true;
-    let mut next = read_place(list);
+    let mut next = read_place(list)?;
     for (i, x) in table.iter().enumerate() {
         if i == next.at {
             same = both(same, *x == next.number);
-            next = read_place(list);
+            next = read_place(list)?;
         } else {
             same = both(same, *x == 0);
         }
     }
-    same
+    Ok(same)
 }
 
-fn same_links(list: &mut Listing<'_>, table: &[u32]) -> bool {
+fn same_links<R: Read>(list: &mut R, table: &[u32]) -> io::Result<bool> {
     let mut same = true;
-    let mut next = read_place(list);
+    let mut next = read_place(list)?;
     for (i, x) in table.iter().enumerate() {
         if i == next.at {
             same = both(same, *x == next.word);
-            next = read_place(list);
+            next = read_place(list)?;
         } else {
             same = both(same, *x == 0);
         }
     }
-    same
+    Ok(same)
 }
 
-fn same_values(list: &mut Listing<'_>, table: &[f32]) -> bool {
+fn same_values<R: Read>(list: &mut R, table: &[f32]) -> io::Result<bool> {
     let mut same = true;
-    let mut next = read_place(list);
+    let mut next = read_place(list)?;
     for (i, x) in table.iter().enumerate() {
         if i == next.at {
             same = both(same, float::bits_of(*x) == next.word);
-            next = read_place(list);
+            next = read_place(list)?;
         } else {
             same = both(same, float::bits_of(*x) == 0);
         }
     }
-    same
+    Ok(same)
 }
 
 // The work table is left with zeros.
@@ -151,19 +152,19 @@ fn figure_is(majorants: &[f32], cell: usize, bits: u32) -> bool {
 }
 
 // The listed figures.
-fn same_figures(list: &mut Listing<'_>, majorants: &[f32]) -> bool {
+fn same_figures<R: Read>(list: &mut R, majorants: &[f32]) -> io::Result<bool> {
     let mut same = true;
-    let n = read_word(list);
+    let n = read_word(list)?;
     for _ in 0..n {
-        let place = read_place(list);
+        let place = read_place(list)?;
         same = both(same, figure_is(majorants, place.at, place.word));
     }
-    same
+    Ok(same)
 }
 
 // Builds the used parts, and says whether the number and the listed figures are the Rust's.
-fn same_build(
-    list: &mut Listing<'_>,
+fn same_build<R: Read>(
+    list: &mut R,
     d: Decoded,
     blocks: &[i32],
     root_links: &[u32],
@@ -173,7 +174,7 @@ fn same_build(
     lower_links: &[u32],
     lower_values: &[f32],
     leaf_values: &[f32],
-) -> bool {
+) -> io::Result<bool> {
     let upper = small(d.upper) * 32768;
     let lower = small(d.lower) * 4096;
     let mut majorants = [0.0f32; 262144];
@@ -190,51 +191,51 @@ fn same_build(
         d.medium,
         &mut majorants,
     );
-    let answer = same(list, number);
-    both(answer, same_figures(list, &majorants))
+    let answer = same(list, number)?;
+    Ok(both(answer, same_figures(list, &majorants)?))
 }
 
 // ---- the question
 
-fn read_corner(list: &mut Listing<'_>) -> [i32; 3] {
-    let x = read_number(list);
-    let y = read_number(list);
-    let z = read_number(list);
-    [x, y, z]
+fn read_corner<R: Read>(list: &mut R) -> io::Result<[i32; 3]> {
+    let x = read_number(list)?;
+    let y = read_number(list)?;
+    let z = read_number(list)?;
+    Ok([x, y, z])
 }
 
-fn read_point(list: &mut Listing<'_>) -> [f32; 3] {
-    let x = read_float(list);
-    let y = read_float(list);
-    let z = read_float(list);
-    [x, y, z]
+fn read_point<R: Read>(list: &mut R) -> io::Result<[f32; 3]> {
+    let x = read_float(list)?;
+    let y = read_float(list)?;
+    let z = read_float(list)?;
+    Ok([x, y, z])
 }
 
-fn read_question(list: &mut Listing<'_>) -> Question {
-    let coordinate = read_corner(list);
-    let low = read_corner(list);
-    let high = read_corner(list);
-    let point = read_point(list);
-    Question {
+fn read_question<R: Read>(list: &mut R) -> io::Result<Question> {
+    let coordinate = read_corner(list)?;
+    let low = read_corner(list)?;
+    let high = read_corner(list)?;
+    let point = read_point(list)?;
+    Ok(Question {
         coordinate,
         low,
         high,
         point,
-    }
+    })
 }
 
-fn same_asked(list: &mut Listing<'_>, a: Asked) -> bool {
+fn same_asked<R: Read>(list: &mut R, a: Asked) -> io::Result<bool> {
     let loaded = a.loaded;
-    let number = same(list, loaded.decoded.number);
-    let build = same(list, loaded.build);
-    let value = same_float(list, a.value);
-    let maximum = same_float(list, a.maximum);
-    let cell = same(list, a.cell);
-    let figure = same_float(list, a.figure);
-    both(
+    let number = same(list, loaded.decoded.number)?;
+    let build = same(list, loaded.build)?;
+    let value = same_float(list, a.value)?;
+    let maximum = same_float(list, a.maximum)?;
+    let cell = same(list, a.cell)?;
+    let figure = same_float(list, a.figure)?;
+    Ok(both(
         both(both(number, build), cell),
         both(value, both(maximum, figure)),
-    )
+    ))
 }
 
 // Whether the answer is as listed, and whether it tells of smoke beside a build that was accepted, and beside one that was refused.
@@ -245,19 +246,19 @@ struct Told {
     unbuilt: bool,
 }
 
-fn compare(list: &mut Listing<'_>, a: Asked) -> Told {
+fn compare<R: Read>(list: &mut R, a: Asked) -> io::Result<Told> {
     let loaded = a.loaded;
     let given = loaded.build == 0;
     let smoke = a.maximum > 0.0;
-    Told {
-        same: same_asked(list, a),
+    Ok(Told {
+        same: same_asked(list, a)?,
         smoke: both(given, smoke),
         unbuilt: both(loaded.build != 0, smoke),
-    }
+    })
 }
 
 // Decodes and builds once more, into fresh tables, for the answer.
-fn replay_question(list: &mut Listing<'_>, bytes: &[u8]) -> Told {
+fn replay_question<R: Read>(list: &mut R, bytes: &[u8]) -> io::Result<Told> {
     let mut blocks = [0i32; 24];
     let mut root_links = [0u32; 8];
     let mut root_values = [0.0f32; 8];
@@ -268,7 +269,7 @@ fn replay_question(list: &mut Listing<'_>, bytes: &[u8]) -> Told {
     let mut leaf_values = [0.0f32; 4096];
     let mut work = [0u64; 64];
     let mut majorants = [0.0f32; 262144];
-    let question = read_question(list);
+    let question = read_question(list)?;
     let answer = claim::ask(
         bytes,
         &mut blocks,
@@ -289,7 +290,7 @@ fn replay_question(list: &mut Listing<'_>, bytes: &[u8]) -> Told {
 // ---- a case
 
 // Decodes the bytes and builds the grid, and says whether the answers, every table and the figures are as listed.
-fn replay_bytes(list: &mut Listing<'_>, bytes: &[u8]) -> bool {
+fn replay_bytes<R: Read>(list: &mut R, bytes: &[u8]) -> io::Result<bool> {
     let mut blocks = [0i32; 24];
     let mut root_links = [0u32; 8];
     let mut root_values = [0.0f32; 8];
@@ -311,15 +312,15 @@ fn replay_bytes(list: &mut Listing<'_>, bytes: &[u8]) -> bool {
         &mut leaf_values,
         &mut work,
     );
-    let answer = same_answer(list, d);
-    let roots = same_numbers(list, &blocks);
-    let links = same_links(list, &root_links);
-    let values = same_values(list, &root_values);
-    let upper = same_links(list, &upper_links);
-    let above = same_values(list, &upper_values);
-    let lower = same_links(list, &lower_links);
-    let below = same_values(list, &lower_values);
-    let leaf = same_values(list, &leaf_values);
+    let answer = same_answer(list, d)?;
+    let roots = same_numbers(list, &blocks)?;
+    let links = same_links(list, &root_links)?;
+    let values = same_values(list, &root_values)?;
+    let upper = same_links(list, &upper_links)?;
+    let above = same_values(list, &upper_values)?;
+    let lower = same_links(list, &lower_links)?;
+    let below = same_values(list, &lower_values)?;
+    let leaf = same_values(list, &leaf_values)?;
     let top = both(both(answer, roots), both(links, values));
     let nodes = both(both(upper, above), both(lower, below));
     let built = same_build(
@@ -333,8 +334,8 @@ fn replay_bytes(list: &mut Listing<'_>, bytes: &[u8]) -> bool {
         &lower_links,
         &lower_values,
         &leaf_values,
-    );
-    both(both(top, nodes), both(both(leaf, built), cleared(&work)))
+    )?;
+    Ok(both(both(top, nodes), both(both(leaf, built), cleared(&work))))
 }
 
 // 1 where a case differs, 1 where smoke was found, and 1 where it was found beside a refused build.
@@ -356,21 +357,21 @@ fn empty_bytes() -> [u8; 655360] {
     [0; 655360]
 }
 
-fn replay(list: &mut Listing<'_>) -> Counted
-    ensures { (result.differ ≤ 1) × (result.smoky ≤ 1) × (result.unbuilt ≤ 1) }
+fn replay<R: Read>(list: &mut R) -> io::Result<Counted>
+    ensures { IfOk result (λ counted. (counted.differ ≤ 1) × (counted.smoky ≤ 1) × (counted.unbuilt ≤ 1)) }
 {
     let mut bytes = empty_bytes();
-    let length = read_word(list) as usize;
-    let n = read_word(list);
-    fill_bytes(list, n, &mut bytes);
+    let length = read_word(list)? as usize;
+    let n = read_word(list)?;
+    fill_bytes(list, n, &mut bytes)?;
     let grid = first_bytes(&bytes, length);
-    let same = replay_bytes(list, grid);
-    let asked = replay_question(list, grid);
-    Counted {
+    let same = replay_bytes(list, grid)?;
+    let asked = replay_question(list, grid)?;
+    Ok(Counted {
         differ: 1 - count_one(both(same, asked.same)),
         smoky: count_one(asked.smoke),
         unbuilt: count_one(asked.unbuilt),
-    }
+    })
 }
 
 // How many cases were replayed, and how many of them each count holds.
@@ -382,28 +383,28 @@ struct Replayed {
     unbuilt: u32,
 }
 
-fn replay_all(list: &mut Listing<'_>) -> Replayed {
-    let cases = read_cases(list);
+fn replay_all<R: Read>(list: &mut R) -> io::Result<Replayed> {
+    let cases = read_cases(list)?;
     let mut differ: u32 = 0;
     let mut smoky: u32 = 0;
     let mut unbuilt: u32 = 0;
     for _ in 0..cases {
-        let counted = replay(list);
+        let counted = replay(list)?;
         differ += counted.differ;
         smoky += counted.smoky;
         unbuilt += counted.unbuilt;
     }
-    Replayed {
+    Ok(Replayed {
         cases,
         differ,
         smoky,
         unbuilt,
-    }
+    })
 }
 
 fn main(rt: HostRuntime) -> io::Result<()> {
-    let bytes = read_list(rt.reader(), rt.alloc())?;
-    let all = replay_all(&mut Listing { rest: &bytes });
+    let list = &mut rt.reader();
+    let all = replay_all(list)?;
     let out = &mut io::writer(&rt);
     report(out, all.cases, b" cases, ")?;
     report(out, all.differ, b" differ\n")?;

@@ -3,11 +3,11 @@
 // standard input, and says what a record holds.
 #![tactic(auto)]
 
-ghost use Rattle.std.specs.Prelude.{◌≤◌};
+ghost use Rattle.std.specs.Prelude.{◌≤◌, IfOk};
 
-use replay::{Listing, read_bytes, read_list};
+use replay::read_bytes;
 use std::io;
-use std::io::Write;
+use std::io::{Read, Write};
 
 // How many records each function has.
 const RECORDS: u32 = 2048;
@@ -50,32 +50,32 @@ struct Seen {
 }
 
 // Reads a record and compares it. Past the end of the list nothing is read.
-fn step(list: &mut Listing<'_>, f: u32) -> Seen
-    ensures { (result.read ≤ 1) × (result.differ ≤ 1) }
+fn step<R: Read>(list: &mut R, f: u32) -> io::Result<Seen>
+    ensures { IfOk result (λ seen. (seen.read ≤ 1) × (seen.differ ≤ 1)) }
 {
     let mut b = [0u8; 16];
-    let n = read_bytes(list, &mut b);
+    let n = read_bytes(list, &mut b)?;
     if n < 16 {
-        Seen { read: 0, differ: 0 }
+        Ok(Seen { read: 0, differ: 0 })
     } else if agrees(f, layout::u64_at(&b, 0), layout::u64_at(&b, 8)) {
-        Seen { read: 1, differ: 0 }
+        Ok(Seen { read: 1, differ: 0 })
     } else {
-        Seen { read: 1, differ: 1 }
+        Ok(Seen { read: 1, differ: 1 })
     }
 }
 
 // Replays the records of the function numbered f.
-fn replay(list: &mut Listing<'_>, f: u32) -> Seen
-    ensures { (result.read ≤ 2048) × (result.differ ≤ 2048) }
+fn replay<R: Read>(list: &mut R, f: u32) -> io::Result<Seen>
+    ensures { IfOk result (λ seen. (seen.read ≤ 2048) × (seen.differ ≤ 2048)) }
 {
     let mut read: u32 = 0;
     let mut differ: u32 = 0;
     for _ in 0..RECORDS {
-        let seen = step(list, f);
+        let seen = step(list, f)?;
         read += seen.read;
         differ += seen.differ;
     }
-    Seen { read, differ }
+    Ok(Seen { read, differ })
 }
 
 // Writes a function's line.
@@ -86,13 +86,12 @@ fn report<W: Write>(out: &mut W, name: &[u8], seen: Seen) -> io::Result<()> {
 }
 
 fn main(rt: HostRuntime) -> io::Result<()> {
-    let bytes = read_list(rt.reader(), rt.alloc())?;
-    let list = &mut Listing { rest: &bytes };
+    let list = &mut rt.reader();
     let out = &mut io::writer(&rt);
-    report(out, b"widen ", replay(list, 0))?;
-    report(out, b"narrow ", replay(list, 1))?;
-    report(out, b"mul_add ", replay(list, 2))?;
-    report(out, b"floor ", replay(list, 3))?;
-    report(out, b"trunc ", replay(list, 4))?;
-    report(out, b"checked_coordinate ", replay(list, 5))
+    report(out, b"widen ", replay(list, 0)?)?;
+    report(out, b"narrow ", replay(list, 1)?)?;
+    report(out, b"mul_add ", replay(list, 2)?)?;
+    report(out, b"floor ", replay(list, 3)?)?;
+    report(out, b"trunc ", replay(list, 4)?)?;
+    report(out, b"checked_coordinate ", replay(list, 5)?)
 }

@@ -3,13 +3,14 @@
 // input, and says what a case holds.
 #![tactic(auto)]
 
-ghost use Rattle.std.specs.Prelude.{◌≤◌};
+ghost use Rattle.std.specs.Prelude.{◌≤◌, IfOk};
 
 use replay::{
-    Listing, fill_links, fill_numbers, fill_values, first_links, first_numbers, first_values,
-    least, read_bytes, read_cases, read_list, report,
+    fill_links, fill_numbers, fill_values, first_links, first_numbers, first_values, least,
+    read_bytes, read_cases, report,
 };
 use std::io;
+use std::io::Read;
 
 // Whether a lookup gave this number and this pattern.
 fn answers(answer: sparse_grid::Answer, number: u32, bits: u32) -> bool {
@@ -20,8 +21,8 @@ fn answers(answer: sparse_grid::Answer, number: u32, bits: u32) -> bool {
 }
 
 // Reads a lookup and makes it: 1 where the answer differs.
-fn lookup(
-    list: &mut Listing<'_>,
+fn lookup<R: Read>(
+    list: &mut R,
     background: f32,
     blocks: &[i32],
     root_links: &[u32],
@@ -31,11 +32,11 @@ fn lookup(
     lower_links: &[u32],
     lower_values: &[f32],
     leaf_values: &[f32],
-) -> u32
-    ensures { result ≤ 1 }
+) -> io::Result<u32>
+    ensures { IfOk result (λ differ. differ ≤ 1) }
 {
     let mut b = [0u8; 20];
-    read_bytes(list, &mut b);
+    read_bytes(list, &mut b)?;
     let answer = sparse_grid::get_value(
         background,
         blocks,
@@ -51,15 +52,15 @@ fn lookup(
         layout::i32_at(&b, 8),
     );
     if answers(answer, layout::u32_at(&b, 12), layout::u32_at(&b, 16)) {
-        0
+        Ok(0)
     } else {
-        1
+        Ok(1)
     }
 }
 
 // How many of the next n lookups differ.
-fn lookups(
-    list: &mut Listing<'_>,
+fn lookups<R: Read>(
+    list: &mut R,
     n: u32,
     background: f32,
     blocks: &[i32],
@@ -70,8 +71,8 @@ fn lookups(
     lower_links: &[u32],
     lower_values: &[f32],
     leaf_values: &[f32],
-) -> u32
-    ensures { result ≤ n }
+) -> io::Result<u32>
+    ensures { IfOk result (λ differ. differ ≤ n) }
 {
     let mut differ: u32 = 0;
     for _ in 0..n {
@@ -86,9 +87,9 @@ fn lookups(
             lower_links,
             lower_values,
             leaf_values,
-        );
+        )?;
     }
-    differ
+    Ok(differ)
 }
 
 fn unlike(a: u32, b: u32) -> u32
@@ -145,8 +146,8 @@ struct Seen {
 }
 
 // How many checks and lookups of a case differ.
-fn judge(
-    list: &mut Listing<'_>,
+fn judge<R: Read>(
+    list: &mut R,
     head: &[u8; 80],
     background: f32,
     blocks: &[i32],
@@ -157,8 +158,8 @@ fn judge(
     lower_links: &[u32],
     lower_values: &[f32],
     leaf_values: &[f32],
-) -> u32
-    ensures { result ≤ 65537 }
+) -> io::Result<u32>
+    ensures { IfOk result (λ differ. differ ≤ 65537) }
 {
     let first = checks(
         head,
@@ -184,8 +185,8 @@ fn judge(
         lower_links,
         lower_values,
         leaf_values,
-    );
-    first + more
+    )?;
+    Ok(first + more)
 }
 
 fn head_word(head: &[u8; 80], at: usize) -> u32 {
@@ -203,15 +204,15 @@ fn asked(head: &[u8; 80]) -> u32
     least(head_word(head, 68), 65535)
 }
 
-fn read_head(list: &mut Listing<'_>) -> [u8; 80] {
+fn read_head<R: Read>(list: &mut R) -> io::Result<[u8; 80]> {
     let mut head = [0u8; 80];
-    read_bytes(list, &mut head);
-    head
+    read_bytes(list, &mut head)?;
+    Ok(head)
 }
 
 // The parts of the tables that the head names, judged.
-fn judge_parts(
-    list: &mut Listing<'_>,
+fn judge_parts<R: Read>(
+    list: &mut R,
     head: &[u8; 80],
     blocks: &[i32; 24],
     root_links: &[u32; 8],
@@ -221,8 +222,8 @@ fn judge_parts(
     lower_links: &[u32; 8192],
     lower_values: &[f32; 8192],
     leaf_values: &[f32; 1024],
-) -> Seen
-    ensures { (result.lookups ≤ 65535) × (result.differ ≤ 65537) }
+) -> io::Result<Seen>
+    ensures { IfOk result (λ seen. (seen.lookups ≤ 65535) × (seen.differ ≤ 65537)) }
 {
     let differ = judge(
         list,
@@ -236,16 +237,16 @@ fn judge_parts(
         first_links(lower_links, head_count(head, 20)),
         first_values(lower_values, head_count(head, 24)),
         first_values(leaf_values, head_count(head, 28)),
-    );
-    Seen {
+    )?;
+    Ok(Seen {
         lookups: asked(head),
         differ,
-    }
+    })
 }
 
 // Reads a case into tables of zeros and judges it.
-fn replay(list: &mut Listing<'_>) -> Seen
-    ensures { (result.lookups ≤ 65535) × (result.differ ≤ 65537) }
+fn replay<R: Read>(list: &mut R) -> io::Result<Seen>
+    ensures { IfOk result (λ seen. (seen.lookups ≤ 65535) × (seen.differ ≤ 65537)) }
 {
     let mut blocks = [0i32; 24];
     let mut root_links = [0u32; 8];
@@ -255,15 +256,15 @@ fn replay(list: &mut Listing<'_>) -> Seen
     let mut lower_links = [0u32; 8192];
     let mut lower_values = [0.0f32; 8192];
     let mut leaf_values = [0.0f32; 1024];
-    let head = read_head(list);
-    fill_numbers(list, head_word(&head, 32), &mut blocks);
-    fill_links(list, head_word(&head, 36), &mut root_links);
-    fill_values(list, head_word(&head, 40), &mut root_values);
-    fill_links(list, head_word(&head, 44), &mut upper_links);
-    fill_values(list, head_word(&head, 48), &mut upper_values);
-    fill_links(list, head_word(&head, 52), &mut lower_links);
-    fill_values(list, head_word(&head, 56), &mut lower_values);
-    fill_values(list, head_word(&head, 60), &mut leaf_values);
+    let head = read_head(list)?;
+    fill_numbers(list, head_word(&head, 32), &mut blocks)?;
+    fill_links(list, head_word(&head, 36), &mut root_links)?;
+    fill_values(list, head_word(&head, 40), &mut root_values)?;
+    fill_links(list, head_word(&head, 44), &mut upper_links)?;
+    fill_values(list, head_word(&head, 48), &mut upper_values)?;
+    fill_links(list, head_word(&head, 52), &mut lower_links)?;
+    fill_values(list, head_word(&head, 56), &mut lower_values)?;
+    fill_values(list, head_word(&head, 60), &mut leaf_values)?;
     judge_parts(
         list,
         &head,
@@ -286,25 +287,25 @@ struct Replayed {
     differ: u32,
 }
 
-fn replay_all(list: &mut Listing<'_>) -> Replayed {
-    let cases = read_cases(list);
+fn replay_all<R: Read>(list: &mut R) -> io::Result<Replayed> {
+    let cases = read_cases(list)?;
     let mut lookups: u32 = 0;
     let mut differ: u32 = 0;
     for _ in 0..cases {
-        let seen = replay(list);
+        let seen = replay(list)?;
         lookups += seen.lookups;
         differ += seen.differ;
     }
-    Replayed {
+    Ok(Replayed {
         cases,
         lookups,
         differ,
-    }
+    })
 }
 
 fn main(rt: HostRuntime) -> io::Result<()> {
-    let bytes = read_list(rt.reader(), rt.alloc())?;
-    let all = replay_all(&mut Listing { rest: &bytes });
+    let list = &mut rt.reader();
+    let all = replay_all(list)?;
     let out = &mut io::writer(&rt);
     report(out, all.cases, b" cases, ")?;
     report(out, all.lookups, b" lookups, ")?;

@@ -1,8 +1,8 @@
 -- What is read stands behind the first bytes, which stay.
 use Rattle.std.proofs.Common.{arith, length-take-le}
 use borrow.Rule.Slice.PartMut.{take_put}
-use Rattle.grid_program.proofs.InPlace.{in_place}
-use Rattle.grid_program.proofs.input.read_at.Goals as goal
+use Rattle.input.proofs.InPlace.{in_place}
+use Rattle.input.proofs.read_at.Goals as goal
 
 pub returns-clause-front : goal.returns-clause-front
 returns-clause-front g c = take_put _ _ c.args.bytes.now _ (omega (arith, c.requires))

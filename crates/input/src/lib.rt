@@ -1,7 +1,11 @@
-// An input, read into lent bytes: nothing is allocated, so that a read can fail only as the input itself does.
-ghost use Rattle.std.specs.Prelude.{◌≡◌, ◌+◌, ◌<◌, ◌≤◌, length, take, drop, IfOk, IfSome};
+// Reads of an input into lent bytes, until they are full or the input ends. Nothing is allocated, so that a read can fail only as the input itself
+// does.
+#![tactic(auto)]
+
+ghost use Rattle.std.specs.Prelude.{◌≡◌, ◌≢◌, ◌+◌, ◌<◌, ◌≤◌, length, take, drop, OnOk, IfOk, IfErr, Some, IfSome};
 ghost use Rattle.std.specs.Io.{ReadsAtMost};
 ghost use Rattle.std.specs.Io.KnownBytes.{Consumes, IsAtEnd};
+ghost use Rattle.std.specs.IoError.{error_kind};
 
 use std::io;
 use std::io::{ErrorKind, Read};
@@ -11,6 +15,7 @@ fn read_once<R: Read>(input: &mut R, bytes: &mut [u8]) -> io::Result<usize>
     ensures bound { ReadsAtMost result bytes.new }
     ensures ok { IfOk result (λ n. Consumes (R.remaining input.old) (R.remaining input.new) (take n bytes.new)) }
     ensures end { IfOk result (λ n. n ≡ 0 → 0 < length bytes.old → IsAtEnd (R.remaining input.new)) }
+    ensures retried { IfErr result (λ e. error_kind e ≢ ErrorKind.Interrupted) }
 {
     for _ in 0..u64::MAX {
         match input.read(bytes) {
@@ -22,7 +27,7 @@ fn read_once<R: Read>(input: &mut R, bytes: &mut [u8]) -> io::Result<usize>
             }
         }
     }
-    input.read(bytes)
+    Err(io::Error::from(ErrorKind::Other))
 }
 
 // One read behind the first `at` bytes.
@@ -32,14 +37,17 @@ fn read_at<R: Read>(input: &mut R, bytes: &mut [u8], at: usize) -> io::Result<us
     ensures fits { IfOk result (λ n. at + n ≤ length bytes.new) }
     ensures ok { IfOk result (λ n. Consumes (R.remaining input.old) (R.remaining input.new) (take n (drop at bytes.new))) }
     ensures end { IfOk result (λ n. n ≡ 0 → IsAtEnd (R.remaining input.new)) }
+    ensures retried { IfErr result (λ e. error_kind e ≢ ErrorKind.Interrupted) }
 {
     read_once(input, &mut bytes[at..])
 }
 
-// Reads until the bytes are full or the input ends, and says how many bytes the input gave.
-pub(crate) fn read_full<R: Read>(input: &mut R, bytes: &mut [u8]) -> io::Result<usize>
-    ensures within { IfOk result (λ n. n ≤ length bytes.new) }
+// Reads until the bytes are full or the input ends, and says how many bytes the input gave. What it gave stands at the front of the bytes.
+pub fn read_full<R: Read>(input: &mut R, bytes: &mut [u8]) -> io::Result<usize>
+    ensures within { IfOk result (λ n. n ≤ length bytes.old) }
     ensures front { IfOk result (λ n. IfSome (R.remaining input.old) (λ all. take n bytes.new ≡ take (length bytes.old) all)) }
+    ensures rest { OnOk result (IfSome (R.remaining input.old) (λ all. R.remaining input.new ≡ Some (drop (length bytes.old) all))) }
+    ensures retried { IfErr result (λ e. error_kind e ≢ ErrorKind.Interrupted) }
 {
     let mut n: usize = 0;
     while n < bytes.len() {

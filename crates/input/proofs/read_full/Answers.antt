@@ -1,7 +1,7 @@
 -- What one more read takes stands behind what was read before.
 use Rattle.std.proofs.Common.{rules}
-use Rattle.grid_program.proofs.InPlace.{joined}
-use Rattle.grid_program.proofs.input.read_full.Goals as goal
+use Rattle.input.proofs.InPlace.{joined}
+use Rattle.input.proofs.read_full.Goals as goal
 
 pub loop-n-preserved : goal.loop-n-preserved
 loop-n-preserved g c =
