@@ -4,4 +4,5 @@ use Rattle.replay.proofs.Filling.{IsFilling}
 use Rattle.replay.proofs.fill_values.Given as goal
 
 abbrev pub invariant-loop : goal.invariant-loop
-invariant-loop g l = IsFilling (λ rest. f32_at rest 4) l.n l.counter (g.R.Read.remaining l.initial.list) (g.R.Read.remaining l.list) l.initial.values l.values
+invariant-loop g l =
+    IsFilling (λ rest. f32_at rest 4) l.n l.counter (g.R.Read.remaining l.initial.list) (g.R.Read.remaining l.list) l.initial.values l.values
