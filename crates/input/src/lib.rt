@@ -1,5 +1,5 @@
-// Reads of an input into lent bytes, until they are full or the input ends. Nothing is allocated, so that a read can fail only as the input itself
-// does.
+// Reads of an input into lent bytes, until they are full or the input ends. Nothing is allocated: an error is the input's own, or that it was
+// interrupted at every one of 2^64 - 1 tries.
 #![tactic(auto)]
 
 ghost use Rattle.std.specs.Prelude.{◌≡◌, ◌≢◌, ◌+◌, ◌<◌, ◌≤◌, length, take, drop, OnOk, IfOk, IfErr, Some, IfSome};
@@ -10,7 +10,7 @@ ghost use Rattle.std.specs.IoError.{error_kind};
 use std::io;
 use std::io::{ErrorKind, Read};
 
-// One read, made again where a signal interrupts it.
+// One read, made again where a signal interrupts it. It gives up in the end, as the library's own reads do, since each function must return.
 fn read_once<R: Read>(input: &mut R, bytes: &mut [u8]) -> io::Result<usize>
     ensures bound { ReadsAtMost result bytes.new }
     ensures ok { IfOk result (λ n. Consumes (R.remaining input.old) (R.remaining input.new) (take n bytes.new)) }
@@ -27,7 +27,7 @@ fn read_once<R: Read>(input: &mut R, bytes: &mut [u8]) -> io::Result<usize>
             }
         }
     }
-    Err(io::Error::from(ErrorKind::Other))
+    Err(io::Error::from(ErrorKind::TimedOut))
 }
 
 // One read behind the first `at` bytes.

@@ -9,7 +9,7 @@ abbrev pub IsFilling : {A : Type 0} (value : List ℕ → A) (n i : ℕ) (known 
 IsFilling value n i known left start table =
     IfSome known (λ all. (filled value (n - i) (drop (8 * i) all) table ≡ filled value n all start) × (left ≡ Some (drop (8 * i) all)))
 
--- one place more: `at`, `x` and `rest` are what is read where `left` is known
+-- one place more: of what was left, `at` and `x` are read, and `rest` is left behind them
 pub goes_on : {A : Type 0} (value : List ℕ → A) (n i : ℕ) (known left rest : Option (List ℕ)) (start table put : List A) (at : ℕ) (x : A) → i < n
     → IfSome left (λ all. rest ≡ Some (drop 8 all)) → IfSome left (λ all. at ≡ u32_at all 0) → IfSome left (λ all. x ≡ value all)
     → put ≡ set table at x → IsFilling value n i known left start table → IsFilling value n (i + 1) known rest start put
@@ -21,8 +21,8 @@ goes_on value n i (Some all) left rest start table put at x lt r a v p inv =
     let here = rw inv.1 at r in
     let place = rw inv.1 at a in
     let word = rw inv.1 at v in
-    let left = rw one at inv.0 in
-    (rw (sym next, p, place, word) left, here ∙ ap Some next)
+    let before = rw one at inv.0 in
+    (rw (sym next, p, place, word) before, here ∙ ap Some next)
 
 -- what is made of a word that is the list's is what is made of the list's
 pub of_word : {A : Type 0} (value : ℕ → A) (left : Option (List ℕ)) (word : ℕ) {x : A} → IfSome left (λ all. word ≡ u32_at all 4) → x ≡ value word

@@ -3,15 +3,16 @@
 // what is read is what stands at its front.
 #![tactic(auto)]
 
-ghost use Rattle.std.specs.Prelude.{◌≡◌, ◌*◌, ◌%◌, ◌≤◌, ◌++◌, min, length, take, drop, set, OnOk, IfOk, Some, IfSome};
+ghost use Rattle.std.specs.Prelude.{◌≡◌, ◌≢◌, ◌*◌, ◌%◌, ◌≤◌, ◌++◌, min, length, take, drop, set, OnOk, IfOk, IfErr, Some, IfSome};
 ghost use Rattle.std.specs.Fmt.{decimal};
 ghost use Rattle.std.specs.Io.KnownBytes.{Appends};
+ghost use Rattle.std.specs.IoError.{error_kind};
 ghost use Rattle.layout.specs.Bytes.{u32_at, i32_at, f32_at};
 ghost use Rattle.replay.specs.Filled.{filled};
 
 use input::read_full;
 use std::io;
-use std::io::{Read, Write};
+use std::io::{ErrorKind, Read, Write};
 
 // How many cases a list may have.
 const MOST: u32 = 4096;
@@ -24,6 +25,7 @@ pub fn read_bytes<R: Read>(list: &mut R, bytes: &mut [u8]) -> io::Result<usize>
     ensures count { IfOk result (λ n. IfSome (R.remaining list.old) (λ all. n ≡ min (length all) (length bytes.old))) }
     ensures filled { IfOk result (λ n. IfSome (R.remaining list.old) (λ all. take n bytes.new ≡ take (length bytes.old) all)) }
     ensures rest { OnOk result (IfSome (R.remaining list.old) (λ all. R.remaining list.new ≡ Some (drop (length bytes.old) all))) }
+    ensures retried { IfErr result (λ e. error_kind e ≢ ErrorKind.Interrupted) }
 {
     read_full(list, bytes)
 }
@@ -32,6 +34,7 @@ pub fn read_bytes<R: Read>(list: &mut R, bytes: &mut [u8]) -> io::Result<usize>
 pub fn read_word<R: Read>(list: &mut R) -> io::Result<u32>
     ensures word { IfOk result (λ word. IfSome (R.remaining list.old) (λ all. word ≡ u32_at all 0)) }
     ensures rest { OnOk result (IfSome (R.remaining list.old) (λ all. R.remaining list.new ≡ Some (drop 4 all))) }
+    ensures retried { IfErr result (λ e. error_kind e ≢ ErrorKind.Interrupted) }
 {
     let mut b = [0u8; 4];
     let n = read_bytes(list, &mut b)?;
@@ -41,6 +44,7 @@ pub fn read_word<R: Read>(list: &mut R) -> io::Result<u32>
 pub fn read_number<R: Read>(list: &mut R) -> io::Result<i32>
     ensures number { IfOk result (λ number. IfSome (R.remaining list.old) (λ all. number ≡ i32_at all 0)) }
     ensures rest { OnOk result (IfSome (R.remaining list.old) (λ all. R.remaining list.new ≡ Some (drop 4 all))) }
+    ensures retried { IfErr result (λ e. error_kind e ≢ ErrorKind.Interrupted) }
 {
     let mut b = [0u8; 4];
     let n = read_bytes(list, &mut b)?;
@@ -50,6 +54,7 @@ pub fn read_number<R: Read>(list: &mut R) -> io::Result<i32>
 pub fn read_float<R: Read>(list: &mut R) -> io::Result<f32>
     ensures float { IfOk result (λ float. IfSome (R.remaining list.old) (λ all. float ≡ f32_at all 0)) }
     ensures rest { OnOk result (IfSome (R.remaining list.old) (λ all. R.remaining list.new ≡ Some (drop 4 all))) }
+    ensures retried { IfErr result (λ e. error_kind e ≢ ErrorKind.Interrupted) }
 {
     let mut b = [0u8; 4];
     let n = read_bytes(list, &mut b)?;
@@ -68,6 +73,7 @@ pub fn read_cases<R: Read>(list: &mut R) -> io::Result<u32>
     ensures bound { IfOk result (λ cases. cases ≤ 4096) }
     ensures value { IfOk result (λ cases. IfSome (R.remaining list.old) (λ all. cases ≡ min (u32_at all 0) 4096)) }
     ensures rest { OnOk result (IfSome (R.remaining list.old) (λ all. R.remaining list.new ≡ Some (drop 4 all))) }
+    ensures retried { IfErr result (λ e. error_kind e ≢ ErrorKind.Interrupted) }
 {
     Ok(least(read_word(list)?, MOST))
 }
@@ -87,6 +93,7 @@ pub fn read_place<R: Read>(list: &mut R) -> io::Result<Place>
     ensures word { IfOk result (λ place. IfSome (R.remaining list.old) (λ all. place.word ≡ u32_at all 4)) }
     ensures number { IfOk result (λ place. IfSome (R.remaining list.old) (λ all. place.number ≡ i32_at all 4)) }
     ensures rest { OnOk result (IfSome (R.remaining list.old) (λ all. R.remaining list.new ≡ Some (drop 8 all))) }
+    ensures retried { IfErr result (λ e. error_kind e ≢ ErrorKind.Interrupted) }
 {
     let mut b = [0u8; 8];
     let n = read_bytes(list, &mut b)?;
@@ -135,6 +142,7 @@ fn put_value(values: &mut [f32], at: usize, value: f32)
 pub fn fill_bytes<R: Read>(list: &mut R, n: u32, bytes: &mut [u8]) -> io::Result<()>
     ensures table { OnOk result (IfSome (R.remaining list.old) (λ all. bytes.new ≡ filled (λ rest. u32_at rest 4 % 256) n all bytes.old)) }
     ensures rest { OnOk result (IfSome (R.remaining list.old) (λ all. R.remaining list.new ≡ Some (drop (8 * n) all))) }
+    ensures retried { IfErr result (λ e. error_kind e ≢ ErrorKind.Interrupted) }
 {
     for _ in 0..n {
         let place = read_place(list)?;
@@ -146,6 +154,7 @@ pub fn fill_bytes<R: Read>(list: &mut R, n: u32, bytes: &mut [u8]) -> io::Result
 pub fn fill_numbers<R: Read>(list: &mut R, n: u32, numbers: &mut [i32]) -> io::Result<()>
     ensures table { OnOk result (IfSome (R.remaining list.old) (λ all. numbers.new ≡ filled (λ rest. i32_at rest 4) n all numbers.old)) }
     ensures rest { OnOk result (IfSome (R.remaining list.old) (λ all. R.remaining list.new ≡ Some (drop (8 * n) all))) }
+    ensures retried { IfErr result (λ e. error_kind e ≢ ErrorKind.Interrupted) }
 {
     for _ in 0..n {
         let place = read_place(list)?;
@@ -157,6 +166,7 @@ pub fn fill_numbers<R: Read>(list: &mut R, n: u32, numbers: &mut [i32]) -> io::R
 pub fn fill_links<R: Read>(list: &mut R, n: u32, links: &mut [u32]) -> io::Result<()>
     ensures table { OnOk result (IfSome (R.remaining list.old) (λ all. links.new ≡ filled (λ rest. u32_at rest 4) n all links.old)) }
     ensures rest { OnOk result (IfSome (R.remaining list.old) (λ all. R.remaining list.new ≡ Some (drop (8 * n) all))) }
+    ensures retried { IfErr result (λ e. error_kind e ≢ ErrorKind.Interrupted) }
 {
     for _ in 0..n {
         let place = read_place(list)?;
@@ -168,6 +178,7 @@ pub fn fill_links<R: Read>(list: &mut R, n: u32, links: &mut [u32]) -> io::Resul
 pub fn fill_values<R: Read>(list: &mut R, n: u32, values: &mut [f32]) -> io::Result<()>
     ensures table { OnOk result (IfSome (R.remaining list.old) (λ all. values.new ≡ filled (λ rest. f32_at rest 4) n all values.old)) }
     ensures rest { OnOk result (IfSome (R.remaining list.old) (λ all. R.remaining list.new ≡ Some (drop (8 * n) all))) }
+    ensures retried { IfErr result (λ e. error_kind e ≢ ErrorKind.Interrupted) }
 {
     for _ in 0..n {
         let place = read_place(list)?;

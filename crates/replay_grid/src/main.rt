@@ -36,7 +36,8 @@ fn lookup<R: Read>(
     ensures { IfOk result (λ differ. differ ≤ 1) }
 {
     let mut b = [0u8; 20];
-    read_bytes(list, &mut b)?;
+    let n = read_bytes(list, &mut b)?;
+    let b = &b[..n];
     let answer = sparse_grid::get_value(
         background,
         blocks,
@@ -47,11 +48,11 @@ fn lookup<R: Read>(
         lower_links,
         lower_values,
         leaf_values,
-        layout::i32_at(&b, 0),
-        layout::i32_at(&b, 4),
-        layout::i32_at(&b, 8),
+        layout::i32_at(b, 0),
+        layout::i32_at(b, 4),
+        layout::i32_at(b, 8),
     );
-    if answers(answer, layout::u32_at(&b, 12), layout::u32_at(&b, 16)) {
+    if answers(answer, layout::u32_at(b, 12), layout::u32_at(b, 16)) {
         Ok(0)
     } else {
         Ok(1)
@@ -204,9 +205,11 @@ fn asked(head: &[u8; 80]) -> u32
     least(head_word(head, 68), 65535)
 }
 
+// The head of a case. Bytes past the end of the list count as 0.
 fn read_head<R: Read>(list: &mut R) -> io::Result<[u8; 80]> {
     let mut head = [0u8; 80];
-    read_bytes(list, &mut head)?;
+    let n = read_bytes(list, &mut head)?;
+    head[n..].fill(0);
     Ok(head)
 }
 
