@@ -2,49 +2,68 @@
 #![tactic(auto)]
 
 ghost use Rattle.std.specs.Prelude.{◌≡◌};
+ghost use Rattle.refusals.specs.Numbers.{fault_of};
 ghost use Rattle.cells.specs.Cells.{cells, some_cells, cells_fault, table_fault, table_length};
+ghost use Rattle.cells.specs.Record.{as_cells};
 
-use refusals::both;
+use refusals::Refusal;
+
+// The numbers of cells on the three axes.
+#[derive(Clone, Copy, Debug, PartialEq, Eq)]
+pub struct Cells {
+    pub x: u32,
+    pub y: u32,
+    pub z: u32,
+}
 
 // Whether a number of cells on an axis passes.
 fn some_cells(n: u32) -> bool
     ensures { result ≡ some_cells n }
 {
-    both(1 <= n, n <= 128)
+    1 <= n && n <= 128
 }
 
-// 23 where one of the three does not.
-pub fn cells_fault(x: u32, y: u32, z: u32) -> u32
-    ensures { result ≡ cells_fault (cells x y z) }
-{
-    if both(both(some_cells(x), some_cells(y)), some_cells(z)) {
-        0
-    } else {
-        refusals::CELLS
+impl Cells {
+    // 23 where one of the three does not.
+    #[tactic(auto, unfolding(crate::specs::Cells::cells_fault))]
+    pub fn check(self) -> Result<(), Refusal>
+        ensures { fault_of result ≡ cells_fault (as_cells self) }
+    {
+        if some_cells(self.x) && some_cells(self.y) && some_cells(self.z) {
+            Ok(())
+        } else {
+            Err(Refusal::Cells)
+        }
+    }
+
+    // The length of a table with a figure for each cell: 0 where the numbers do not pass.
+    #[tactic(auto, using(crate::specs::Counted::count_small, crate::specs::Counted::counted), unfolding(crate::specs::Cells::table_length))]
+    pub fn table_length(self) -> usize
+        ensures { result ≡ table_length (as_cells self) }
+    {
+        match self.check() {
+            Ok(()) => (self.x as usize) * (self.y as usize) * (self.z as usize),
+            Err(_) => 0,
+        }
+    }
+
+    // 23, then 18 for a table of another length.
+    #[tactic(auto, using(crate::specs::Counted::length_is), unfolding(crate::specs::Cells::table_fault))]
+    pub fn check_table(self, places: usize) -> Result<(), Refusal>
+        ensures { fault_of result ≡ table_fault (as_cells self) places }
+    {
+        self.check()?;
+        if places == self.table_length() {
+            Ok(())
+        } else {
+            Err(Refusal::Tables)
+        }
     }
 }
 
-// The length of a table with a figure for each cell: 0 where the numbers do not pass.
-pub fn table_length(x: u32, y: u32, z: u32) -> usize
-    ensures { result ≡ table_length (cells x y z) }
-{
-    if cells_fault(x, y, z) != 0 {
-        return 0;
-    }
-    (x as usize) * (y as usize) * (z as usize)
-}
-
-// 23, then 18 for a table of another length.
+// The number of `check_table`'s refusal.
 pub fn table_fault(x: u32, y: u32, z: u32, places: usize) -> u32
     ensures { result ≡ table_fault (cells x y z) places }
 {
-    let fault = cells_fault(x, y, z);
-    if fault != 0 {
-        return fault;
-    }
-    if places == table_length(x, y, z) {
-        0
-    } else {
-        refusals::TABLES
-    }
+    refusals::fault(Cells { x, y, z }.check_table(places))
 }

@@ -1,64 +1,61 @@
-// The numbers of the refusals, and how tests are joined. README.md says in words what each number means.
+// The refusals: an answer is a value or one of them. README.md says in words what each number means.
 #![tactic(auto)]
 
 ghost use Rattle.std.specs.Prelude.{◌≡◌, ◌&&◌};
 ghost use Rattle.refusals.specs.Faults.{◌then◌};
+ghost use Rattle.refusals.specs.Numbers.{number, fault_of};
 
-pub const TOO_LONG: u32 = 1;
+// Why bytes, a record, a box or a point are refused: the variants stand in the order of their numbers, from 1 on.
+#[derive(Clone, Copy, Debug, PartialEq, Eq)]
+pub enum Refusal {
+    TooLong = 1,
+    TooShort,
+    Header,
+    WorldBox,
+    PastEnd,
+    Overlap,
+    KeyBit,
+    ChildTarget,
+    NoPlace,
+    NodeCounts,
+    Record,
+    NotFinite,
+    Map,
+    IndexBox,
+    Negative,
+    Coordinate,
+    SecondBox,
+    Tables,
+    File,
+    Codec,
+    NoGrid,
+    Ray,
+    Cells,
+    Outside,
+    Classes,
+    Window,
+    Temperature,
+    Layer,
+}
 
-pub const TOO_SHORT: u32 = 2;
+impl Refusal {
+    // The number that the C interface and the texts have for it.
+    pub fn number(self) -> u32
+        ensures { result ≡ number self }
+    {
+        self as u32
+    }
+}
 
-pub const HEADER: u32 = 3;
-
-pub const WORLD_BOX: u32 = 4;
-
-pub const PAST_END: u32 = 5;
-
-pub const OVERLAP: u32 = 6;
-
-pub const KEY_BIT: u32 = 7;
-
-pub const CHILD_TARGET: u32 = 8;
-
-pub const NO_PLACE: u32 = 9;
-
-pub const NODE_COUNTS: u32 = 10;
-
-pub const RECORD: u32 = 11;
-
-pub const NOT_FINITE: u32 = 12;
-
-pub const MAP: u32 = 13;
-
-pub const INDEX_BOX: u32 = 14;
-
-pub const NEGATIVE: u32 = 15;
-
-pub const COORDINATE: u32 = 16;
-
-pub const SECOND_BOX: u32 = 17;
-
-pub const TABLES: u32 = 18;
-
-pub const FILE: u32 = 19;
-
-pub const CODEC: u32 = 20;
-
-pub const NO_GRID: u32 = 21;
-
-pub const RAY: u32 = 22;
-
-pub const CELLS: u32 = 23;
-
-pub const OUTSIDE: u32 = 24;
-
-pub const CLASSES: u32 = 25;
-
-pub const WINDOW: u32 = 26;
-
-pub const TEMPERATURE: u32 = 27;
-
-pub const LAYER: u32 = 28;
+// The number of a test's refusal, and 0 where it passes.
+pub fn fault(test: Result<(), Refusal>) -> u32
+    ensures { result ≡ fault_of test }
+{
+    match test {
+        Ok(()) => 0,
+        Err(e) => e.number(),
+    }
+}
 
 // The first of two faults, of which 0 is none.
 pub fn first_fault(a: u32, b: u32) -> u32
