@@ -23,9 +23,3 @@ goes_on value n i (Some all) left rest start table put at x lt r a v p inv =
     let word = rw inv.1 at v in
     let before = rw one at inv.0 in
     (rw (sym next, p, place, word) before, here ∙ ap Some next)
-
--- what is made of a word that is the list's is what is made of the list's
-pub of_word : {A : Type 0} (value : ℕ → A) (left : Option (List ℕ)) (word : ℕ) {x : A} → IfSome left (λ all. word ≡ u32_at all 4) → x ≡ value word
-    → IfSome left (λ all. x ≡ value (u32_at all 4))
-of_word value None word same made = tt
-of_word value (Some all) word same made = made ∙ ap value same

@@ -3,14 +3,17 @@
 // what is read is what stands at its front.
 #![tactic(auto)]
 
-ghost use Rattle.std.specs.Prelude.{◌≡◌, ◌≢◌, ◌*◌, ◌%◌, ◌≤◌, ◌++◌, min, length, take, drop, set, OnOk, IfOk, IfErr, Some, IfSome};
+ghost use Rattle.std.specs.Prelude.{◌≡◌, ◌≢◌, ◌+◌, ◌*◌, ◌≤◌, ◌++◌, ℕ, List, min, set, length, take, drop, OnOk, IfOk, IfErr, Some, IfSome};
 ghost use Rattle.std.specs.Fmt.{decimal};
 ghost use Rattle.std.specs.Io.KnownBytes.{Appends};
 ghost use Rattle.std.specs.IoError.{error_kind};
 ghost use Rattle.layout.specs.Bytes.{u32_at, i32_at, f32_at};
+ghost use Rattle.replay.specs.Words.{byte_word};
+ghost use Rattle.replay.specs.WordLaws.{byte_front, word_front, number_front, float_front};
 ghost use Rattle.replay.specs.Filled.{filled};
 
 use input::read_full;
+use layout::Field;
 use std::io;
 use std::io::{ErrorKind, Read, Write};
 
@@ -30,42 +33,66 @@ pub fn read_bytes<R: Read>(list: &mut R, bytes: &mut [u8]) -> io::Result<usize>
     read_full(list, bytes)
 }
 
-// The next word: without a sign, with one, and as a float. Bytes past the end count as 0.
-pub fn read_word<R: Read>(list: &mut R) -> io::Result<u32>
-    ensures word { IfOk result (λ word. IfSome (R.remaining list.old) (λ all. word ≡ u32_at all 0)) }
+// What the four bytes of a word say: a byte is the lowest of them.
+pub trait Word: Copy {
+    ghost word: { List ℕ → ℕ → Self };
+
+    fn word_at(b: &[u8], at: usize) -> Self
+        ensures { result ≡ word b.now at };
+
+    // A word that lies in the first k bytes is that of these bytes.
+    ghost front: { (k : ℕ) (all : List ℕ) (at : ℕ) → at + 4 ≤ k → word (take k all) at ≡ word all at };
+}
+
+impl Word for u8 {
+    ghost word = { byte_word };
+
+    ghost front = { byte_front };
+
+    fn word_at(b: &[u8], at: usize) -> u8 {
+        (u32::at(b, at) % 256) as u8
+    }
+}
+
+impl Word for u32 {
+    ghost word = { u32_at };
+
+    ghost front = { word_front };
+
+    fn word_at(b: &[u8], at: usize) -> u32 {
+        u32::at(b, at)
+    }
+}
+
+impl Word for i32 {
+    ghost word = { i32_at };
+
+    ghost front = { number_front };
+
+    fn word_at(b: &[u8], at: usize) -> i32 {
+        i32::at(b, at)
+    }
+}
+
+impl Word for f32 {
+    ghost word = { f32_at };
+
+    ghost front = { float_front };
+
+    fn word_at(b: &[u8], at: usize) -> f32 {
+        f32::at(b, at)
+    }
+}
+
+// The next word of a list. Bytes past the end count as 0.
+pub fn read_word<T: Word, R: Read>(list: &mut R) -> io::Result<T>
+    ensures word { IfOk result (λ word. IfSome (R.remaining list.old) (λ all. word ≡ T.word all 0)) }
     ensures rest { OnOk result (IfSome (R.remaining list.old) (λ all. R.remaining list.new ≡ Some (drop 4 all))) }
     ensures retried { IfErr result (λ e. error_kind e ≢ ErrorKind.Interrupted) }
 {
     let mut b = [0u8; 4];
     let n = read_bytes(list, &mut b)?;
-    Ok(layout::u32_at(&b[..n], 0))
-}
-
-pub fn read_number<R: Read>(list: &mut R) -> io::Result<i32>
-    ensures number { IfOk result (λ number. IfSome (R.remaining list.old) (λ all. number ≡ i32_at all 0)) }
-    ensures rest { OnOk result (IfSome (R.remaining list.old) (λ all. R.remaining list.new ≡ Some (drop 4 all))) }
-    ensures retried { IfErr result (λ e. error_kind e ≢ ErrorKind.Interrupted) }
-{
-    let mut b = [0u8; 4];
-    let n = read_bytes(list, &mut b)?;
-    Ok(layout::i32_at(&b[..n], 0))
-}
-
-pub fn read_float<R: Read>(list: &mut R) -> io::Result<f32>
-    ensures float { IfOk result (λ float. IfSome (R.remaining list.old) (λ all. float ≡ f32_at all 0)) }
-    ensures rest { OnOk result (IfSome (R.remaining list.old) (λ all. R.remaining list.new ≡ Some (drop 4 all))) }
-    ensures retried { IfErr result (λ e. error_kind e ≢ ErrorKind.Interrupted) }
-{
-    let mut b = [0u8; 4];
-    let n = read_bytes(list, &mut b)?;
-    Ok(layout::f32_at(&b[..n], 0))
-}
-
-// The lesser of two.
-pub fn least(a: u32, b: u32) -> u32
-    ensures { result ≡ min a b }
-{
-    if a < b { a } else { b }
+    Ok(T::word_at(&b[..n], 0))
 }
 
 // How many cases are replayed: the first word of the list, and no more than 4,096.
@@ -75,150 +102,60 @@ pub fn read_cases<R: Read>(list: &mut R) -> io::Result<u32>
     ensures rest { OnOk result (IfSome (R.remaining list.old) (λ all. R.remaining list.new ≡ Some (drop 4 all))) }
     ensures retried { IfErr result (λ e. error_kind e ≢ ErrorKind.Interrupted) }
 {
-    Ok(least(read_word(list)?, MOST))
+    Ok(read_word::<u32, R>(list)?.min(MOST))
 }
 
 // ---- tables
 
-// A place of a table and the word there, without and with a sign.
+// A place of a table, and what stands there.
 #[derive(Clone, Copy)]
-pub struct Place {
+pub struct Placed<T> {
     pub at: usize,
-    pub word: u32,
-    pub number: i32,
+    pub value: T,
 }
 
-pub fn read_place<R: Read>(list: &mut R) -> io::Result<Place>
-    ensures at { IfOk result (λ place. IfSome (R.remaining list.old) (λ all. place.at ≡ u32_at all 0)) }
-    ensures word { IfOk result (λ place. IfSome (R.remaining list.old) (λ all. place.word ≡ u32_at all 4)) }
-    ensures number { IfOk result (λ place. IfSome (R.remaining list.old) (λ all. place.number ≡ i32_at all 4)) }
+pub fn read_placed<T: Word, R: Read>(list: &mut R) -> io::Result<Placed<T>>
+    ensures at { IfOk result (λ placed. IfSome (R.remaining list.old) (λ all. placed.at ≡ u32_at all 0)) }
+    ensures value { IfOk result (λ placed. IfSome (R.remaining list.old) (λ all. placed.value ≡ T.word all 4)) }
     ensures rest { OnOk result (IfSome (R.remaining list.old) (λ all. R.remaining list.new ≡ Some (drop 8 all))) }
     ensures retried { IfErr result (λ e. error_kind e ≢ ErrorKind.Interrupted) }
 {
     let mut b = [0u8; 8];
     let n = read_bytes(list, &mut b)?;
     let b = &b[..n];
-    Ok(Place {
-        at: layout::u32_at(b, 0) as usize,
-        word: layout::u32_at(b, 4),
-        number: layout::i32_at(b, 4),
+    Ok(Placed {
+        at: u32::at(b, 0) as usize,
+        value: T::word_at(b, 4),
     })
 }
 
 // A place past the end of a table is passed over.
-fn put_byte(bytes: &mut [u8], at: usize, value: u32)
-    ensures { bytes.new ≡ set bytes.old at (value % 256) }
+fn put<T: Copy>(table: &mut [T], placed: Placed<T>)
+    ensures { table.new ≡ set table.old placed.at placed.value }
 {
-    if at < bytes.len() {
-        bytes[at] = (value % 256) as u8;
-    }
-}
-
-fn put_number(numbers: &mut [i32], at: usize, value: i32)
-    ensures { numbers.new ≡ set numbers.old at value }
-{
-    if at < numbers.len() {
-        numbers[at] = value;
-    }
-}
-
-fn put_link(links: &mut [u32], at: usize, value: u32)
-    ensures { links.new ≡ set links.old at value }
-{
-    if at < links.len() {
-        links[at] = value;
-    }
-}
-
-fn put_value(values: &mut [f32], at: usize, value: f32)
-    ensures { values.new ≡ set values.old at value }
-{
-    if at < values.len() {
-        values[at] = value;
+    if placed.at < table.len() {
+        table[placed.at] = placed.value;
     }
 }
 
 // The next n words of a table, each read with its place.
-pub fn fill_bytes<R: Read>(list: &mut R, n: u32, bytes: &mut [u8]) -> io::Result<()>
-    ensures table { OnOk result (IfSome (R.remaining list.old) (λ all. bytes.new ≡ filled (λ rest. u32_at rest 4 % 256) n all bytes.old)) }
+pub fn fill<T: Word, R: Read>(list: &mut R, n: u32, table: &mut [T]) -> io::Result<()>
+    ensures table { OnOk result (IfSome (R.remaining list.old) (λ all. table.new ≡ filled (λ rest. T.word rest 4) n all table.old)) }
     ensures rest { OnOk result (IfSome (R.remaining list.old) (λ all. R.remaining list.new ≡ Some (drop (8 * n) all))) }
     ensures retried { IfErr result (λ e. error_kind e ≢ ErrorKind.Interrupted) }
 {
     for _ in 0..n {
-        let place = read_place(list)?;
-        put_byte(bytes, place.at, place.word);
+        let placed = read_placed(list)?;
+        put(table, placed);
     }
     Ok(())
 }
 
-pub fn fill_numbers<R: Read>(list: &mut R, n: u32, numbers: &mut [i32]) -> io::Result<()>
-    ensures table { OnOk result (IfSome (R.remaining list.old) (λ all. numbers.new ≡ filled (λ rest. i32_at rest 4) n all numbers.old)) }
-    ensures rest { OnOk result (IfSome (R.remaining list.old) (λ all. R.remaining list.new ≡ Some (drop (8 * n) all))) }
-    ensures retried { IfErr result (λ e. error_kind e ≢ ErrorKind.Interrupted) }
+// The first n of a table, or all of it.
+pub fn first<T>(table: &[T], n: usize) -> &[T]
+    ensures { result.now ≡ take n table.now }
 {
-    for _ in 0..n {
-        let place = read_place(list)?;
-        put_number(numbers, place.at, place.number);
-    }
-    Ok(())
-}
-
-pub fn fill_links<R: Read>(list: &mut R, n: u32, links: &mut [u32]) -> io::Result<()>
-    ensures table { OnOk result (IfSome (R.remaining list.old) (λ all. links.new ≡ filled (λ rest. u32_at rest 4) n all links.old)) }
-    ensures rest { OnOk result (IfSome (R.remaining list.old) (λ all. R.remaining list.new ≡ Some (drop (8 * n) all))) }
-    ensures retried { IfErr result (λ e. error_kind e ≢ ErrorKind.Interrupted) }
-{
-    for _ in 0..n {
-        let place = read_place(list)?;
-        put_link(links, place.at, place.word);
-    }
-    Ok(())
-}
-
-pub fn fill_values<R: Read>(list: &mut R, n: u32, values: &mut [f32]) -> io::Result<()>
-    ensures table { OnOk result (IfSome (R.remaining list.old) (λ all. values.new ≡ filled (λ rest. f32_at rest 4) n all values.old)) }
-    ensures rest { OnOk result (IfSome (R.remaining list.old) (λ all. R.remaining list.new ≡ Some (drop (8 * n) all))) }
-    ensures retried { IfErr result (λ e. error_kind e ≢ ErrorKind.Interrupted) }
-{
-    for _ in 0..n {
-        let place = read_place(list)?;
-        put_value(values, place.at, float::float_of(place.word));
-    }
-    Ok(())
-}
-
-// ---- the first n of a table, or all of it
-
-pub fn first_bytes(bytes: &[u8], n: usize) -> &[u8]
-    ensures { result.now ≡ take n bytes.now }
-{
-    if n < bytes.len() { &bytes[..n] } else { bytes }
-}
-
-pub fn first_numbers(numbers: &[i32], n: usize) -> &[i32]
-    ensures { result.now ≡ take n numbers.now }
-{
-    if n < numbers.len() {
-        &numbers[..n]
-    } else {
-        numbers
-    }
-}
-
-pub fn first_links(links: &[u32], n: usize) -> &[u32]
-    ensures { result.now ≡ take n links.now }
-{
-    if n < links.len() { &links[..n] } else { links }
-}
-
-pub fn first_values(values: &[f32], n: usize) -> &[f32]
-    ensures { result.now ≡ take n values.now }
-{
-    if n < values.len() {
-        &values[..n]
-    } else {
-        values
-    }
+    table.get(..n).unwrap_or(table)
 }
 
 // ---- counts

@@ -17,18 +17,14 @@ ghost use Rattle.std.specs.Prelude.{◌≤◌, IfOk};
 use claim::{Asked, Question};
 use decode::Decoded;
 use medium::Medium;
-use refusals::both;
-use replay::{
-    fill_bytes, first_bytes, first_links, first_numbers, first_values, read_cases, read_float,
-    read_number, read_place, read_word, report,
-};
+use replay::{Placed, fill, first, read_cases, read_placed, read_word, report};
 use std::io;
 use std::io::Read;
 
 // ---- what the answer says
 
 fn same<R: Read>(list: &mut R, a: u32) -> io::Result<bool> {
-    let b = read_word(list)?;
+    let b: u32 = read_word(list)?;
     Ok(a == b)
 }
 
@@ -36,42 +32,33 @@ fn same_float<R: Read>(list: &mut R, a: f32) -> io::Result<bool> {
     same(list, float::bits_of(a))
 }
 
-fn same_number<R: Read>(list: &mut R, a: i32) -> io::Result<bool> {
-    let b = read_number(list)?;
-    Ok(a == b)
-}
-
 fn same_count<R: Read>(list: &mut R, a: usize) -> io::Result<bool> {
-    let b = read_word(list)? as usize;
-    Ok(a == b)
+    let b: u32 = read_word(list)?;
+    Ok(a == b as usize)
 }
 
-fn same_point<R: Read>(list: &mut R, x: f32, y: f32, z: f32) -> io::Result<bool> {
-    let a = same_float(list, x)?;
-    let b = same_float(list, y)?;
-    let c = same_float(list, z)?;
-    Ok(both(a, both(b, c)))
+fn same_floats<R: Read>(list: &mut R, row: &[f32]) -> io::Result<bool> {
+    let mut same = true;
+    for x in row {
+        same &= same_float(list, *x)?;
+    }
+    Ok(same)
 }
 
-fn same_corner<R: Read>(list: &mut R, x: i32, y: i32, z: i32) -> io::Result<bool> {
-    let a = same_number(list, x)?;
-    let b = same_number(list, y)?;
-    let c = same_number(list, z)?;
-    Ok(both(a, both(b, c)))
+fn same_corner<R: Read>(list: &mut R, corner: &[i32]) -> io::Result<bool> {
+    let mut same = true;
+    for x in corner {
+        let b: i32 = read_word(list)?;
+        same &= *x == b;
+    }
+    Ok(same)
 }
 
 fn same_medium<R: Read>(list: &mut R, m: Medium) -> io::Result<bool> {
-    let low = same_point(list, m.low[0], m.low[1], m.low[2])?;
-    let high = same_point(list, m.high[0], m.high[1], m.high[2])?;
-    let x = same_point(list, m.map[0], m.map[1], m.map[2])?;
-    let y = same_point(list, m.map[3], m.map[4], m.map[5])?;
-    let z = same_point(list, m.map[6], m.map[7], m.map[8])?;
-    let moved = same_point(list, m.translation[0], m.translation[1], m.translation[2])?;
-    let index_low = same_corner(list, m.index_low[0], m.index_low[1], m.index_low[2])?;
-    let index_high = same_corner(list, m.index_high[0], m.index_high[1], m.index_high[2])?;
-    let world = both(low, high);
-    let map = both(both(x, y), both(z, moved));
-    Ok(both(both(world, map), both(index_low, index_high)))
+    let world = same_floats(list, &m.low)? & same_floats(list, &m.high)?;
+    let map = same_floats(list, &m.map)? & same_floats(list, &m.translation)?;
+    let index = same_corner(list, &m.index_low)? & same_corner(list, &m.index_high)?;
+    Ok(world & map & index)
 }
 
 fn same_answer<R: Read>(list: &mut R, d: Decoded) -> io::Result<bool> {
@@ -82,52 +69,36 @@ fn same_answer<R: Read>(list: &mut R, d: Decoded) -> io::Result<bool> {
     let leaf = same_count(list, d.leaf)?;
     let background = same_float(list, d.background)?;
     let medium = same_medium(list, d.medium)?;
-    let counts = both(both(roots, upper), both(lower, leaf));
-    Ok(both(both(number, counts), both(background, medium)))
+    Ok(number & roots & upper & lower & leaf & background & medium)
 }
 
-// ---- what is left in a table, word for word
-
-fn same_numbers<R: Read>(list: &mut R, table: &[i32]) -> io::Result<bool> {
+// What is left in a table, word for word: the words that are not 0 are listed, each with its place.
+fn same_table<R: Read, T: Copy, F: Fn(T) -> u32>(
+    list: &mut R,
+    table: &[T],
+    word_of: F,
+) -> io::Result<bool>
+    requires { F.IsAlwaysCallable word_of }
+{
     let mut same = true;
-    let mut next = read_place(list)?;
+    let mut next: Placed<u32> = read_placed(list)?;
     for (i, x) in table.iter().enumerate() {
         if i == next.at {
-            same = both(same, *x == next.number);
-            next = read_place(list)?;
+            same &= word_of(*x) == next.value;
+            next = read_placed(list)?;
         } else {
-            same = both(same, *x == 0);
+            same &= word_of(*x) == 0;
         }
     }
     Ok(same)
 }
 
 fn same_links<R: Read>(list: &mut R, table: &[u32]) -> io::Result<bool> {
-    let mut same = true;
-    let mut next = read_place(list)?;
-    for (i, x) in table.iter().enumerate() {
-        if i == next.at {
-            same = both(same, *x == next.word);
-            next = read_place(list)?;
-        } else {
-            same = both(same, *x == 0);
-        }
-    }
-    Ok(same)
+    same_table(list, table, |x: u32| x)
 }
 
 fn same_values<R: Read>(list: &mut R, table: &[f32]) -> io::Result<bool> {
-    let mut same = true;
-    let mut next = read_place(list)?;
-    for (i, x) in table.iter().enumerate() {
-        if i == next.at {
-            same = both(same, float::bits_of(*x) == next.word);
-            next = read_place(list)?;
-        } else {
-            same = both(same, float::bits_of(*x) == 0);
-        }
-    }
-    Ok(same)
+    same_table(list, table, |x: f32| float::bits_of(x))
 }
 
 // The work table is left with zeros.
@@ -154,10 +125,10 @@ fn figure_is(majorants: &[f32], cell: usize, bits: u32) -> bool {
 // The listed figures.
 fn same_figures<R: Read>(list: &mut R, majorants: &[f32]) -> io::Result<bool> {
     let mut same = true;
-    let n = read_word(list)?;
+    let n: u32 = read_word(list)?;
     for _ in 0..n {
-        let place = read_place(list)?;
-        same = both(same, figure_is(majorants, place.at, place.word));
+        let figure: Placed<u32> = read_placed(list)?;
+        same &= figure_is(majorants, figure.at, figure.value);
     }
     Ok(same)
 }
@@ -180,34 +151,34 @@ fn same_build<R: Read>(
     let mut majorants = [0.0f32; 262144];
     let number = majorant::build_majorant(
         d.background,
-        first_numbers(blocks, small(d.roots) * 3),
-        first_links(root_links, d.roots),
-        first_values(root_values, d.roots),
-        first_links(upper_links, upper),
-        first_values(upper_values, upper),
-        first_links(lower_links, lower),
-        first_values(lower_values, lower),
-        first_values(leaf_values, small(d.leaf) * 512),
+        first(blocks, small(d.roots) * 3),
+        first(root_links, d.roots),
+        first(root_values, d.roots),
+        first(upper_links, upper),
+        first(upper_values, upper),
+        first(lower_links, lower),
+        first(lower_values, lower),
+        first(leaf_values, small(d.leaf) * 512),
         d.medium,
         &mut majorants,
     );
     let answer = same(list, number)?;
-    Ok(both(answer, same_figures(list, &majorants)?))
+    Ok(answer & same_figures(list, &majorants)?)
 }
 
 // ---- the question
 
 fn read_corner<R: Read>(list: &mut R) -> io::Result<[i32; 3]> {
-    let x = read_number(list)?;
-    let y = read_number(list)?;
-    let z = read_number(list)?;
+    let x = read_word(list)?;
+    let y = read_word(list)?;
+    let z = read_word(list)?;
     Ok([x, y, z])
 }
 
 fn read_point<R: Read>(list: &mut R) -> io::Result<[f32; 3]> {
-    let x = read_float(list)?;
-    let y = read_float(list)?;
-    let z = read_float(list)?;
+    let x = read_word(list)?;
+    let y = read_word(list)?;
+    let z = read_word(list)?;
     Ok([x, y, z])
 }
 
@@ -232,10 +203,7 @@ fn same_asked<R: Read>(list: &mut R, a: Asked) -> io::Result<bool> {
     let maximum = same_float(list, a.maximum)?;
     let cell = same(list, a.cell)?;
     let figure = same_float(list, a.figure)?;
-    Ok(both(
-        both(both(number, build), cell),
-        both(value, both(maximum, figure)),
-    ))
+    Ok(number & build & value & maximum & cell & figure)
 }
 
 // Whether the answer is as listed, and whether it tells of smoke beside a build that was accepted, and beside one that was refused.
@@ -252,8 +220,8 @@ fn compare<R: Read>(list: &mut R, a: Asked) -> io::Result<Told> {
     let smoke = a.maximum > 0.0;
     Ok(Told {
         same: same_asked(list, a)?,
-        smoke: both(given, smoke),
-        unbuilt: both(loaded.build != 0, smoke),
+        smoke: given && smoke,
+        unbuilt: !given && smoke,
     })
 }
 
@@ -313,7 +281,7 @@ fn replay_bytes<R: Read>(list: &mut R, bytes: &[u8]) -> io::Result<bool> {
         &mut work,
     );
     let answer = same_answer(list, d)?;
-    let roots = same_numbers(list, &blocks)?;
+    let roots = same_table(list, &blocks, |x: i32| x.cast_unsigned())?;
     let links = same_links(list, &root_links)?;
     let values = same_values(list, &root_values)?;
     let upper = same_links(list, &upper_links)?;
@@ -321,8 +289,7 @@ fn replay_bytes<R: Read>(list: &mut R, bytes: &[u8]) -> io::Result<bool> {
     let lower = same_links(list, &lower_links)?;
     let below = same_values(list, &lower_values)?;
     let leaf = same_values(list, &leaf_values)?;
-    let top = both(both(answer, roots), both(links, values));
-    let nodes = both(both(upper, above), both(lower, below));
+    let tables = roots & links & values & upper & above & lower & below & leaf;
     let built = same_build(
         list,
         d,
@@ -335,7 +302,7 @@ fn replay_bytes<R: Read>(list: &mut R, bytes: &[u8]) -> io::Result<bool> {
         &lower_values,
         &leaf_values,
     )?;
-    Ok(both(both(top, nodes), both(both(leaf, built), cleared(&work))))
+    Ok(answer & tables & built & cleared(&work))
 }
 
 // 1 where a case differs, 1 where smoke was found, and 1 where it was found beside a refused build.
@@ -361,14 +328,14 @@ fn replay<R: Read>(list: &mut R) -> io::Result<Counted>
     ensures { IfOk result (λ counted. (counted.differ ≤ 1) × (counted.smoky ≤ 1) × (counted.unbuilt ≤ 1)) }
 {
     let mut bytes = empty_bytes();
-    let length = read_word(list)? as usize;
-    let n = read_word(list)?;
-    fill_bytes(list, n, &mut bytes)?;
-    let grid = first_bytes(&bytes, length);
+    let length: u32 = read_word(list)?;
+    let n: u32 = read_word(list)?;
+    fill(list, n, &mut bytes)?;
+    let grid = first(&bytes, length as usize);
     let same = replay_bytes(list, grid)?;
     let asked = replay_question(list, grid)?;
     Ok(Counted {
-        differ: 1 - count_one(both(same, asked.same)),
+        differ: 1 - count_one(same && asked.same),
         smoky: count_one(asked.smoke),
         unbuilt: count_one(asked.unbuilt),
     })

@@ -1,8 +1,0 @@
--- the places that are left still do to the table what they do to that of the start
-use Rattle.layout.specs.Bytes.{f32_at}
-use Rattle.replay.proofs.Filling.{IsFilling}
-use Rattle.replay.proofs.fill_values.Given as goal
-
-abbrev pub invariant-loop : goal.invariant-loop
-invariant-loop g l =
-    IsFilling (λ rest. f32_at rest 4) l.n l.counter (g.R.Read.remaining l.initial.list) (g.R.Read.remaining l.list) l.initial.values l.values
