@@ -18,25 +18,22 @@ module _ {l : List Float} {p : Float → Bool} where
   pub begun : Tested l p true 0
   begun = record { inside = omega arith; whole = refl }
 
-  -- place i, whose figure passes where t is true
-  module _ {i : ℕ} {s t : Bool} (tested : Tested l p s i) (within : i < length l) (here : t ≡ p (get_or l i nan)) where
-    next : (b : Bool) → t ≡ b → (s && (b && every p (drop (i + 1) l))) ≡ every p l
-    unfolding every
-    next b e =
-        ap (λ (k : ℕ). s && (b && every p (drop k l))) (add-one i)
-        ∙ ap (λ (u : Bool). s && (u && every p (drop (suc i) l))) (sym e ∙ here)
+  -- place i, of whose figure t says whether it passes
+  pub turned : {i : ℕ} {s t : Bool} → Tested l p s i → i < length l → t ≡ p (get_or l i nan) → Tested l p (s && t) (i + 1)
+  unfolding every
+  turned {i} {s} {t} tested within here = record {
+    inside = omega arith;
+    whole =
+        joined s t (every p (drop (i + 1) l))
+        ∙ ap (λ (k : ℕ). s && (t && every p (drop k l))) (add-one i)
+        ∙ ap (λ (u : Bool). s && (u && every p (drop (suc i) l))) here
         ∙ ap (λ (k : List Float). s && every p k) (sym (drop-cons l i nan within))
-        ∙ tested.whole
-
-    pub passed : {u : Bool} → t ≡ true → u ≡ s → Tested l p u (i + 1)
-    passed e q = record { inside = omega arith; whole = ap (λ (b : Bool). b && every p (drop (i + 1) l)) q ∙ next true e }
-
-    pub failed : {u : Bool} → t ≡ false → u ≡ false → Tested l p u (i + 1)
-    failed e q = record { inside = omega arith; whole = ap (λ (b : Bool). b && every p (drop (i + 1) l)) q ∙ none s ∙ next false e }
-      where
-        none : (b : Bool) → false ≡ (b && false)
-        none true = refl
-        none false = refl
+        ∙ tested.whole;
+  }
+    where
+      joined : (a b c : Bool) → ((a && b) && c) ≡ (a && (b && c))
+      joined true b c = refl
+      joined false b c = refl
 
   pub ended : {i : ℕ} {s : Bool} → Tested l p s i → length l ≤ i → s ≡ every p l
   unfolding every
