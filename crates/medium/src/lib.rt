@@ -1,9 +1,10 @@
 // The medium record: the corners of the world box, the corners of the index box, the inverse map row after row, the
 // translation, how many cells a build cuts the world box into on each axis, and whether a temperature grid stands beside the
-// density grid. Its checks are the decode's and the build's: each answers its number, or 0 where the record passes.
+// density grid. Its checks are the decode's and the build's.
 #![tactic(auto)]
 
-ghost use Rattle.std.specs.Prelude.{◌≡◌, ◌&&◌};
+ghost use Rattle.std.specs.Prelude.{◌≡◌, ◌<◌, ◌&&◌, get_or, pos};
+ghost use Rattle.refusals.specs.Numbers.{fault_of};
 ghost use Rattle.std.specs.Int.Signed.{le_z};
 ghost use Rattle.std.specs.Float.{binary32};
 ghost use Rattle.std.specs.Float.Ieee.{sub, lt};
@@ -13,7 +14,10 @@ ghost use Rattle.medium.specs.Medium.{make_medium, no_temperature, with_temperat
 ghost use Rattle.medium.specs.Medium.{bounds_fault, index_fault, map_fault, medium_fault, each, diagonal, zeroes};
 ghost use Rattle.medium.specs.Record.{point_of, coord_of, nine_of, cells_of, as_temperature, as_medium};
 
-use refusals::{both, first_fault};
+mod bridge;
+
+pub use bridge::{bounds_fault, index_fault, map_fault, medium_fault};
+use refusals::Refusal;
 
 // Whether there is a temperature grid, and what a value of it is read by: (value - offset) * scale. Its tables stand beside.
 #[derive(Clone, Copy)]
@@ -60,13 +64,13 @@ pub fn make_medium(
         (point_of translation) (cells_of cells) }
 {
     Medium {
-        low: low,
-        high: high,
-        index_low: index_low,
-        index_high: index_high,
-        map: map,
-        translation: translation,
-        cells: cells,
+        low,
+        high,
+        index_low,
+        index_high,
+        map,
+        translation,
+        cells,
         temperature: no_temperature(),
     }
 }
@@ -75,52 +79,34 @@ pub fn make_medium(
 pub fn with_temperature(m: Medium, temperature: Temperature) -> Medium
     ensures { as_medium result ≡ with_temperature (as_temperature temperature) (as_medium m) }
 {
-    let mut n = m;
-    n.temperature = temperature;
-    n
+    Medium { temperature, ..m }
 }
 
 // One axis of the world box.
-fn bounds_on(low: f32, high: f32) -> u32
-    ensures { result ≡ unless (finite low && finite high && lt low high && finite (sub binary32 high low)) 4 }
+fn check_bounds_on(low: f32, high: f32) -> Result<(), Refusal>
+    ensures { fault_of result ≡ unless (finite low && finite high && lt low high && finite (sub binary32 high low)) 4 }
 {
-    let ends = both(float::is_finite(low), float::is_finite(high));
-    let wide = both(both(ends, low < high), float::is_finite(high - low));
-    if wide { 0 } else { refusals::WORLD_BOX }
+    let ends = float::is_finite(low) && float::is_finite(high);
+    if ends && low < high && float::is_finite(high - low) {
+        Ok(())
+    } else {
+        Err(Refusal::WorldBox)
+    }
 }
 
 // One axis of the index box.
-fn index_on(low: i32, high: i32) -> u32
-    ensures { result ≡ unless (le_z low high) 14 }
+fn in_order(low: &[i32; 3], high: &[i32; 3], axis: usize) -> bool
+    requires { axis < 3 }
+    ensures { result ≡ le_z (get_or low.now axis (pos 0)) (get_or high.now axis (pos 0)) }
 {
-    if low <= high { 0 } else { refusals::INDEX_BOX }
-}
-
-// 4 where the world box does not pass.
-pub fn bounds_fault(m: Medium) -> u32
-    ensures { result ≡ each (bounds_fault (as_medium m)) }
-{
-    let x = bounds_on(m.low[0], m.high[0]);
-    let y = bounds_on(m.low[1], m.high[1]);
-    let z = bounds_on(m.low[2], m.high[2]);
-    first_fault(x, first_fault(y, z))
-}
-
-// 14 where the index box is empty on some axis.
-pub fn index_fault(m: Medium) -> u32
-    ensures { result ≡ each (index_fault (as_medium m)) }
-{
-    let x = index_on(m.index_low[0], m.index_high[0]);
-    let y = index_on(m.index_low[1], m.index_high[1]);
-    let z = index_on(m.index_low[2], m.index_high[2]);
-    first_fault(x, first_fault(y, z))
+    low[axis] <= high[axis]
 }
 
 // A place of the map's diagonal.
 fn on_diagonal(v: f32) -> bool
     ensures { result ≡ diagonal v }
 {
-    both(float::is_finite(v), 0.0 < v)
+    float::is_finite(v) && 0.0 < v
 }
 
 // Another place of the map.
@@ -130,34 +116,55 @@ fn off_diagonal(v: f32) -> bool
     v == 0.0
 }
 
-// 13 where the map or the translation does not pass.
-pub fn map_fault(m: Medium) -> u32
-    ensures { result ≡ map_fault (as_medium m) }
-{
-    let x = both(
-        both(on_diagonal(m.map[0]), off_diagonal(m.map[1])),
-        off_diagonal(m.map[2]),
-    );
-    let y = both(
-        both(both(x, off_diagonal(m.map[3])), on_diagonal(m.map[4])),
-        off_diagonal(m.map[5]),
-    );
-    let z = both(
-        both(both(y, off_diagonal(m.map[6])), off_diagonal(m.map[7])),
-        on_diagonal(m.map[8]),
-    );
-    let t = both(z, float::is_finite(m.translation[0]));
-    let u = both(t, float::is_finite(m.translation[1]));
-    if both(u, float::is_finite(m.translation[2])) {
-        0
-    } else {
-        refusals::MAP
+impl Medium {
+    // 4 where the world box does not pass.
+    #[tactic(auto, unfolding(crate::specs::Medium::bounds_fault))]
+    pub fn check_bounds(&self) -> Result<(), Refusal>
+        ensures { fault_of result ≡ each (bounds_fault (as_medium self.now)) }
+    {
+        check_bounds_on(self.low[0], self.high[0])?;
+        check_bounds_on(self.low[1], self.high[1])?;
+        check_bounds_on(self.low[2], self.high[2])
     }
-}
 
-// 4, 14, 13: the checks of a build.
-pub fn medium_fault(m: Medium) -> u32
-    ensures { result ≡ medium_fault (as_medium m) }
-{
-    first_fault(bounds_fault(m), first_fault(index_fault(m), map_fault(m)))
+    // 14 where the index box is empty on some axis.
+    #[tactic(auto, unfolding(crate::specs::Medium::index_fault))]
+    pub fn check_index(&self) -> Result<(), Refusal>
+        ensures { fault_of result ≡ each (index_fault (as_medium self.now)) }
+    {
+        let low = &self.index_low;
+        let high = &self.index_high;
+        if in_order(low, high, 0) & in_order(low, high, 1) & in_order(low, high, 2) {
+            Ok(())
+        } else {
+            Err(Refusal::IndexBox)
+        }
+    }
+
+    // 13 where the map or the translation does not pass.
+    #[tactic(auto, unfolding(crate::specs::Medium::map_fault))]
+    pub fn check_map(&self) -> Result<(), Refusal>
+        ensures { fault_of result ≡ map_fault (as_medium self.now) }
+    {
+        let m = &self.map;
+        let x = on_diagonal(m[0]) & off_diagonal(m[1]) & off_diagonal(m[2]);
+        let y = off_diagonal(m[3]) & on_diagonal(m[4]) & off_diagonal(m[5]);
+        let z = off_diagonal(m[6]) & off_diagonal(m[7]) & on_diagonal(m[8]);
+        let t = &self.translation;
+        let moved = float::is_finite(t[0]) & float::is_finite(t[1]) & float::is_finite(t[2]);
+        if x & y & z & moved {
+            Ok(())
+        } else {
+            Err(Refusal::Map)
+        }
+    }
+
+    // 4, 14, 13: the checks of a build.
+    pub fn check(&self) -> Result<(), Refusal>
+        ensures { fault_of result ≡ medium_fault (as_medium self.now) }
+    {
+        self.check_bounds()?;
+        self.check_index()?;
+        self.check_map()
+    }
 }
