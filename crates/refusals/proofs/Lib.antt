@@ -1,2 +1,3 @@
 pub mod FaultSteps
 pub mod ListLaws
+pub mod Exits

@@ -1,6 +1,6 @@
 -- What the law of runs says (proofs/Runs): a run of pushes, each handed what the one before left, which of its tables are accepted, and the
 -- answer over these alone: no ring.
-use Rattle.std.specs.Prelude.{length, Bool, Float, eqb}
+use Rattle.std.specs.Prelude.{length, Float, eqb}
 use Rattle.std.proofs.Math.Bool.{cond}
 use mathlib.Core.List.{List, [], ◌∷◌}
 use Prim.Native.Nat.{ℕ}

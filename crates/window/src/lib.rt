@@ -4,20 +4,25 @@
 
 ghost use Rattle.std.specs.Prelude.{◌≡◌, ◌+◌, ◌*◌, ◌<◌, ◌≤◌, length};
 ghost use Rattle.std.proofs.Math.Seq.{paste};
-ghost use Rattle.cells.specs.Cells.{cells};
+ghost use Rattle.refusals.specs.Results.{value_or};
+ghost use Rattle.refusals.specs.Numbers.{said_by, fault_of as fault};
+ghost use Rattle.cells.specs.Record.{as_cells};
 ghost use Rattle.window.specs.Tables.{raised, raised_by};
 ghost use Rattle.window.specs.Fours.{Alike, raised_four};
 ghost use Rattle.window.specs.Window.{before as before_of, after as after_of, grown as grown_of, advanced as advanced_of};
 ghost use Rattle.window.specs.Window.{width_in, fits_window, fits_lengths, table_at, ring, state_of, table_of, fault_of};
-ghost use Rattle.window.specs.Window.{push_fault, push as push_of, open_fault, opened};
+ghost use Rattle.window.specs.Window.{push_fault, push as push_of, open_fault, opened, shut};
 
-use cells::{cells_fault, table_length};
-use figures::{figures_fault, greater};
-use lent::zero_f32;
-use refusals::{TABLES, WINDOW, both};
+mod bridge;
+
+pub use bridge::{Pushed, open, push};
+use cells::Cells;
+use figures::{check_figures, greater};
+use lent::zero;
+use refusals::Refusal;
 
 // w, the three numbers of the cells, the tables held, and the place that the next one takes.
-#[derive(Clone, Copy)]
+#[derive(Clone, Copy, Debug, PartialEq, Eq)]
 pub struct Window {
     pub w: u32,
     pub x: u32,
@@ -25,13 +30,6 @@ pub struct Window {
     pub z: u32,
     pub held: u32,
     pub next: u32,
-}
-
-// The number of a refusal, or 0, and the window.
-#[derive(Clone, Copy)]
-pub struct Pushed {
-    pub number: u32,
-    pub window: Window,
 }
 
 // ---- the places of the ring
@@ -63,14 +61,7 @@ fn advanced(s: Window) -> Window
 {
     let held = grown(s.w, s.held);
     let next = after(s.w, s.next);
-    Window {
-        w: s.w,
-        x: s.x,
-        y: s.y,
-        z: s.z,
-        held,
-        next,
-    }
+    Window { held, next, ..s }
 }
 
 // ---- the faults
@@ -78,13 +69,13 @@ fn advanced(s: Window) -> Window
 fn width_in(w: u32) -> bool
     ensures { result ≡ width_in w }
 {
-    both(1 <= w, w <= 16)
+    1 <= w && w <= 16
 }
 
-fn fits_window(s: Window, x: u32, y: u32, z: u32) -> bool
-    ensures { result ≡ fits_window s (cells x y z) }
+fn fits_window(s: Window, n: Cells) -> bool
+    ensures { result ≡ fits_window s (as_cells n) }
 {
-    both(width_in(s.w), both(x == s.x, both(y == s.y, z == s.z)))
+    width_in(s.w) & ((n.x == s.x) & ((n.y == s.y) & (n.z == s.z)))
 }
 
 // w tables of n figures.
@@ -100,30 +91,42 @@ fn fits_lengths(s: Window, n: usize, table: usize, memory: usize, answer: usize)
     ensures { result ≡ fits_lengths s n table memory answer }
 {
     let most = tables(s.w, n);
-    both(
-        table == n,
-        both(
-            memory == most,
-            both(answer == n, both(s.held <= s.w, s.next < s.w)),
-        ),
-    )
+    let ring = (s.held <= s.w) & (s.next < s.w);
+    (table == n) & ((memory == most) & ((answer == n) & ring))
 }
 
-fn push_fault(s: Window, x: u32, y: u32, z: u32, table: &[f32], memory: usize, answer: usize) -> u32
-    ensures { result ≡ fault_of s memory answer (table_of (cells x y z) table.now) }
+fn check_push(
+    s: Window,
+    n: Cells,
+    table: &[f32],
+    memory: usize,
+    answer: usize,
+) -> Result<(), Refusal>
+    ensures { fault result ≡ fault_of s memory answer (table_of (as_cells n) table.now) }
 {
-    let fault = cells_fault(x, y, z);
-    if fault != 0 {
-        return fault;
+    n.check()?;
+    if !fits_window(s, n) {
+        return Err(Refusal::Window);
     }
-    if !fits_window(s, x, y, z) {
-        return WINDOW;
+    if !fits_lengths(s, n.table_length(), table.len(), memory, answer) {
+        return Err(Refusal::Tables);
     }
-    let n = table_length(x, y, z);
-    if !fits_lengths(s, n, table.len(), memory, answer) {
-        return TABLES;
+    check_figures(table)
+}
+
+fn check_open(w: u32, n: Cells, memory: usize, answer: usize) -> Result<(), Refusal>
+    ensures { fault result ≡ open_fault w (as_cells n) memory answer }
+{
+    n.check()?;
+    if !width_in(w) {
+        return Err(Refusal::Window);
     }
-    figures_fault(table)
+    let length = n.table_length();
+    if (memory == tables(w, length)) & (answer == length) {
+        Ok(())
+    } else {
+        Err(Refusal::Tables)
+    }
 }
 
 // ---- tables
@@ -133,11 +136,7 @@ fn store(memory: &mut [f32], at: usize, table: &[f32])
     requires { at + length table.now ≤ length memory.old }
     ensures { memory.new ≡ paste memory.old at table.now (length table.now) }
 {
-    let mut i: usize = 0;
-    while i < table.len() {
-        memory[at + i] = table[i];
-        i += 1;
-    }
+    memory[at..at + table.len()].copy_from_slice(table);
 }
 
 // For each cell the greater of the two figures.
@@ -145,10 +144,8 @@ fn raise(answer: &mut [f32], table: &[f32])
     requires { length table.now ≡ length answer.old }
     ensures { answer.new ≡ raised answer.old table.now }
 {
-    let mut i: usize = 0;
-    while i < answer.len() {
-        answer[i] = greater(answer[i], table[i]);
-        i += 1;
+    for (i, figure) in answer.iter_mut().enumerate() {
+        *figure = greater(*figure, table[i]);
     }
 }
 
@@ -157,13 +154,11 @@ fn raise_four(answer: &mut [f32], a: &[f32], b: &[f32], c: &[f32], d: &[f32])
     requires { Alike answer.old a.now b.now c.now d.now }
     ensures { answer.new ≡ raised_four answer.old a.now b.now c.now d.now }
 {
-    let mut i: usize = 0;
-    while i < answer.len() {
-        let first = greater(answer[i], a[i]);
+    for (i, figure) in answer.iter_mut().enumerate() {
+        let first = greater(*figure, a[i]);
         let second = greater(first, b[i]);
         let third = greater(second, c[i]);
-        answer[i] = greater(third, d[i]);
-        i += 1;
+        *figure = greater(third, d[i]);
     }
 }
 
@@ -223,89 +218,54 @@ fn raise_ring(answer: &mut [f32], memory: &[f32], w: usize, held: usize, next: u
 
 // ---- a push and an opening
 
-// Takes the table into its place, and writes the answer of the tables that are held. A refused push changes nothing.
-pub fn push(
-    s: Window,
-    x: u32,
-    y: u32,
-    z: u32,
-    table: &[f32],
-    memory: &mut [f32],
-    answer: &mut [f32],
-) -> Pushed
-    ensures number { let before = state_of s memory.old answer.old in
-        result.number ≡ push_fault before (table_of (cells x y z) table.now) }
-    ensures state { let before = state_of s memory.old answer.old in
-        state_of result.window memory.new answer.new ≡ push_of before (table_of (cells x y z) table.now) }
-{
-    let number = push_fault(s, x, y, z, table, memory.len(), answer.len());
-    if number != 0 {
-        return Pushed { number, window: s };
+impl Window {
+    // Takes the table into its place, and writes the answer of the tables that are held. A refused push changes nothing.
+    pub fn push(
+        &mut self,
+        n: Cells,
+        table: &[f32],
+        memory: &mut [f32],
+        answer: &mut [f32],
+    ) -> Result<(), Refusal>
+        ensures number { let before = state_of self.old memory.old answer.old in
+            fault result ≡ push_fault before (table_of (as_cells n) table.now) }
+        ensures state { let before = state_of self.old memory.old answer.old in
+            state_of self.new memory.new answer.new ≡ push_of before (table_of (as_cells n) table.now) }
+    {
+        check_push(*self, n, table, memory.len(), answer.len())?;
+        let start = (self.next as usize) * table.len();
+        store(memory, start, table);
+        let window = advanced(*self);
+        zero(answer);
+        raise_ring(
+            answer,
+            memory,
+            window.w as usize,
+            window.held as usize,
+            window.next as usize,
+        );
+        *self = window;
+        Ok(())
     }
-    let start = (s.next as usize) * table.len();
-    store(memory, start, table);
-    let window = advanced(s);
-    zero_f32(answer);
-    raise_ring(
-        answer,
-        memory,
-        window.w as usize,
-        window.held as usize,
-        window.next as usize,
-    );
-    Pushed { number: 0, window }
-}
 
-fn open_fault(w: u32, x: u32, y: u32, z: u32, memory: usize, answer: usize) -> u32
-    ensures { result ≡ open_fault w (cells x y z) memory answer }
-{
-    let fault = cells_fault(x, y, z);
-    if fault != 0 {
-        return fault;
-    }
-    if !width_in(w) {
-        return WINDOW;
-    }
-    let n = table_length(x, y, z);
-    let most = tables(w, n);
-    if both(memory == most, answer == n) {
-        0
-    } else {
-        TABLES
-    }
-}
-
-// A window that holds no table yet. Memory and answer are zeroed, and after a refusal so is the window.
-pub fn open(w: u32, x: u32, y: u32, z: u32, memory: &mut [f32], answer: &mut [f32]) -> Pushed
-    ensures number { result.number ≡ open_fault w (cells x y z) (length memory.old) (length answer.old) }
-    ensures state { state_of result.window memory.new answer.new
-        ≡ opened w (cells x y z) (length memory.old) (length answer.old) }
-{
-    let number = open_fault(w, x, y, z, memory.len(), answer.len());
-    zero_f32(memory);
-    zero_f32(answer);
-    if number != 0 {
-        return Pushed {
-            number,
-            window: Window {
-                w: 0,
-                x: 0,
-                y: 0,
-                z: 0,
-                held: 0,
-                next: 0,
-            },
-        };
-    }
-    Pushed {
-        number: 0,
-        window: Window {
+    // A window that holds no table yet. Memory and answer are zeroed.
+    pub fn open(w: u32, n: Cells, memory: &mut [f32], answer: &mut [f32]) -> Result<Window, Refusal>
+        ensures number { fault result ≡ open_fault w (as_cells n) (length memory.old) (length answer.old) }
+        ensures state { state_of (value_or shut (said_by result)) memory.new answer.new
+            ≡ opened w (as_cells n) (length memory.old) (length answer.old) }
+    {
+        let test = check_open(w, n, memory.len(), answer.len());
+        zero(memory);
+        zero(answer);
+        test?;
+        let Cells { x, y, z } = n;
+        Ok(Window {
             w,
             x,
             y,
             z,
             held: 0,
             next: 0,
-        },
+        })
     }
 }
