@@ -1,4 +1,4 @@
--- Products of small numbers, floats without their sign, and the answers. Assumes nothing.
+-- Products of small numbers, floats without their sign, and numbers held between ends. Assumes nothing.
 use Rattle.std.proofs.Common.{◌≡◌, ℕ, zero, suc, ◌+◌, ◌-◌, ◌*◌, ◌<◌, ◌≤◌, Bool, true, false, cond, ◌&&◌, ◌||◌, T, eqb, ℤ, pos, negsuc, nat_abs, sym, refl, ap, ◌∙◌, true≢false, mul-le-mul, zero-mul, arith, lit<, ltb-false, ltb-true, le-ltb, lt-ltb, eq-eqb, eqb-true}
 use mathlib.Core.Bool.{false≢true}
 use lib.Signed.{lt_z}
@@ -71,42 +71,3 @@ clamp_above (pos k) n h l = sym (λ i. cond (h i) (pos 0) (cond (lt-ltb (n - 1) 
 pub clamp_within : (z : ℤ) (n : ℕ) → lt_z z (pos 0) ≡ false → nat_abs z ≤ n - 1 → pos (nat_abs z) ≡ clamp_z (pos 0) (pos (n - 1)) z
 clamp_within (negsuc k) n h l = absurd (true≢false h)
 clamp_within (pos k) n h l = sym (λ i. cond (h i) (pos 0) (cond (le-ltb (n - 1) k l i) (pos (n - 1)) (pos k)))
-
--- ---- the answers
-
-abbrev pub opened : ℕ → State → Opened
-opened n s = record { number = n; state = s }
-
-pub opened_refused : (s : State) {z : State} {n f : ℕ} → n ≡ f → (n ≡ 0 → ⊥) → z ≡ zero_state → opened n z ≡ opened_of (passing f (ok s))
-opened_refused s {f = zero} e h q = absurd (h e)
-opened_refused s {f = suc f} e h q = λ i. record { number = e i; state = q i }
-
-pub opened_taken : (s : State) {z : State} {n f : ℕ} → n ≡ f → n ≡ 0 → z ≡ s → opened 0 z ≡ opened_of (passing f (ok s))
-opened_taken s {f = zero} e h q = λ i. record { number = 0; state = q i }
-opened_taken s {f = suc f} e h q = absurd (omega arith)
-
--- a refusal before the end is asked
-pub refused_is : (s : State) (r : Result Step) {n f : ℕ} → n ≡ f → (n ≡ 0 → ⊥) → refused_answer n ≡ answer_of s (passing f r)
-refused_is s r {f = zero} e h = absurd (h e)
-refused_is s r {f = suc f} e h = ap refused_answer e
-
--- the answer with a step along an axis
-abbrev pub piece_by : State → Float → Axis → Answer
-piece_by s g a = piece_answer (record { from = s.t_min; to = exit_at s.t_max (on_state s a).next; figure = g }) (step_on s a)
-
--- ---- an axis by its number
-
-pub axis_x : (a : Axis) → column a ≡ 0 → a ≡ x_axis
-axis_x x_axis e = refl
-axis_x y_axis e = absurd (omega arith)
-axis_x z_axis e = absurd (omega arith)
-
-pub axis_y : (a : Axis) → column a ≡ 1 → a ≡ y_axis
-axis_y x_axis e = absurd (omega arith)
-axis_y y_axis e = refl
-axis_y z_axis e = absurd (omega arith)
-
-pub axis_z : (a : Axis) → (column a ≡ 0 → ⊥) → (column a ≡ 1 → ⊥) → a ≡ z_axis
-axis_z x_axis p q = absurd (p refl)
-axis_z y_axis p q = absurd (q refl)
-axis_z z_axis p q = refl

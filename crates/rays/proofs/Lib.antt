@@ -3,7 +3,9 @@ pub mod Signs
 pub mod Laws
 pub mod Tracing
 pub mod Examples
+pub mod Nexts
 pub mod OpenedLaws
+pub mod Opening
 pub mod Remaining
 pub mod Runs
 pub mod Theorems

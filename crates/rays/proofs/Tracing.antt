@@ -1,6 +1,5 @@
 -- The loop of a trace: after i pieces those stand in the tables, and the rest comes from the state that is left. Assumes nothing.
-use Rattle.std.proofs.Common.{◌≡◌, ℕ, suc, ◌+◌, ◌-◌, ◌<◌, ◌≤◌, Bool, true, false, ◌&&◌, leb, ◌⊎◌, List, [], ◌∷◌, ◌++◌, length, set, replicate, sym, refl, ap, ◌∙◌, subst, inl, inr, true≢false, append_assoc, append-nil, arith, length-append, le-leb}
-use mathlib.Core.Bool.{false≢true}
+use Rattle.std.proofs.Common.{◌≡◌, ℕ, suc, ◌+◌, ◌-◌, ◌<◌, ◌≤◌, Bool, true, false, ◌&&◌, leb, ◌⊎◌, List, [], ◌∷◌, ◌++◌, length, set, replicate, sym, refl, ap, ◌∙◌, subst, inl, inr, append_assoc, append-nil, arith, length-append, le-leb}
 use lib.ListN.{length-replicate}
 use lib.Ieee.{Float}
 use borrow.Author.Tests.{lt-leb}
@@ -10,11 +9,10 @@ use Rattle.lent.specs.Padded.{padded}
 use Rattle.lent.proofs.PaddedLaws.{padded_none, padded_length, padded_push}
 use Rattle.medium.specs.Medium.{Medium}
 use Rattle.rays.specs.Open.{Beam, open_ray}
-use Rattle.rays.specs.Ray.{State, Piece, Step, piece, over, next}
+use Rattle.rays.specs.Ray.{State, Piece, Step, piece, next}
 use Rattle.rays.specs.Run.{follow, pieces, most}
 use Rattle.rays.specs.Trace.{fitted, traced, ends_of, figures_of, Written}
 use Rattle.rays.specs.Followed.{Followed}
-use Rattle.rays.specs.Answers.{Answer, answer_of}
 
 -- ---- the columns of a list of pieces
 
@@ -47,36 +45,12 @@ and_false : (b : Bool) → (b && false) ≡ false
 and_false true = refl
 and_false false = refl
 
--- ---- what an answer tells
-
-pub record Given (s : State) (table : List Float) (a : Answer) : Type 0 where
-  pub part : Piece
-  pub stepped : next s table ≡ ok (piece part a.state)
-  pub to : a.to ≡ part.to
-  pub figure : a.figure ≡ part.figure
-
-pub given : (s : State) (table : List Float) (a : Answer) → a ≡ answer_of s (next s table) → a.some ≡ true → Given s table a
-given s table a e h = go (next s table) refl e
-  where
-    go : (r : Result Step) → next s table ≡ r → a ≡ answer_of s r → Given s table a
-    go (ok (piece p s')) q e = record {
-      part = p;
-      stepped = q ∙ ap (λ (t : State). ok (piece p t)) (sym (ap (λ (x : Answer). x.state) e));
-      to = ap (λ (x : Answer). x.to) e;
-      figure = ap (λ (x : Answer). x.figure) e;
-    }
-    go (ok over) q e = absurd (true≢false (sym h ∙ ap (λ (x : Answer). x.some) e))
-    go (refused n) q e = absurd (true≢false (sym h ∙ ap (λ (x : Answer). x.some) e))
+-- ---- what a call for the next piece tells
 
 -- no piece: none is left
-pub none_left : (n : ℕ) (s : State) (table : List Float) (a : Answer) → a ≡ answer_of s (next s table) → a.some ≡ false → pieces (suc n) s table ≡ []
+pub none_left : (n : ℕ) (s : State) (table : List Float) (r : Result Step) → r ≡ next s table → follow r (λ s'. pieces n s' table) ≡ [] → pieces (suc n) s table ≡ []
 unfolding pieces
-none_left n s table a e h = go (next s table) e
-  where
-    go : (r : Result Step) → a ≡ answer_of s r → follow r (λ s'. pieces n s' table) ≡ []
-    go (ok (piece p s')) e = absurd (false≢true (sym h ∙ ap (λ (x : Answer). x.some) e))
-    go (ok over) e = refl
-    go (refused n) e = refl
+none_left n s table r e h = ap (λ (q : Result Step). follow q (λ s'. pieces n s' table)) (sym e) ∙ h
 
 pieces_more : (n : ℕ) (s : State) (table : List Float) (p : Piece) (s' : State) → next s table ≡ ok (piece p s')
     → pieces (suc n) s table ≡ p ∷ pieces n s' table
@@ -120,31 +94,42 @@ module _ (most : ℕ) (table : List Float) (first s : State) (e f i : ℕ) (ends
   pub figures_kept : length figures ≡ f
   figures_kept = ap length g.figured ∙ padded_length f +0 (figures_of g.done) (omega (arith, figures_length g.done, g.passed, g.figures_room))
 
-  more : (a : Answer) (q : a ≡ answer_of s (next s table)) (h : a.some ≡ true) → i < most
-      → pieces most first table ≡ g.done ++ ((given s table a q h).part ∷ pieces (most - (i + 1)) a.state table)
-  more a q h l =
-      let w = given s table a q h in
-      g.all ∙ ap (λ (k : ℕ). g.done ++ pieces k s table) (omega arith)
-      ∙ ap (λ (t : List Piece). g.done ++ t) (pieces_more (most - (i + 1)) s table w.part a.state w.stepped)
+  module _ {p : Piece} {s' : State} (stepped : ok (piece p s') ≡ next s table) (l : i < most) where
+    more : pieces most first table ≡ g.done ++ (p ∷ pieces (most - (i + 1)) s' table)
+    more =
+        g.all ∙ ap (λ (k : ℕ). g.done ++ pieces k s table) (omega arith)
+        ∙ ap (λ (t : List Piece). g.done ++ t) (pieces_more (most - (i + 1)) s table p s' (sym stepped))
 
-  pub go_on : (a : Answer) → a ≡ answer_of s (next s table) → a.some ≡ true → i < most → i < e → i < f
-      → Going most table first a.state e f (i + 1) (set ends i a.to) (set figures i a.figure)
-  go_on a q h l le lf =
-      let w = given s table a q h in
-      let p = w.part in
-      record {
-        done = g.done ++ (p ∷ []);
-        passed = length-append g.done (p ∷ []) ∙ ap (λ (k : ℕ). k + 1) g.passed;
-        within = omega arith;
-        all = more a q h l ∙ sym (append_assoc g.done (p ∷ []) (pieces (most - (i + 1)) a.state table));
-        ended = ap (λ (v : Float). set ends i v) w.to
-            ∙ pushed ends e i (ends_of g.done) p.to g.ended (ends_length g.done ∙ g.passed) le ∙ ap (padded e +0) (ends_push g.done p);
-        figured = ap (λ (v : Float). set figures i v) w.figure
-            ∙ pushed figures f i (figures_of g.done) p.figure g.figured (figures_length g.done ∙ g.passed) lf
-            ∙ ap (padded f +0) (figures_push g.done p);
-        ends_room = omega arith;
-        figures_room = omega arith;
-      }
+    pub go_on : i < e → i < f → Going most table first s' e f (i + 1) (set ends i p.to) (set figures i p.figure)
+    go_on le lf = record {
+      done = g.done ++ (p ∷ []);
+      passed = length-append g.done (p ∷ []) ∙ ap (λ (k : ℕ). k + 1) g.passed;
+      within = omega arith;
+      all = more ∙ sym (append_assoc g.done (p ∷ []) (pieces (most - (i + 1)) s' table));
+      ended = pushed ends e i (ends_of g.done) p.to g.ended (ends_length g.done ∙ g.passed) le ∙ ap (padded e +0) (ends_push g.done p);
+      figured = pushed figures f i (figures_of g.done) p.figure g.figured (figures_length g.done ∙ g.passed) lf
+          ∙ ap (padded f +0) (figures_push g.done p);
+      ends_room = omega arith;
+      figures_room = omega arith;
+    }
+
+    -- a table is full
+    pub full : (e ≤ i) ⊎ (f ≤ i) → Followed (pieces most first table) e f 9 0 ends figures
+    full out = record {
+      number = sym (ap (λ (b : Bool). number_of (need b 9 (ok (pieces most first table)))) (too_long (length (pieces most first table)) longer out));
+      counted = λ z. absurd (omega arith);
+      written = λ z. absurd (omega arith);
+      figured = λ z. absurd (omega arith);
+    }
+      where
+        longer : i < length (pieces most first table)
+        longer =
+            let rest = pieces (most - (i + 1)) s' table in
+            omega (arith, ap length more, length-append g.done (p ∷ rest), g.passed)
+
+        too_long : (k : ℕ) → i < k → (e ≤ i) ⊎ (f ≤ i) → (leb k e && leb k f) ≡ false
+        too_long k b (inl x) = ap (λ (t : Bool). t && leb k f) (lt-leb k e (omega arith))
+        too_long k b (inr x) = ap (λ (t : Bool). leb k e && t) (lt-leb k f (omega arith)) ∙ and_false (leb k e)
 
   -- no piece is left
   pub stop : pieces (most - i) s table ≡ [] → Followed (pieces most first table) e f 0 i ends figures
@@ -164,26 +149,6 @@ module _ (most : ℕ) (table : List Float) (first s : State) (e f i : ℕ) (ends
       in_f : leb (length g.done) f ≡ true
       in_f = le-leb (length g.done) f (omega (arith, g.passed, g.figures_room))
 
-  -- a piece is left, and a table is full
-  pub full : (a : Answer) → a ≡ answer_of s (next s table) → a.some ≡ true → i < most → (e ≤ i) ⊎ (f ≤ i)
-      → Followed (pieces most first table) e f 9 0 ends figures
-  full a q h l out = record {
-    number = sym (ap (λ (b : Bool). number_of (need b 9 (ok (pieces most first table)))) (too_long (length (pieces most first table)) longer out));
-    counted = λ z. absurd (omega arith);
-    written = λ z. absurd (omega arith);
-    figured = λ z. absurd (omega arith);
-  }
-    where
-      longer : i < length (pieces most first table)
-      longer =
-          let p = (given s table a q h).part in
-          let rest = pieces (most - (i + 1)) a.state table in
-          omega (arith, ap length (more a q h l), length-append g.done (p ∷ rest), g.passed)
-
-      too_long : (k : ℕ) → i < k → (e ≤ i) ⊎ (f ≤ i) → (leb k e && leb k f) ≡ false
-      too_long k b (inl x) = ap (λ (t : Bool). t && leb k f) (lt-leb k e (omega arith))
-      too_long k b (inr x) = ap (λ (t : Bool). leb k e && t) (lt-leb k f (omega arith)) ∙ and_false (leb k e)
-
 -- ---- what a trace leaves
 
 pub zeros_length : (t : List Float) (n : ℕ) → t ≡ replicate n +0 → length t ≡ n
@@ -191,6 +156,10 @@ zeros_length t n e = ap length e ∙ length-replicate n +0
 
 pub zeros : (t : List Float) (n : ℕ) → t ≡ replicate n +0 → t ≡ replicate (length t) +0
 zeros t n e = e ∙ ap (λ (k : ℕ). replicate k +0) (sym (zeros_length t n e))
+
+-- a table that is cleared once more
+pub zeros_again : (z t s : List Float) (n : ℕ) → z ≡ replicate (length t) +0 → length t ≡ length s → s ≡ replicate n +0 → z ≡ replicate n +0
+zeros_again z t s n e l f = e ∙ ap (λ (k : ℕ). replicate k +0) (l ∙ zeros_length s n f)
 
 pub followed_same : {l l' : List Piece} {e e' f f' n k : ℕ} {ends figures : List Float} → l ≡ l' → e ≡ e' → f ≡ f'
     → Followed l e f n k ends figures → Followed l' e' f' n k ends figures

@@ -6,7 +6,7 @@ use Rattle.std.specs.Float.Ieee.{le}
 use Rattle.std.specs.Float.Ieee.Bits.{is_true}
 use Rattle.refusals.specs.Results.{ok, refused}
 use Rattle.float.proofs.Ordered.{le_same}
-use Rattle.cells.specs.Cells.{Cells, table_fault}
+use Rattle.cells.specs.Cells.{table_fault}
 use Rattle.medium.specs.Medium.{Axis, x_axis, y_axis, z_axis}
 use Rattle.rays.specs.Ray.{State, on_state, cells_in, sound, sound_state, exit_at, axis_in, step_on}
 use Rattle.rays.specs.Ray.{Piece, piece, over, piece_of, next}

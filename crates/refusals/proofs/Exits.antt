@@ -1,5 +1,5 @@
 -- The exit of a `?`: what is returned is the refusal of the test that stopped, and that is never no fault. Assumes nothing.
-use Rattle.std.specs.Prelude.{◌≡◌, IsErrAnd, Result as Answer}
+use Rattle.std.specs.Prelude.{◌≡◌, IsErrAnd, Err, Result as Answer}
 use Rattle.std.proofs.Common.{ap, ◌∙◌, arith}
 use Rattle.std.proofs.lemmas.Result.{err_from_is_err_and}
 use Rattle.refusals.specs.Results.{refused}
@@ -40,12 +40,11 @@ number_some Temperature h = omega arith
 number_some Layer h = omega arith
 
 module _ {A : Type 0} (r : Answer A Refusal) (e : Refusal) (exit : IsErrAnd r (λ d. d ≡ e)) where
+  pub exit_is : r ≡ Err e
+  exit_is = let (d, is, same) = err_from_is_err_and r exit in is ∙ ap Err same
+
   pub exit_said : said_by r ≡ refused (number e)
-  exit_said =
-      let (d, is, same) = err_from_is_err_and r exit in
-      ap said_by is ∙ ap (λ x. refused (number x)) same
+  exit_said = ap said_by exit_is
 
   pub exit_fault : fault_of r ≡ number e
-  exit_fault =
-      let (d, is, same) = err_from_is_err_and r exit in
-      ap fault_of is ∙ ap number same
+  exit_fault = ap fault_of exit_is
