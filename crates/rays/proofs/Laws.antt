@@ -1,20 +1,13 @@
 -- Products of small numbers, floats without their sign, and numbers held between ends. Assumes nothing.
-use Rattle.std.proofs.Common.{◌≡◌, ℕ, zero, suc, ◌+◌, ◌-◌, ◌*◌, ◌<◌, ◌≤◌, Bool, true, false, cond, ◌&&◌, ◌||◌, T, eqb, ℤ, pos, negsuc, nat_abs, sym, refl, ap, ◌∙◌, true≢false, mul-le-mul, zero-mul, arith, lit<, ltb-false, ltb-true, le-ltb, lt-ltb, eq-eqb, eqb-true}
+use Rattle.std.proofs.Common.{◌≡◌, ℕ, ◌+◌, ◌-◌, ◌*◌, ◌<◌, ◌≤◌, Bool, true, false, cond, ◌&&◌, ◌||◌, T, eqb, ℤ, pos, negsuc, nat_abs, sym, refl, ap, ◌∙◌, true≢false, mul-le-mul, zero-mul, arith, lit<, ltb-false, ltb-true, le-ltb, lt-ltb, eq-eqb, eqb-true}
 use mathlib.Core.Bool.{false≢true}
 use lib.Signed.{lt_z}
 use lib.Ieee.{Float, nan, inf, fin, binary32, neg, lt, eq, fits, up, down}
-use Rattle.refusals.specs.Results.{Result, ok}
-use Rattle.refusals.specs.Faults.{passing}
 use Rattle.float.specs.Zero.{+0}
 use Rattle.float.proofs.Exactly.{unique}
 use Rattle.float.proofs.Numbers.{fits_plain}
-use Rattle.medium.specs.Medium.{Axis, x_axis, y_axis, z_axis}
-use Rattle.index.specs.Axes.{column}
 use Rattle.float.specs.Saturated.{clamp_z}
-use Rattle.rays.specs.Ray.{State, Step, on_state, exit_at, step_on}
 use Rattle.rays.specs.Open.{magnitude}
-use Rattle.rays.specs.Run.{zero_state}
-use Rattle.rays.specs.Answers.{Opened, opened_of, Answer, piece_answer, refused_answer, answer_of}
 
 -- ---- products of numbers up to 128
 
@@ -71,3 +64,5 @@ clamp_above (pos k) n h l = sym (λ i. cond (h i) (pos 0) (cond (lt-ltb (n - 1) 
 pub clamp_within : (z : ℤ) (n : ℕ) → lt_z z (pos 0) ≡ false → nat_abs z ≤ n - 1 → pos (nat_abs z) ≡ clamp_z (pos 0) (pos (n - 1)) z
 clamp_within (negsuc k) n h l = absurd (true≢false h)
 clamp_within (pos k) n h l = sym (λ i. cond (h i) (pos 0) (cond (le-ltb (n - 1) k l i) (pos (n - 1)) (pos k)))
+
+pub ruleset clamps = (clamp_below, clamp_above, clamp_within)

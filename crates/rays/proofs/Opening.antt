@@ -42,3 +42,5 @@ module _ (m : Medium) (b : Beam) (l : ℕ) where
   none_stops t s e =
       let none = then_next table (bounds then beam_fault b) (sym t) ∙ then_next bounds (beam_fault b) (sym s) ∙ sym e in
       sym (passing_on (table then bounds then beam_fault b) (ok (start_of m b)) none)
+
+pub ruleset stops = (table_stops, bounds_stop, beam_stops, none_stops)

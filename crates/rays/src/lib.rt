@@ -47,6 +47,7 @@ pub struct Piece {
 
 impl Ray {
     // The ray through the table of a medium.
+    #[tactic(auto, using(crate::proofs::Opening::stops))]
     pub fn open(m: Medium, beam: Beam, majorants: &[f32]) -> Result<Ray, Refusal>
         ensures { ray_said result ≡ open_ray (as_medium m) (as_beam beam) (length majorants.now) }
     {

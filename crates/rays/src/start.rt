@@ -32,6 +32,7 @@ fn magnitude(d: f32) -> f32
 }
 
 // The cell of n in which the position p lies.
+#[tactic(auto, using(crate::proofs::Laws::clamps), unfolding(crate::specs::Open::cell_at))]
 fn cell_at(p: f32, n: u32) -> u32
     requires { (1 ≤ n) × (n ≤ 128) }
     ensures { (pos result ≡ cell_at p n) × (result < n) }
@@ -56,7 +57,7 @@ fn track_from(p: f32, d: f32, t: f32, n: u32) -> Track
         let face = nearest_u32_to_f32(k + 1) / count;
         Track {
             next: t + (face - p) / d,
-            delta: delta,
+            delta,
             step: 1,
             cell: k as i32,
             cells: n,
@@ -65,7 +66,7 @@ fn track_from(p: f32, d: f32, t: f32, n: u32) -> Track
         let face = nearest_u32_to_f32(k) / count;
         Track {
             next: t + (face - p) / d,
-            delta: delta,
+            delta,
             step: -1,
             cell: k as i32,
             cells: n,
@@ -74,6 +75,7 @@ fn track_from(p: f32, d: f32, t: f32, n: u32) -> Track
 }
 
 // From the world.
+#[tactic(auto, unfolding(crate::specs::Open::track_on))]
 pub(crate) fn track_on(low: f32, high: f32, o: f32, d: f32, t: f32, n: u32) -> Track
     requires { (1 ≤ n) × (n ≤ 128) }
     ensures { as_track result ≡ track_on low high o d t n }
