@@ -1,13 +1,12 @@
 -- The five numbers of a counted box maximum: what C finds after an answer and after a refusal. Assumes nothing.
 use Prim.Native.Nat.{ℕ, ◌+◌, ◌*◌, ◌/◌, ◌%◌, ◌<◌}
 use native.Mathlib.Nat.{add-zero, mul_comm, mul-add-div, div-eq_of_lt, mul-add-mod_self_right, mod-eq_of_lt}
-use native.Mathlib.Omega.{arith}
-use mathlib.Core.Path.{◌≡◌, refl, sym, ap, ◌∙◌, subst}
+use mathlib.Core.Path.{◌≡◌, sym, ap, ◌∙◌}
 use mathlib.Core.Bool.{Bool, true, false}
 use mathlib.Core.List.{List, [], ◌∷◌}
 use lib.Dec.{eqb, lit<}
 use lib.ListN.{set, replicate}
-use lib.Ieee.{Float, binary32, of_bits}
+use lib.Ieee.{binary32, of_bits}
 use Rattle.refusals.specs.Results.{Result, ok, refused, number_of, value_or}
 use Rattle.refusals.specs.Faults.{unless, passing}
 use Rattle.float.proofs.Literal.{zero_literal}

@@ -6,7 +6,7 @@ use lib.IntN.{pos}
 use lib.ListN.{length, replicate}
 use lib.Ieee.{Float}
 use borrow.Author.Tests.{eq-eqb, ne_eqb}
-use Rattle.refusals.specs.Results.{Result, refused, number_of, value_or, said}
+use Rattle.refusals.specs.Results.{refused, number_of, value_or, said}
 use Rattle.refusals.specs.ResultLaws.{said_same}
 use Rattle.float.specs.Zero.{+0}
 use Rattle.sparse_grid.specs.Tables.{Grid}

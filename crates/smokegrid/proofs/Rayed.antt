@@ -1,76 +1,27 @@
 -- What `smokegrid_ray_open` and `smokegrid_ray_next` leave, from what the functions on records answer; the state's arrays. Assumes nothing.
 use mathlib.Core.Path.{◌≡◌, refl, sym, ap, ◌∙◌, subst}
-use mathlib.Core.List.{List, [], ◌∷◌}
-use mathlib.Core.Bool.{Bool, true, false, cond, ◌&&◌, true≢false}
-use Prim.Native.Nat.{ℕ, zero, suc, ◌^◌, ◌≤◌, ◌<◌}
-use native.Mathlib.Omega.{arith}
-use native.Mathlib.Nat.{lt_of_lt_of_le}
-use lib.Dec.{T, eqb, eqb→eq, lit≤}
-use lib.IntN.{ℤ, pos, negsuc, nat_abs}
-use lib.Signed.{mag, non_neg, lt_z}
-use lib.ListN.{length, set, replicate}
+use mathlib.Core.List.{List}
+use mathlib.Core.Bool.{Bool, true, false, cond, ◌&&◌}
+use Prim.Native.Nat.{ℕ}
+use lib.Dec.{eqb, eqb→eq}
+use lib.IntN.{ℤ, pos}
+use lib.ListN.{length, replicate}
 use lib.Ieee.{Float}
-use mir.Syntax.{w32}
-use mir.Val.{SFits, Fits, to_z, of_z}
-use mir.Facts.{to_z_pos}
-use borrow.Author.Tests.{eq-eqb, ne_eqb, ltb-true}
+use borrow.Author.Tests.{eq-eqb, ne_eqb}
 use Rattle.refusals.specs.Results.{Result, ok, refused, number_of}
 use Rattle.refusals.specs.Faults.{unless, passing}
 use Rattle.refusals.specs.FaultLaws.{unless_zero}
 use Rattle.refusals.proofs.FaultSteps.{passing_stop, passing_on}
 use Rattle.refusals.specs.TestLaws.{and_l, and_r}
 use Rattle.float.specs.Zero.{+0}
-use Rattle.rays.specs.Ray.{State, Piece, Step, piece, over, next}
+use Rattle.rays.specs.Ray.{State, Step, piece, over, next}
 use Rattle.rays.specs.Open.{Beam, open_ray}
-use Rattle.rays.specs.Run.{zero_state, left}
+use Rattle.rays.specs.Run.{left}
 use Rattle.rays.specs.Answers.{Opened, opened_of, Answer, answer_of}
 use Rattle.smokegrid.specs.Flat.{medium_from}
-use Rattle.smokegrid.specs.FlatRay.{count_of, ray_state_from, times_of, words_of, ray_fault, ray_open_flat, next_flat, times_opened, numbers_opened}
+use Rattle.smokegrid.specs.FlatRay.{ray_state_from, times_of, words_of, ray_fault, ray_open_flat, next_flat, times_opened, numbers_opened}
 use Rattle.smokegrid.specs.FlatRay.{state_after, more_of, piece_in}
 use Rattle.smokegrid.specs.Promises.{OpensRay, RayLeft, NextPiece}
-use Rattle.smokegrid.proofs.Stores.{seen}
-
--- ---- the state's arrays
-
-pub eight : {A : Type 0} (l : List A) (z a b c d e f g h : A) → l ≡ replicate 8 z
-    → set (set (set (set (set (set (set (set l 0 a) 1 b) 2 c) 3 d) 4 e) 5 f) 6 g) 7 h ≡ a ∷ b ∷ c ∷ d ∷ e ∷ f ∷ g ∷ h ∷ []
-eight {A} l z a b c d e f g h q = ap (λ (x : List A). set (set (set (set (set (set (set (set x 0 a) 1 b) 2 c) 3 d) 4 e) 5 f) 6 g) 7 h) q
-
--- six numbers with a sign as a local holds them, and three up to 128
-pub nine : (l : List ℤ) (a b c d e f : ℤ) (x y z : ℕ) → mag a < 2 ^ 31 → mag b < 2 ^ 31 → mag c < 2 ^ 31 → mag d < 2 ^ 31 → mag e < 2 ^ 31
-    → mag f < 2 ^ 31 → x ≤ 128 → y ≤ 128 → z ≤ 128 → l ≡ replicate 9 (pos 0)
-    → set (set (set (set (set (set (set (set (set l 0 (to_z w32 (of_z w32 a))) 1 (to_z w32 (of_z w32 b))) 2 (to_z w32 (of_z w32 c))) 3 (to_z w32 (of_z w32 d)))
-    4 (to_z w32 (of_z w32 e))) 5 (to_z w32 (of_z w32 f))) 6 (to_z w32 x)) 7 (to_z w32 y)) 8 (to_z w32 z)
-    ≡ a ∷ b ∷ c ∷ d ∷ e ∷ f ∷ pos x ∷ pos y ∷ pos z ∷ []
-nine l a b c d e f x y z A B C D E F X Y Z q =
-    ap (λ (s : List ℤ). set (set (set (set (set (set (set (set (set s 0 (to_z w32 (of_z w32 a))) 1 (to_z w32 (of_z w32 b))) 2 (to_z w32 (of_z w32 c)))
-    3 (to_z w32 (of_z w32 d))) 4 (to_z w32 (of_z w32 e))) 5 (to_z w32 (of_z w32 f))) 6 (to_z w32 x)) 7 (to_z w32 y)) 8 (to_z w32 z)) q
-    ∙ (λ i. seen a A i ∷ seen b B i ∷ seen c C i ∷ seen d D i ∷ seen e E i ∷ seen f F i
-    ∷ to_z_pos w32 (few x X) i ∷ to_z_pos w32 (few y Y) i ∷ to_z_pos w32 (few z Z) i ∷ [])
-  where
-    few : (k : ℕ) → k ≤ 128 → k < 2 ^ 31
-    few k h = omega arith
-
--- a number of cells: none below zero
-pub none_below : (z : ℤ) → lt_z z (pos 0) ≡ true → 0 ≡ count_of z
-none_below (pos zero) h = refl
-none_below (pos (suc n)) h = absurd (omega (arith, ltb-true (suc n) 0 h))
-none_below (negsuc n) h = refl
-
-pub not_below : (z : ℤ) → lt_z z (pos 0) ≡ false → T (non_neg z)
-not_below (pos n) h = tt
-not_below (negsuc n) h = true≢false h
-
-pub count_is : (z : ℤ) → T (non_neg z) → nat_abs z ≡ count_of z
-count_is (pos n) h = refl
-count_is (negsuc n) h = absurd h
-
-pub unsigned : {z : ℤ} → SFits w32 z → T (non_neg z) → T (non_neg (to_z w32 (of_z w32 z))) × Fits w32 (nat_abs (to_z w32 (of_z w32 z)))
-unsigned {z} f h = subst (λ (k : ℤ). T (non_neg k) × Fits w32 (nat_abs k)) (sym (seen z f.sfits)) (h, record { fits = small z f.sfits h })
-  where
-    small : (z : ℤ) → mag z < 2 ^ 31 → T (non_neg z) → nat_abs z < 2 ^ 32
-    small (pos n) l h = lt_of_lt_of_le l (lit≤ tt)
-    small (negsuc n) l h = absurd h
 
 -- ---- the lengths
 

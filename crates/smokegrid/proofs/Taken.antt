@@ -4,9 +4,9 @@ use mathlib.Core.List.{List, [], ◌∷◌}
 use Prim.Native.Nat.{ℕ, zero, suc}
 use lib.IntN.{ℤ, pos}
 use lib.ListN.{length, get_or, replicate}
-use lib.Ieee.{Float, binary32, to_bits}
+use lib.Ieee.{Float}
 use borrow.Author.Tests.{eq-eqb, ne_eqb}
-use Rattle.refusals.specs.Results.{Result, ok, refused, number_of, value_or}
+use Rattle.refusals.specs.Results.{ok, refused, number_of, value_or}
 use Rattle.refusals.specs.Faults.{passing}
 use Rattle.float.specs.Zero.{+0}
 use Rattle.sparse_grid.specs.Tables.{Grid}

@@ -1,5 +1,5 @@
 -- A ray's state in the flat arrays of the C interface: 8 times (t_min, t_max, next crossing 3, delta 3) and 9 numbers (step 3, cell 3, cells on each axis 3).
-use Rattle.std.specs.Prelude.{ℕ, ◌+◌, Bool, true, false, ◌&&◌, List, [], ◌∷◌, eqb, ℤ, pos, negsuc, length, get_or, replicate, Float}
+use Rattle.std.specs.Prelude.{ℕ, ◌+◌, ◌&&◌, List, [], ◌∷◌, eqb, ℤ, pos, negsuc, length, get_or, replicate, Float}
 use Rattle.std.specs.Float.{nan}
 use Rattle.refusals.specs.Results.{Result, ok, refused}
 use Rattle.refusals.specs.Faults.{unless, passing}

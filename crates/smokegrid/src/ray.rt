@@ -1,10 +1,12 @@
 // A ray's state in two flat arrays: 8 times and 9 numbers.
-ghost use Rattle.std.specs.Prelude.{◌≡◌, cond, ◌≤◌, pos, length, get_or, replicate};
+ghost use Rattle.std.specs.Prelude.{◌≡◌, ◌<◌, cond, pos, length, replicate};
 ghost use Rattle.float.specs.Zero.{+0};
-ghost use Rattle.rays.specs.Answers.{as_state};
-ghost use Rattle.smokegrid.specs.FlatRay.{count_of, ray_state_from, times_of, words_of, ray_fault};
+ghost use Rattle.rays.specs.Ray.{cells_in};
+ghost use Rattle.rays.specs.Answers.{as_track, as_state};
+ghost use Rattle.rays.proofs.Theorems.{Within};
+ghost use Rattle.smokegrid.specs.FlatRay.{count_of, track_from, ray_state_from, times_of, words_of, ray_fault};
 
-use rays::Ray;
+use rays::{Ray, Track};
 
 // 18 for an array of another length.
 pub(crate) fn ray_fault(times: usize, numbers: usize) -> u32
@@ -33,18 +35,33 @@ fn count_of(n: i32) -> u32
     n as u32
 }
 
+// One axis of the arrays.
+fn track_from(t: &[f32], n: &[i32], axis: usize) -> Track
+    requires times { length t.now ≡ 8 }
+    requires numbers { length n.now ≡ 9 }
+    requires axis { axis < 3 }
+    ensures { as_track result ≡ track_from t.now n.now axis }
+{
+    Track {
+        next: t[2 + axis],
+        delta: t[5 + axis],
+        step: n[axis],
+        cell: n[3 + axis],
+        cells: count_of(n[6 + axis]),
+    }
+}
+
 pub(crate) fn ray_from(t: &[f32], n: &[i32]) -> Ray
-    requires { (length t.now ≡ 8) × (length n.now ≡ 9) }
+    requires times { length t.now ≡ 8 }
+    requires numbers { length n.now ≡ 9 }
     ensures { as_state result ≡ ray_state_from t.now n.now }
 {
     Ray {
         t_min: t[0],
         t_max: t[1],
-        next: [t[2], t[3], t[4]],
-        delta: [t[5], t[6], t[7]],
-        step: [n[0], n[1], n[2]],
-        cell: [n[3], n[4], n[5]],
-        cells: [count_of(n[6]), count_of(n[7]), count_of(n[8])],
+        x: track_from(t, n, 0),
+        y: track_from(t, n, 1),
+        z: track_from(t, n, 2),
     }
 }
 
@@ -52,30 +69,33 @@ pub(crate) fn put_times(to: &mut [f32], r: Ray)
     requires { to.old ≡ replicate 8 +0 }
     ensures { to.new ≡ times_of (as_state r) }
 {
-    to[0] = r.t_min;
-    to[1] = r.t_max;
-    to[2] = r.next[0];
-    to[3] = r.next[1];
-    to[4] = r.next[2];
-    to[5] = r.delta[0];
-    to[6] = r.delta[1];
-    to[7] = r.delta[2];
+    let Ray {
+        t_min,
+        t_max,
+        x,
+        y,
+        z,
+    } = r;
+    to.copy_from_slice(&[
+        t_min, t_max, x.next, y.next, z.next, x.delta, y.delta, z.delta,
+    ]);
 }
 
 pub(crate) fn put_numbers(to: &mut [i32], r: Ray)
-    requires fact_1 { to.old ≡ replicate 9 (pos 0) }
-    requires fact_2 { get_or r.cells 0 0 ≤ 128 }
-    requires fact_3 { get_or r.cells 1 0 ≤ 128 }
-    requires fact_4 { get_or r.cells 2 0 ≤ 128 }
+    requires zeros { to.old ≡ replicate 9 (pos 0) }
+    requires few { Within (cells_in (as_state r)) }
     ensures { to.new ≡ words_of (as_state r) }
 {
-    to[0] = r.step[0];
-    to[1] = r.step[1];
-    to[2] = r.step[2];
-    to[3] = r.cell[0];
-    to[4] = r.cell[1];
-    to[5] = r.cell[2];
-    to[6] = r.cells[0] as i32;
-    to[7] = r.cells[1] as i32;
-    to[8] = r.cells[2] as i32;
+    let Ray { x, y, z, .. } = r;
+    to.copy_from_slice(&[
+        x.step,
+        y.step,
+        z.step,
+        x.cell,
+        y.cell,
+        z.cell,
+        x.cells as i32,
+        y.cells as i32,
+        z.cells as i32,
+    ]);
 }

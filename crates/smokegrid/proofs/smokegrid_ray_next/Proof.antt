@@ -8,7 +8,6 @@ use lib.Ieee.{Float, binary32}
 use Rattle.float.specs.Zero.{+0}
 use Rattle.float.proofs.Literal.{zero_literal}
 use Rattle.rays.specs.Ray.{State, cells_in, next}
-use Rattle.rays.specs.Run.{left}
 use Rattle.rays.specs.Answers.{Answer, as_answer, answer_of}
 use Rattle.rays.proofs.Theorems.{Within, next_within}
 use Rattle.smokegrid.specs.FlatRay.{ray_state_from, ray_fault}
@@ -75,7 +74,7 @@ numbers-requires c κs =
     let z = at-zeros c.before in
     let p = at_piece (at-times z) in
     let w = few p in
-    (z.before.before.zero_i32-2.ensures ∙ ap (λ (n : ℕ). replicate n (pos 0)) (lengths p).numbers_is, (w.x, (w.y, w.z)))
+    (z.before.before.zero_i32-2.ensures ∙ ap (λ (n : ℕ). replicate n (pos 0)) (lengths p).numbers_is, w)
 
 times-same : tie.Need-shape_of-ray_times
 times-same c = let z = at-zeros (at-put c) in (at-put c).before.before.before.put_times.auto.to ∙ (at-times z).zero_f32-2.auto.values

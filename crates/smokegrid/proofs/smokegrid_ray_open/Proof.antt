@@ -2,7 +2,7 @@
 use mathlib.Core.Path.{◌≡◌, sym, ap, ◌∙◌, subst}
 use mathlib.Core.List.{List}
 use Prim.Native.Nat.{ℕ}
-use lib.IntN.{ℤ, pos}
+use lib.IntN.{pos}
 use lib.ListN.{length, replicate}
 use lib.Ieee.{Float}
 use Rattle.float.specs.Zero.{+0}
@@ -86,7 +86,7 @@ numbers-requires : tie.Need-put_numbers-requires
 numbers-requires c κs =
     let o = at_open c.before in
     let w = few o in
-    ((zeros o).zero_i32.ensures ∙ ap (λ (n : ℕ). replicate n (pos 0)) (lengths (at-lengths o)).numbers_is, (w.x, (w.y, w.z)))
+    ((zeros o).zero_i32.ensures ∙ ap (λ (n : ℕ). replicate n (pos 0)) (lengths (at-lengths o)).numbers_is, w)
 
 times-same : tie.Need-shape_of-ray_times
 times-same c = let p = c.before.before in p.before.before.before.put_times.auto.to ∙ times-len (zeros (at_open p.before))

@@ -7,7 +7,6 @@ use Prim.Native.Nat.{ℕ}
 use lib.Dec.{eqb}
 use lib.ListN.{length, replicate}
 use borrow.Author.Rules.{rules}
-use borrow.Author.Tests.{not-true, not-false}
 use Rattle.smokegrid.proofs.Windows.{sized, numbers_long, window_long, open_size, open_taken}
 use Rattle.smokegrid.proofs.smokegrid_window_open.Statement.{statement}
 use Rattle.smokegrid.proofs.smokegrid_window_open.Tie as tie

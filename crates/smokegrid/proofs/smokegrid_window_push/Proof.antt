@@ -6,7 +6,6 @@ use mathlib.Core.List.{List}
 use Prim.Native.Nat.{ℕ}
 use lib.ListN.{length, replicate}
 use borrow.Author.Rules.{rules}
-use borrow.Author.Tests.{not-true, not-false}
 use Rattle.window.specs.Window.{state_of, push_fault, push}
 use Rattle.window.specs.declared.Window.{Window}
 use Rattle.smokegrid.specs.FlatTables.{WindowArrays, window_arrays, state_from, table_from}

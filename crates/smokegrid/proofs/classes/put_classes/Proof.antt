@@ -5,7 +5,6 @@ use native.Mathlib.Omega.{arith}
 use lib.ListN.{length, get_or, set, length-set}
 use lib.Seq.{get_or-set_same, get_or-set_other}
 use borrow.Author.Count.{below_more}
-use borrow.Author.Rules.{rules}
 use Rattle.smokegrid.proofs.classes.put_classes.Statement.{statement}
 use Rattle.smokegrid.proofs.classes.put_classes.Tie as tie
 
