@@ -10,7 +10,7 @@ use Rattle.float.proofs.Tests.{yes, or_l}
 use Rattle.float.proofs.Rising.{le→signed, finite_between}
 
 -- a / c is at most k
-pub quotient_le : (a c k : ℕ) → 0 < c → a ≤ k * c → a / c ≤ k
+quotient_le : (a c k : ℕ) → 0 < c → a ≤ k * c → a / c ≤ k
 quotient_le a c k C h = le_of_suc-le-suc ((div-lt_iff_lt-mul C).1 (lt_of_le_of_lt h (subst (λ (x : ℕ). k * c < x) (sym (suc-mul k c)) (more (k * c) c C))))
   where
     more : (x c : ℕ) → 0 < c → x < x + c
@@ -22,7 +22,7 @@ pos_range m e h = plain (m * up e) (down e) (le→signed false m e false 2147483
     plain : (X d : ℕ) → X * 1 + 0 ≤ 2147483647 * 1 * d + 0 → X ≤ 2147483647 * d
     plain X d h = omega arith
 
-pub neg_range : (m : ℕ) (e : ℤ) → T (le (fin true 1 (pos 31)) (fin true m e)) → m * up e ≤ 2147483648 * down e
+neg_range : (m : ℕ) (e : ℤ) → T (le (fin true 1 (pos 31)) (fin true m e)) → m * up e ≤ 2147483648 * down e
 neg_range m e h = plain (m * up e) (down e) (le→signed true 1 (pos 31) true m e h)
   where
     plain : (X d : ℕ) → 0 + X * 1 ≤ 0 + 1 * 2147483648 * d → X ≤ 2147483648 * d

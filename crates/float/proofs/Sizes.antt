@@ -1,9 +1,9 @@
 -- Sizes of floats in units: of what fits, and in the order of the floats that are not negative. Assumes nothing.
-use Rattle.std.specs.Prelude.{◌≡◌, ℕ, ◌+◌, ◌*◌, ◌/◌, ◌^◌, ◌<◌, ◌≤◌, Bool, true, false, T, ◌⊎◌, ℤ, pos, refl, Float}
+use Rattle.std.specs.Prelude.{◌≡◌, ℕ, ◌+◌, ◌*◌, ◌/◌, ◌^◌, ◌<◌, ◌≤◌, Bool, true, false, T, ℤ, pos, refl, Float}
 use Rattle.std.proofs.Common.{sym, ap, ◌∙◌, subst, inl, inr, zero-le, le_trans, le_of_eq, mul-one, one-mul, zero-mul, mul-le-mul_right, le_of_mul-le-mul_right, mul_right_comm, le-div_iff_mul-le, mul-div_cancel, div-one, arith, lit<, pow_pos}
 use Rattle.std.proofs.Math.Nat.{eq_of_mul-eq-mul_right}
 use Rattle.std.specs.Float.{nan, inf, fin, Format, binary32, binary64}
-use Rattle.std.specs.Float.Ieee.{prec, low, up, down, round, neg, add, sub, mul, le, fits}
+use Rattle.std.specs.Float.Ieee.{low, up, down, add, sub, mul, le, fits}
 use Rattle.std.specs.Float.Ieee.Fits.{down_pos, up_pos, eq→eqb}
 use Rattle.std.specs.Float.Ieee.Exact.{HasValue}
 use Rattle.std.specs.Float.Ieee.Nearest.{div_mono}
@@ -11,7 +11,7 @@ use Rattle.std.specs.Float.Ieee.Order.{transfer}
 use Rattle.std.specs.Float.Ieee.Scale.{finite, grid, round_under, round_val}
 use Rattle.float.specs.Zero.{+0}
 use Rattle.float.proofs.Rising.{Sle, le→signed, add_rises, sub_rises}
-use Rattle.float.proofs.Zeros.{is_zero, zero_le_zero, mul_zero_right, mul_rises}
+use Rattle.float.proofs.Zeros.{zero_le_zero, mul_zero_right, mul_rises}
 use Rattle.float.proofs.Exactly.{unit, round_back, mul_none}
 use Rattle.float.proofs.Ordered.{le_through}
 use Rattle.float.proofs.Numbers.{fits_plain}

@@ -3,11 +3,8 @@ pub mod Zero
 pub mod Fused
 pub mod Coordinate
 pub mod Saturated
-pub mod Answers
 pub mod Integer
 pub mod Fields
 pub mod Units
 -- What the worked examples of proofs/Examples speak of.
 pub mod Examples
--- Definitions that only contracts within the crate cite.
-pub mod Shifts

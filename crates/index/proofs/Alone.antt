@@ -21,7 +21,7 @@ use Rattle.index.specs.Cells.{corner, Cells, cell_axis, cells_on, cell_corner, E
 use Rattle.index.specs.Axes.{Line, Both, corner_on, index_on, majorant_on, first_low, first_high, second_low, second_high, first_on, second_on, ends_on}
 use Rattle.index.specs.Axes.{axis_ends, line_of, ends_at}
 use Rattle.index.specs.Answers.{axis_ends_of, both_of}
-use Rattle.index.specs.declared.AxisEnds.{AxisEnds}
+use Rattle.index.specs.declared.bridge.AxisEnds.{AxisEnds}
 use Rattle.index.proofs.Corners.{corner_on_lem}
 use Rattle.index.proofs.SameEnds.{first_low_same, first_high_same, second_low_same, second_high_same}
 use Rattle.index.proofs.Middle.{Straight, straight}

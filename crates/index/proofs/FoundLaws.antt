@@ -73,3 +73,6 @@ module _ (low high : Float) (n : ℕ) (v : Float) where
   found_some k l h =
       subst (λ (j : ℕ). axis_cell low high n v < j) (NatL.zero-add n)
       (from_some n 0 k l (subst (λ (j : ℕ). holds_on low high n j v ≡ true) (sym (NatL.zero-add k)) h))
+
+-- what a search from the start goes by
+pub ruleset search_steps = (search_start, search_here, search_on, search_end)

@@ -1,4 +1,3 @@
-pub mod Ends
 pub mod Alone
 pub mod Corners
 pub mod Enclosed
@@ -8,3 +7,4 @@ pub mod Middle
 pub mod SameEnds
 pub mod SideLaws
 pub mod Sixteen
+pub mod Steps

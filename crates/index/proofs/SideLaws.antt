@@ -1,6 +1,6 @@
 -- A point that a cell with two coordinates on an axis encloses has a finite index position there, and voxels on either side. Assumes nothing.
 use Rattle.std.specs.Prelude.{◌≡◌, ℕ, ℤ, T, Float}
-use Rattle.std.proofs.Common.{sym, ap, ◌∙◌, subst}
+use Rattle.std.proofs.Common.{◌∙◌}
 use Rattle.std.proofs.Math.IntN.{suc_ℤ}
 use Rattle.std.specs.Float.{binary64}
 use Rattle.std.specs.Float.Ieee.{add}
@@ -11,7 +11,6 @@ use Rattle.float.specs.Fused.{floor}
 use Rattle.float.specs.Coordinate.{coordinate}
 use Rattle.float.specs.Integer.{floor_z}
 use Rattle.float.proofs.Floors.{low_end, high_end}
-use Rattle.float.proofs.Middle.{Mid}
 use Rattle.float.proofs.Taken.{floor_ok, next_ok}
 use Rattle.medium.specs.Medium.{Point, Medium, Axis}
 use Rattle.index.specs.Cells.{Cells, cell_corner, Ends, one, second_ends, EnclosesIn}

@@ -9,10 +9,10 @@ use Rattle.index.specs.Index.{world_to_index}
 use Rattle.index.specs.Cells.{Ends}
 use Rattle.index.specs.Axes as Axes
 use Rattle.index.specs.Axes.{Both}
-use Rattle.index.specs.declared.Position.{Position}
+use Rattle.index.specs.declared.bridge.Position.{Position}
 use Rattle.index.specs.declared.Line.{Line}
-use Rattle.index.specs.declared.Range.{Range}
-use Rattle.index.specs.declared.AxisEnds.{AxisEnds}
+use Rattle.index.specs.declared.bridge.Range.{Range}
+use Rattle.index.specs.declared.bridge.AxisEnds.{AxisEnds}
 
 -- the bits of a point's index position on each axis, after 13, an added step
 unfoldable pub index_bits : Medium → Point → Result (List ℕ)

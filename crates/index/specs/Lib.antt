@@ -5,3 +5,4 @@ pub mod Axes
 pub mod Found
 pub mod Sides
 pub mod Answers
+pub mod Outcomes

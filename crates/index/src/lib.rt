@@ -1,28 +1,126 @@
 // The index position of a point, and the ends of a cell's two boxes on one axis (nanovdb.rs, world_to_index_f to build_majorant).
 #![tactic(auto)]
 
-ghost use Rattle.std.specs.Prelude.{◌≡◌, ◌≤◌, pos};
+ghost use Rattle.std.specs.Prelude.{◌≡◌, ◌<◌, IfSome, IsNone};
 ghost use Rattle.std.specs.Float.{binary32};
-ghost use Rattle.std.specs.Float.Ieee.{mul, of_int, to_bits};
+ghost use Rattle.std.specs.Float.Ieee.{mul, to_bits};
+ghost use Rattle.refusals.specs.Numbers.{said_by, fault_of};
 ghost use Rattle.float.specs.Fused.{fma};
-ghost use Rattle.float.specs.Answers.{coordinate_of};
-ghost use Rattle.medium.specs.Medium.{x_axis, y_axis, z_axis};
-ghost use Rattle.medium.specs.Record.{as_medium};
-ghost use Rattle.index.specs.Cells.{max_z, min_z};
-ghost use Rattle.index.specs.Axes.{corner_on, index_on, majorant_on, first_low, first_high, second_low, second_high, first_on, second_on, axis_ends, line_of};
+ghost use Rattle.medium.specs.Medium.{map_fault};
+ghost use Rattle.medium.specs.Record.{point_of, as_medium};
+ghost use Rattle.index.specs.Axes.{corner_on, index_on, majorant_on, first_on, second_on, axis_ends, column, is_last, line_of};
 ghost use Rattle.index.specs.Found.{holds_on, axis_cell};
 ghost use Rattle.index.specs.Sides.{sides_of};
-ghost use Rattle.index.specs.Answers.{index_bits, position_of, as_line, ends_of, axis_ends_of};
+ghost use Rattle.index.specs.Answers.{index_bits, as_line};
+ghost use Rattle.index.specs.Outcomes.{as_axis, as_ends, as_both, said_as, floors_of};
 
-use float::{Coordinate, bits_of, checked_coordinate, mul_add, narrow, widen};
-use medium::{Medium, map_fault};
-use refusals::{both, first_fault};
+use float::{bits_of, checked_coordinate, mul_add, narrow, widen};
+use medium::Medium;
+use refusals::Refusal;
+use std::num::nearest_u64_to_f32;
 
-// A point's index position on each axis, as bits: a NaN is 7fc00000. After a refusal its number, and zeros.
-#[derive(Clone, Copy)]
-pub struct Position {
-    pub number: u32,
-    pub bits: [u32; 3],
+mod bridge;
+
+pub use bridge::{
+    AxisEnds, Position, Range, axis_cell, axis_ends, sides, world_to_index_f, x_line, y_line,
+    z_line,
+};
+
+// 13 where the map or the translation does not pass.
+#[tactic(auto, using(crate::proofs::Steps::map_refused))]
+fn check_map(m: Medium) -> Result<(), Refusal>
+    ensures { fault_of result ≡ map_fault (as_medium m) }
+{
+    if medium::map_fault(m) == 0 {
+        Ok(())
+    } else {
+        Err(Refusal::Map)
+    }
+}
+
+// One row of the map times a vector.
+fn row_bits(d: [f32; 3], row: [f32; 3]) -> u32
+    ensures { let x = point_of d in let a = point_of row in
+        result ≡ to_bits binary32 (fma binary32 x.x a.x (fma binary32 x.y a.y (mul binary32 x.z a.z))) }
+{
+    bits_of(mul_add(d[0], row[0], mul_add(d[1], row[1], d[2] * row[2])))
+}
+
+// A point's index position on each axis, as bits: a NaN is 7fc00000.
+#[tactic(auto, unfolding(crate::specs::Answers::index_bits, crate::specs::Index::world_to_index))]
+pub fn index_position(m: Medium, point: [f32; 3]) -> Result<[u32; 3], Refusal>
+    ensures { said_by result ≡ index_bits (as_medium m) (point_of point) }
+{
+    check_map(m)?;
+    let d = [
+        point[0] - m.translation[0],
+        point[1] - m.translation[1],
+        point[2] - m.translation[2],
+    ];
+    Ok([
+        row_bits(d, [m.map[0], m.map[1], m.map[2]]),
+        row_bits(d, [m.map[3], m.map[4], m.map[5]]),
+        row_bits(d, [m.map[6], m.map[7], m.map[8]]),
+    ])
+}
+
+// ---- one axis
+
+#[derive(Clone, Copy, Debug, PartialEq, Eq)]
+pub enum Axis {
+    X,
+    Y,
+    Z,
+}
+
+impl Axis {
+    // Its place in a row of three.
+    fn column(self) -> usize
+        ensures { result ≡ column (as_axis self) }
+    {
+        self as usize
+    }
+
+    // Whether it is z, on which the build takes the product too in f64.
+    fn is_last(self) -> bool
+        ensures { result ≡ is_last (as_axis self) }
+    {
+        self == Axis::Z
+    }
+}
+
+// The ends of a box on one axis.
+#[derive(Clone, Copy, Debug, PartialEq, Eq)]
+pub struct Ends {
+    pub lo: i32,
+    pub hi: i32,
+}
+
+// The ends of a cell's two boxes on one axis.
+#[derive(Clone, Copy, Debug, PartialEq, Eq)]
+pub struct CellEnds {
+    pub first: Ends,
+    pub second: Ends,
+}
+
+impl Ends {
+    // The floor of v, and one more than the floor of w; 16 where one lies outside i32.
+    #[tactic(auto, using(crate::proofs::Steps::ones), unfolding(crate::specs::Axes::second_low, crate::specs::Axes::second_high))]
+    fn floors(v: f32, w: f32) -> Result<Ends, Refusal>
+        ensures { said_as as_ends result ≡ floors_of v w }
+    {
+        let lo = checked_coordinate(float::floor(widen(v)))?;
+        let hi = checked_coordinate(float::floor(widen(w)) + 1.0)?;
+        Ok(Ends { lo, hi })
+    }
+
+    // The voxels on either side of an index position.
+    #[tactic(auto, unfolding(crate::specs::Sides::sides_of))]
+    pub fn around(v: f32) -> Result<Ends, Refusal>
+        ensures { said_as as_ends result ≡ sides_of v }
+    {
+        Ends::floors(v, v)
+    }
 }
 
 // One axis of a medium: the world box, the translation, the place on the map's diagonal, and the index box.
@@ -37,294 +135,104 @@ pub struct Line {
     pub index_high: i32,
 }
 
-// The ends of a box on one axis, or the fault.
-#[derive(Clone, Copy)]
-pub struct Range {
-    pub fault: u32,
-    pub lo: i32,
-    pub hi: i32,
-}
-
-// The ends of a cell's two boxes on one axis. After a refusal its number, and zeros.
-#[derive(Clone, Copy)]
-pub struct AxisEnds {
-    pub fault: u32,
-    pub first_lo: i32,
-    pub first_hi: i32,
-    pub second_lo: i32,
-    pub second_hi: i32,
-}
-
-// One row of the map.
-fn row_bits(x: f32, y: f32, z: f32, a: f32, b: f32, c: f32) -> u32
-    ensures { result ≡ to_bits binary32 (fma binary32 x a (fma binary32 y b (mul binary32 z c))) }
-{
-    bits_of(mul_add(x, a, mul_add(y, b, z * c)))
-}
-
-pub fn world_to_index_f(m: Medium, x: f32, y: f32, z: f32) -> Position
-    ensures { result ≡ position_of (index_bits (as_medium m) (record { x = x; y = y; z = z })) }
-{
-    let fault = map_fault(m);
-    if fault != 0 {
-        return Position {
-            number: fault,
-            bits: [0, 0, 0],
-        };
-    }
-    let dx = x - m.translation[0];
-    let dy = y - m.translation[1];
-    let dz = z - m.translation[2];
-    let a = row_bits(dx, dy, dz, m.map[0], m.map[1], m.map[2]);
-    let b = row_bits(dx, dy, dz, m.map[3], m.map[4], m.map[5]);
-    let c = row_bits(dx, dy, dz, m.map[6], m.map[7], m.map[8]);
-    Position {
-        number: 0,
-        bits: [a, b, c],
-    }
-}
-
-// ---- one axis
-
-// A whole number as an f32, rounded.
-fn rounded(n: u64) -> f32
-    requires { n ≤ 9007199254740992 }
-    ensures { result ≡ of_int binary32 (pos n) }
-{
-    narrow(n as f64)
-}
-
-// Corner k of n.
-fn corner(low: f32, high: f32, n: u64, k: u64) -> f32
-    requires { (n ≤ 9007199254740992) × (k ≤ 9007199254740992) }
-    ensures { result ≡ corner_on low high n k }
-{
-    let t = rounded(k) / rounded(n);
-    (1.0 - t) * low + t * high
-}
-
-fn index_on(l: Line, p: f32) -> f32
-    ensures { result ≡ index_on (as_line l) p }
-{
-    (p - l.translation) * l.factor
-}
-
-fn majorant_on(l: Line, p: f32) -> f32
-    ensures { result ≡ majorant_on (as_line l) p }
-{
-    let d = widen(p) - widen(l.translation);
-    if l.last {
-        narrow(d * widen(l.factor))
-    } else {
-        narrow(d) * l.factor
-    }
-}
-
-fn first_low(v: f32) -> Coordinate
-    ensures { coordinate_of result ≡ first_low v }
-{
-    checked_coordinate(float::trunc(widen(v) - 1.0))
-}
-
-fn first_high(v: f32) -> Coordinate
-    ensures { coordinate_of result ≡ first_high v }
-{
-    checked_coordinate(float::trunc(widen(v) + 1.0))
-}
-
-fn second_low(v: f32) -> Coordinate
-    ensures { coordinate_of result ≡ second_low v }
-{
-    checked_coordinate(float::floor(widen(v)))
-}
-
-fn second_high(v: f32) -> Coordinate
-    ensures { coordinate_of result ≡ second_high v }
-{
-    checked_coordinate(float::floor(widen(v)) + 1.0)
-}
-
-fn greater(a: i32, b: i32) -> i32
-    ensures { result ≡ max_z a b }
-{
-    if a <= b { b } else { a }
-}
-
-fn lesser(a: i32, b: i32) -> i32
-    ensures { result ≡ min_z a b }
-{
-    if a <= b { a } else { b }
-}
-
-// The first box, from the corners with + 0 and + 1.
-fn first_range(l: Line, p: f32, q: f32) -> Range
-    ensures { ends_of result ≡ first_on (as_line l) p q }
-{
-    match first_low(majorant_on(l, p)) {
-        Coordinate::Refused(n) => Range {
-            fault: n,
-            lo: 0,
-            hi: 0,
-        },
-        Coordinate::At(a) => match first_high(majorant_on(l, q)) {
-            Coordinate::Refused(n) => Range {
-                fault: n,
-                lo: 0,
-                hi: 0,
-            },
-            Coordinate::At(b) => {
-                let lo = greater(a, l.index_low);
-                let hi = lesser(b, l.index_high);
-                Range {
-                    fault: 0,
-                    lo: lo,
-                    hi: hi,
-                }
-            }
-        },
-    }
-}
-
-// The second box.
-fn second_range(l: Line, p: f32, q: f32) -> Range
-    ensures { ends_of result ≡ second_on (as_line l) p q }
-{
-    match second_low(index_on(l, p)) {
-        Coordinate::Refused(n) => Range {
-            fault: n,
-            lo: 0,
-            hi: 0,
-        },
-        Coordinate::At(a) => match second_high(index_on(l, q)) {
-            Coordinate::Refused(n) => Range {
-                fault: n,
-                lo: 0,
-                hi: 0,
-            },
-            Coordinate::At(b) => Range {
-                fault: 0,
-                lo: a,
-                hi: b,
-            },
-        },
-    }
-}
-
-// The voxels on either side of an index position: its floor, and the next; 16 where one lies outside i32.
-pub fn sides(v: f32) -> Range
-    ensures { ends_of result ≡ sides_of v }
-{
-    match second_low(v) {
-        Coordinate::Refused(n) => Range {
-            fault: n,
-            lo: 0,
-            hi: 0,
-        },
-        Coordinate::At(a) => match second_high(v) {
-            Coordinate::Refused(n) => Range {
-                fault: n,
-                lo: 0,
-                hi: 0,
-            },
-            Coordinate::At(b) => Range {
-                fault: 0,
-                lo: a,
-                hi: b,
-            },
-        },
-    }
-}
-
-// The ends of cell k of n on one axis; 16 where one is no coordinate.
-pub fn axis_ends(l: Line, n: u32, k: u32) -> AxisEnds
-    ensures { result ≡ axis_ends_of (axis_ends (as_line l) n k) }
-{
-    let p = corner(l.low, l.high, n as u64, k as u64);
-    let q = corner(l.low, l.high, n as u64, k as u64 + 1);
-    let first = first_range(l, p, q);
-    let second = second_range(l, p, q);
-    let fault = first_fault(first.fault, second.fault);
-    if fault == 0 {
-        return AxisEnds {
-            fault: fault,
-            first_lo: first.lo,
-            first_hi: first.hi,
-            second_lo: second.lo,
-            second_hi: second.hi,
-        };
-    }
-    AxisEnds {
-        fault: fault,
-        first_lo: 0,
-        first_hi: 0,
-        second_lo: 0,
-        second_hi: 0,
-    }
-}
-
-// Whether corners k and k + 1 of n enclose v.
-fn encloses(l: Line, n: u32, k: u32, v: f32) -> bool
-    ensures { result ≡ holds_on l.low l.high n k v }
-{
-    let low = corner(l.low, l.high, n as u64, k as u64);
-    let high = corner(l.low, l.high, n as u64, k as u64 + 1);
-    both(low <= v, v <= high)
-}
-
-// The first cell of n that encloses v, and n where none does. Corners need not rise, so each is tried.
-pub fn axis_cell(l: Line, n: u32, v: f32) -> u32
-    ensures { result ≡ axis_cell l.low l.high n v }
-{
-    let mut k: u32 = 0;
-    while k < n {
-        if encloses(l, n, k, v) {
-            return k;
+impl Line {
+    #[tactic(auto, using(crate::proofs::Steps::line_is))]
+    pub fn of(m: Medium, axis: Axis) -> Line
+        ensures { as_line result ≡ line_of (as_medium m) (as_axis axis) }
+    {
+        let i = axis.column();
+        Line {
+            last: axis.is_last(),
+            low: m.low[i],
+            high: m.high[i],
+            translation: m.translation[i],
+            factor: m.map[4 * i],
+            index_low: m.index_low[i],
+            index_high: m.index_high[i],
         }
-        k += 1;
     }
-    n
-}
 
-// ---- the axes of a medium
-
-pub fn x_line(m: Medium) -> Line
-    ensures { as_line result ≡ line_of (as_medium m) x_axis }
-{
-    Line {
-        last: false,
-        low: m.low[0],
-        high: m.high[0],
-        translation: m.translation[0],
-        factor: m.map[0],
-        index_low: m.index_low[0],
-        index_high: m.index_high[0],
+    // Corner k of n.
+    #[tactic(auto, using(crate::proofs::Steps::ones), unfolding(crate::specs::Axes::corner_on))]
+    fn corner(self, n: u32, k: u64) -> f32
+        ensures { result ≡ corner_on self.low self.high n k }
+    {
+        let t = nearest_u64_to_f32(k) / nearest_u64_to_f32(n as u64);
+        (1.0 - t) * self.low + t * self.high
     }
-}
 
-pub fn y_line(m: Medium) -> Line
-    ensures { as_line result ≡ line_of (as_medium m) y_axis }
-{
-    Line {
-        last: false,
-        low: m.low[1],
-        high: m.high[1],
-        translation: m.translation[1],
-        factor: m.map[4],
-        index_low: m.index_low[1],
-        index_high: m.index_high[1],
+    // The index position of p, as world_to_index_f has it.
+    #[tactic(auto, unfolding(crate::specs::Axes::index_on))]
+    fn index(self, p: f32) -> f32
+        ensures { result ≡ index_on (as_line self) p }
+    {
+        (p - self.translation) * self.factor
     }
-}
 
-pub fn z_line(m: Medium) -> Line
-    ensures { as_line result ≡ line_of (as_medium m) z_axis }
-{
-    Line {
-        last: true,
-        low: m.low[2],
-        high: m.high[2],
-        translation: m.translation[2],
-        factor: m.map[8],
-        index_low: m.index_low[2],
-        index_high: m.index_high[2],
+    // The same as the build has it.
+    #[tactic(auto, unfolding(crate::specs::Axes::majorant_on))]
+    fn majorant_index(self, p: f32) -> f32
+        ensures { result ≡ majorant_on (as_line self) p }
+    {
+        let d = widen(p) - widen(self.translation);
+        if self.last {
+            narrow(d * widen(self.factor))
+        } else {
+            narrow(d) * self.factor
+        }
+    }
+
+    // The first box, from the corners p and q.
+    #[tactic(auto, using(crate::proofs::Steps::ones), unfolding(crate::specs::Axes::first_on, crate::specs::Axes::first_low, crate::specs::Axes::first_high))]
+    fn first_box(self, p: f32, q: f32) -> Result<Ends, Refusal>
+        ensures { said_as as_ends result ≡ first_on (as_line self) p q }
+    {
+        let lo = checked_coordinate(float::trunc(widen(self.majorant_index(p)) - 1.0))?;
+        let hi = checked_coordinate(float::trunc(widen(self.majorant_index(q)) + 1.0))?;
+        Ok(Ends {
+            lo: lo.max(self.index_low),
+            hi: hi.min(self.index_high),
+        })
+    }
+
+    // The second box.
+    #[tactic(auto, unfolding(crate::specs::Axes::second_on))]
+    fn second_box(self, p: f32, q: f32) -> Result<Ends, Refusal>
+        ensures { said_as as_ends result ≡ second_on (as_line self) p q }
+    {
+        Ends::floors(self.index(p), self.index(q))
+    }
+
+    // The ends of cell k of n; 16 where one is no coordinate.
+    #[tactic(auto, unfolding(crate::specs::Axes::axis_ends, crate::specs::Axes::ends_on))]
+    pub fn ends(self, n: u32, k: u32) -> Result<CellEnds, Refusal>
+        ensures { said_as as_both result ≡ axis_ends (as_line self) n k }
+    {
+        let p = self.corner(n, k as u64);
+        let q = self.corner(n, k as u64 + 1);
+        let first = self.first_box(p, q)?;
+        let second = self.second_box(p, q)?;
+        Ok(CellEnds { first, second })
+    }
+
+    // Whether corners k and k + 1 of n enclose v.
+    fn encloses(self, n: u32, k: u32, v: f32) -> bool
+        ensures { result ≡ holds_on self.low self.high n k v }
+    {
+        self.corner(n, k as u64) <= v && v <= self.corner(n, k as u64 + 1)
+    }
+
+    // The first cell of n that encloses v. Corners need not rise, so each is tried.
+    #[tactic(auto, using(crate::proofs::FoundLaws::search_steps))]
+    pub fn cell(self, n: u32, v: f32) -> Option<u32>
+        ensures found { IfSome result (λ k. (k < n) × (axis_cell self.low self.high n v ≡ k)) }
+        ensures none { IsNone result → axis_cell self.low self.high n v ≡ n }
+    {
+        for k in 0..n {
+            if self.encloses(n, k, v) {
+                return Some(k);
+            }
+        }
+        None
     }
 }

@@ -23,23 +23,19 @@ fn high(w: u64) -> u32 {
 
 // A coordinate is held as the pattern of its f64, and a refusal as its number.
 fn coordinate_word(b: u64) -> u64 {
-    let k = float::checked_coordinate_bits(b);
-    match k {
-        float::Coordinate::At(i) => float::f64_bits(i as f64),
-        float::Coordinate::Refused(n) => n as u64,
+    match float::checked_coordinate_bits(b) {
+        Ok(i) => float::f64_bits(i as f64),
+        Err(refusal) => refusal.number() as u64,
     }
 }
 
-// Whether the function numbered f gives the answer of the record a, b.
-fn agrees(f: u32, a: u64, b: u64) -> bool {
-    match f {
-        0 => float::widen_bits(low(a)) == b,
-        1 => float::narrow_bits(a) as u64 == b,
-        2 => float::mul_add_bits(low(a), high(a), low(b)) == high(b),
-        3 => float::floor_bits(a) == b,
-        4 => float::trunc_bits(a) == b,
-        _ => coordinate_word(a) == b,
+// The two words of the next record, and none past the end of the list.
+fn read_record<R: Read>(list: &mut R) -> io::Result<Option<(u64, u64)>> {
+    let mut record = [0u8; 16];
+    if read_bytes(list, &mut record)? < 16 {
+        return Ok(None);
     }
+    Ok(Some((layout::u64_at(&record, 0), layout::u64_at(&record, 8))))
 }
 
 // How many records were read, and how many of their answers differ.
@@ -49,49 +45,43 @@ struct Seen {
     differ: u32,
 }
 
-// Reads a record and compares it. Past the end of the list nothing is read.
-fn step<R: Read>(list: &mut R, f: u32) -> io::Result<Seen>
-    ensures { IfOk result (λ seen. (seen.read ≤ 1) × (seen.differ ≤ 1)) }
-{
-    let mut b = [0u8; 16];
-    let n = read_bytes(list, &mut b)?;
-    if n < 16 {
-        Ok(Seen { read: 0, differ: 0 })
-    } else if agrees(f, layout::u64_at(&b, 0), layout::u64_at(&b, 8)) {
-        Ok(Seen { read: 1, differ: 0 })
-    } else {
-        Ok(Seen { read: 1, differ: 1 })
-    }
-}
-
-// Replays the records of the function numbered f.
-fn replay<R: Read>(list: &mut R, f: u32) -> io::Result<Seen>
+// Replays the records of a function, of which `agrees` says whether it gives a record's answer.
+fn replay<R: Read, F: Fn(u64, u64) -> bool>(list: &mut R, agrees: F) -> io::Result<Seen>
+    requires { F.IsAlwaysCallable agrees }
     ensures { IfOk result (λ seen. (seen.read ≤ 2048) × (seen.differ ≤ 2048)) }
 {
-    let mut read: u32 = 0;
-    let mut differ: u32 = 0;
+    let mut seen = Seen { read: 0, differ: 0 };
     for _ in 0..RECORDS {
-        let seen = step(list, f)?;
-        read += seen.read;
-        differ += seen.differ;
+        if let Some((a, b)) = read_record(list)? {
+            seen.read += 1;
+            if !agrees(a, b) {
+                seen.differ += 1;
+            }
+        }
     }
-    Ok(Seen { read, differ })
+    Ok(seen)
 }
 
 // Writes a function's line.
-fn report<W: Write>(out: &mut W, name: &[u8], seen: Seen) -> io::Result<()> {
-    out.write_all(name)?;
-    replay::report(out, seen.read, b", ")?;
-    replay::report(out, seen.differ, b" differ\n")
+fn report<W: Write>(out: &mut W, name: &str, seen: Seen) -> io::Result<()> {
+    writeln!(out, "{name} {}, {} differ", seen.read, seen.differ)
 }
 
 fn main(rt: HostRuntime) -> io::Result<()> {
     let list = &mut rt.reader();
     let out = &mut io::writer(&rt);
-    report(out, b"widen ", replay(list, 0)?)?;
-    report(out, b"narrow ", replay(list, 1)?)?;
-    report(out, b"mul_add ", replay(list, 2)?)?;
-    report(out, b"floor ", replay(list, 3)?)?;
-    report(out, b"trunc ", replay(list, 4)?)?;
-    report(out, b"checked_coordinate ", replay(list, 5)?)
+    let widen = replay(list, |a, b| float::widen_bits(low(a)) == b)?;
+    report(out, "widen", widen)?;
+    let narrow = replay(list, |a, b| float::narrow_bits(a) as u64 == b)?;
+    report(out, "narrow", narrow)?;
+    let mul_add = replay(list, |a, b| {
+        float::mul_add_bits(low(a), high(a), low(b)) == high(b)
+    })?;
+    report(out, "mul_add", mul_add)?;
+    let floor = replay(list, |a, b| float::floor_bits(a) == b)?;
+    report(out, "floor", floor)?;
+    let trunc = replay(list, |a, b| float::trunc_bits(a) == b)?;
+    report(out, "trunc", trunc)?;
+    let coordinate = replay(list, |a, b| coordinate_word(a) == b)?;
+    report(out, "checked_coordinate", coordinate)
 }

@@ -3,4 +3,4 @@ use Rattle.std.proofs.Common.{◌≤◌}
 use Rattle.replay_float.proofs.replay.Given as goal
 
 abbrev pub invariant-loop : goal.invariant-loop
-invariant-loop g l = (l.read ≤ l.counter) × (l.differ ≤ l.counter)
+invariant-loop g l = (l.seen.read ≤ l.counter) × (l.seen.differ ≤ l.counter)
