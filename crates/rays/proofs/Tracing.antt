@@ -48,7 +48,8 @@ and_false false = refl
 -- ---- what a call for the next piece tells
 
 -- no piece: none is left
-pub none_left : (n : ℕ) (s : State) (table : List Float) (r : Result Step) → r ≡ next s table → follow r (λ s'. pieces n s' table) ≡ [] → pieces (suc n) s table ≡ []
+pub none_left : (n : ℕ) (s : State) (table : List Float) (r : Result Step) → r ≡ next s table → follow r (λ s'. pieces n s' table) ≡ []
+    → pieces (suc n) s table ≡ []
 unfolding pieces
 none_left n s table r e h = ap (λ (q : Result Step). follow q (λ s'. pieces n s' table)) (sym e) ∙ h
 

@@ -27,7 +27,9 @@ returns-in-Err c =
 pub returns-then-i-ends : goal.returns-then-i-ends
 returns-then-i-ends c =
     let stepped = ap (λ o. step_said (Ok o)) (sym c.in-Ok-Some.field-0-is) ∙ c.in-Ok-Some.ensures in
-    full _ _ _ _ _ _ _ _ _ c.loop-i.invariant {p = as_piece c.in-Ok-Some.piece} {s' = as_state c.in-Ok-Some.rest} stepped c.loop-i-test.true (elim c.then-i-ends.branch [
+    let p = as_piece c.in-Ok-Some.piece in
+    let s' = as_state c.in-Ok-Some.rest in
+    full _ _ _ _ _ _ _ _ _ c.loop-i.invariant {p = p} {s' = s'} stepped c.loop-i-test.true (elim c.then-i-ends.branch [
       | then-i-ends-via-then-i-ends w ↦ inl (omega arith)
       | then-i-ends-via-else-i-ends+then-i-figures w ↦ inr (omega arith)
     ])
@@ -35,7 +37,9 @@ returns-then-i-ends c =
 pub loop-i-preserved : goal.loop-i-preserved
 loop-i-preserved c =
     let stepped = ap (λ o. step_said (Ok o)) (sym c.in-Ok-Some.field-0-is) ∙ c.in-Ok-Some.ensures in
-    go_on _ _ _ _ _ _ _ _ _ c.loop-i.invariant {p = as_piece c.in-Ok-Some.piece} {s' = as_state c.in-Ok-Some.rest} stepped c.loop-i-test.true (omega arith) (omega arith)
+    let p = as_piece c.in-Ok-Some.piece in
+    let s' = as_state c.in-Ok-Some.rest in
+    go_on _ _ _ _ _ _ _ _ _ c.loop-i.invariant {p = p} {s' = s'} stepped c.loop-i-test.true (omega arith) (omega arith)
 
 pub returns : goal.returns
 returns c =

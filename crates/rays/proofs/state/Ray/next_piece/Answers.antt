@@ -63,7 +63,13 @@ returns-in-X c =
     went s c.args.majorants.now c.in_ok-check_table.ensures c.if-t_max-t_min.false
     (sound_by s c.is_sound.ensures c.is_sound-2.ensures c.is_sound-3.ensures c.if-not-sound.false)
     x_axis c.in-X.ensures c.place_of-at.ensures stepped.piece
-    (stepped.ray ∙ (λ i. record { t_min = goes_on s.t_max s.x; t_max = s.t_max; x = c.advanced.ensures i; y = as_track c.args.self.y; z = as_track c.args.self.z }))
+    (stepped.ray ∙ (λ i. record {
+      t_min = goes_on s.t_max s.x;
+      t_max = s.t_max;
+      x = c.advanced.ensures i;
+      y = as_track c.args.self.y;
+      z = as_track c.args.self.z;
+    }))
 
 pub advanced-requires-in-Y : goal.advanced-requires-in-Y
 advanced-requires-in-Y c =
@@ -82,7 +88,13 @@ returns-in-Y c =
     went s c.args.majorants.now c.in_ok-check_table.ensures c.if-t_max-t_min.false
     (sound_by s c.is_sound.ensures c.is_sound-2.ensures c.is_sound-3.ensures c.if-not-sound.false)
     y_axis c.in-Y.ensures c.place_of-at.ensures stepped.piece
-    (stepped.ray ∙ (λ i. record { t_min = goes_on s.t_max s.y; t_max = s.t_max; x = as_track c.args.self.x; y = c.advanced-in-Y.ensures i; z = as_track c.args.self.z }))
+    (stepped.ray ∙ (λ i. record {
+      t_min = goes_on s.t_max s.y;
+      t_max = s.t_max;
+      x = as_track c.args.self.x;
+      y = c.advanced-in-Y.ensures i;
+      z = as_track c.args.self.z;
+    }))
 
 pub advanced-requires-in-Z : goal.advanced-requires-in-Z
 advanced-requires-in-Z c =
@@ -101,4 +113,10 @@ returns-in-Z c =
     went s c.args.majorants.now c.in_ok-check_table.ensures c.if-t_max-t_min.false
     (sound_by s c.is_sound.ensures c.is_sound-2.ensures c.is_sound-3.ensures c.if-not-sound.false)
     z_axis c.in-Z.ensures c.place_of-at.ensures stepped.piece
-    (stepped.ray ∙ (λ i. record { t_min = goes_on s.t_max s.z; t_max = s.t_max; x = as_track c.args.self.x; y = as_track c.args.self.y; z = c.advanced-in-Z.ensures i }))
+    (stepped.ray ∙ (λ i. record {
+      t_min = goes_on s.t_max s.z;
+      t_max = s.t_max;
+      x = as_track c.args.self.x;
+      y = as_track c.args.self.y;
+      z = c.advanced-in-Z.ensures i;
+    }))
