@@ -7,7 +7,7 @@ ghost use Rattle.std.specs.Prelude.{◌≡◌};
 
 use layout::Field;
 use refusals::Refusal;
-use replay::{first_bytes, report};
+use replay::{first, report};
 use std::io;
 
 // How many answers were compared, and how many of them were not as listed.
@@ -39,7 +39,7 @@ fn try_fields<T: Field, V: Copy + PartialEq, F: Fn(T) -> V>(
     requires { F.IsAlwaysCallable value_of }
 {
     for (n, at, inside, value) in cases {
-        let b = first_bytes(s, *n);
+        let b = first(s, *n);
         tally.count(value_of(T::at(b, *at)) == *value);
         match layout::read::<T>(b, *at) {
             Ok(v) => tally.count(*inside && value_of(v) == *value),
@@ -236,7 +236,7 @@ fn signs(tally: &mut Tally) {
 fn mask_bits(tally: &mut Tally) {
     let s = b"\x81\x02\xff";
     for (n, at, i, bit) in BITS {
-        tally.count(layout::mask_bit(first_bytes(s, n), at, i) == bit);
+        tally.count(layout::mask_bit(first(s, n), at, i) == bit);
     }
 }
 
