@@ -1,19 +1,10 @@
--- What several proofs cite: a test that comes first, and a row of tests each of whose failures is 19. Assumes nothing.
-use mathlib.Core.Path.{◌≡◌, refl, sym, ◌∙◌}
-use mathlib.Core.Bool.{Bool, true, false, ◌&&◌, true≢false}
+-- What several proofs cite: a row of tests each of whose failures is 19. Assumes nothing.
+use mathlib.Core.Path.{◌≡◌, sym, ◌∙◌}
+use mathlib.Core.Bool.{Bool, true, false}
 use Prim.Native.Nat.{ℕ, ◌+◌, ◌<◌}
 use native.Mathlib.Omega.{arith}
 use Rattle.refusals.specs.Faults.{unless, first_fault}
 use Rattle.refusals.proofs.FaultSteps.{first_fault_next, first_fault_at}
-
--- a program that goes on where its first test r passed
-pub goes_on_lem : (t y : Bool) {r x : Bool} → r ≡ t → r ≡ true → x ≡ y → x ≡ (t && y)
-goes_on_lem true y e h q = q
-goes_on_lem false y e h q = absurd (true≢false (sym h ∙ e))
-
-pub stops_there : (t y : Bool) {r : Bool} → r ≡ t → r ≡ false → false ≡ (t && y)
-stops_there true y e h = absurd (true≢false (sym e ∙ h))
-stops_there false y e h = refl
 
 -- ---- a row of tests, none of which failed before place i
 

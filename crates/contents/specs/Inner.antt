@@ -1,44 +1,28 @@
 -- What the contracts of private functions say: the code's values in the terms of the definition.
-use Rattle.std.specs.Prelude.{ℕ, ◌-◌, List, ◌≡◌, cond, ltb}
+use Rattle.std.specs.Prelude.{ℕ, ◌-◌, List, ◌≡◌, cond, ltb, Ok, Err, Result as Answer}
 use Rattle.refusals.specs.Results.{Result, ok, refused}
+use Rattle.refusals.specs.Numbers.{number}
+use Rattle.refusals.specs.declared.Refusal.{Refusal}
 use Rattle.contents.specs.Segments as S
-use Rattle.contents.specs.declared.segment.Grid as Grid
-use Rattle.contents.specs.declared.Located as Located
-use Rattle.contents.specs.declared.Search as Search
-use Rattle.contents.specs.declared.segment.Run as Run
-use Rattle.contents.specs.declared.segment.Segment as Segment
+use Rattle.contents.specs.Answers.{as_span}
+use Rattle.contents.specs.declared.Grid.{Grid}
 
-abbrev pub as_grid : Grid.Grid → S.Grid
-as_grid g = record { name = S.part g.name_start g.name_length; body = S.part g.start g.length }
+abbrev pub as_grid : Grid → S.Grid
+as_grid g = record { name = as_span g.name; body = as_span g.body }
 
-abbrev pub of_located : Located.Located → Result S.Grid
-of_located (Located.TheVariants.Refused n) = refused n
-of_located (Located.TheVariants.At g) = ok (as_grid g)
+abbrev pub grid_said : Answer Grid Refusal → Result S.Grid
+grid_said (Ok g) = ok (as_grid g)
+grid_said (Err e) = refused (number e)
 
--- what a search comes to, with what the segments to come answer
-abbrev pub answer_of : (ℕ → Result S.Grid) → Search.Search → Result S.Grid
-answer_of rest (Search.TheVariants.Left k) = rest k
-answer_of rest (Search.TheVariants.Found g) = ok (as_grid g)
-
--- ---- what the runs over a segment's parts say
-
-pub record EntriesRun (b : List ℕ) (at : ℕ) (r : Run.Run) : Type 0 where
-  pub fault : r.fault ≡ S.entries_fault b at
-  pub end : r.fault ≡ 0 → r.end ≡ S.body_at b at 0
-
-pub record BodiesRun (b : List ℕ) (at : ℕ) (r : Run.Run) : Type 0 where
-  pub fault : r.fault ≡ S.bodies_fault b at
-  pub end : r.fault ≡ 0 → r.end ≡ S.segment_end b at
-
-pub record SegmentRun (b : List ℕ) (at : ℕ) (r : Segment.Segment) : Type 0 where
-  pub fault : r.fault ≡ S.segment_fault b at
-  pub bodies : r.fault ≡ 0 → r.bodies ≡ S.body_at b at 0
-  pub end : r.fault ≡ 0 → r.end ≡ S.segment_end b at
+-- what a search comes to, with what the segments to come answer: the grid, or how many are left to be passed before it
+abbrev pub answer_of : (ℕ → Result S.Grid) → Answer Grid ℕ → Result S.Grid
+answer_of rest (Ok g) = ok (as_grid g)
+answer_of rest (Err k) = rest k
 
 -- the answer of the segment at `at`, and of the rest for a number past its grids
 abbrev pub or_in : List ℕ → ℕ → (ℕ → Result S.Grid) → ℕ → Result S.Grid
 or_in b at rest n = cond (ltb n (S.count b at)) (ok (S.grid_at b at n)) (rest (n - S.count b at))
 
--- the search t after the segment at `at`, from the search s before it: with the segments to come t gives what s gives with this one before them
-pub record Passed (b : List ℕ) (at : ℕ) (s t : Search.Search) : Type 0 where
-  pub same : (rest : ℕ → Result S.Grid) → answer_of (or_in b at rest) s ≡ answer_of rest t
+-- what grid k comes to in the segment at `at`: with the segments to come t gives what k gives with this one before them
+pub record Passed (b : List ℕ) (at k : ℕ) (t : Answer Grid ℕ) : Type 0 where
+  pub same : (rest : ℕ → Result S.Grid) → or_in b at rest k ≡ answer_of rest t

@@ -1,18 +1,34 @@
 // Whole .nvdb files: which part of a file's bytes holds grid n, and which part its name. Every segment is tested, whatever n is.
 #![tactic(auto)]
 
-ghost use Rattle.std.specs.Prelude.{◌≡◌};
-ghost use Rattle.refusals.specs.Results.{refused};
+ghost use Rattle.std.specs.Prelude.{◌≡◌, ◌+◌, ◌≤◌, IfOk, length};
 ghost use Rattle.contents.specs.Contents.{pick, pick_name, located, loaded};
-ghost use Rattle.contents.specs.Segments.{body_at, segment_fault};
-ghost use Rattle.contents.specs.Answers.{picked};
-ghost use Rattle.contents.specs.Inner.{of_located, Passed};
+ghost use Rattle.contents.specs.Answers.{span_said};
+ghost use Rattle.contents.specs.Inner.{grid_said};
 
+mod bridge;
 mod segment;
 
-use segment::Grid;
+pub use bridge::{grid_part, name_part};
+use refusals::Refusal;
+use segment::Segment;
+
+// A part of a file's bytes.
+#[derive(Clone, Copy, Debug, PartialEq, Eq)]
+pub struct Span {
+    pub start: usize,
+    pub length: usize,
+}
+
+// Where the name of a grid and its body stand.
+#[derive(Clone, Copy)]
+struct Grid {
+    name: Span,
+    body: Span,
+}
 
 // The number of the refusal (0 where there is a grid), and the part: where it starts and how many bytes it has.
+// Bridge: what smokegrid takes from `grid_part` and `name_part`.
 #[derive(Clone, Copy)]
 pub struct Picked {
     pub number: u32,
@@ -20,95 +36,50 @@ pub struct Picked {
     pub length: usize,
 }
 
-// A grid that is looked for: how many grids are to be passed before it, or where it stands.
-#[derive(Clone, Copy)]
-enum Search {
-    Left(usize),
-    Found(Grid),
-}
-
-#[derive(Clone, Copy)]
-enum Located {
-    Refused(u32),
-    At(Grid),
-}
-
-// The search goes past a segment that has no fault and whose bodies start at `bodies`.
-fn past(file: &[u8], segment: usize, bodies: usize, search: Search) -> Search
-    requires { (segment_fault file.now segment ≡ 0) × (bodies ≡ body_at file.now segment 0) }
-    ensures { Passed file.now segment search result }
+// Where grid n stands, counted from 0 through all segments: one pass over them.
+fn locate(file: &[u8], n: usize) -> Result<Grid, Refusal>
+    ensures { grid_said result ≡ located file.now n }
 {
-    match search {
-        Search::Found(g) => Search::Found(g),
-        Search::Left(k) => {
-            let grids = segment::grid_count(file, segment);
-            if k < grids {
-                return Search::Found(segment::grid_in(file, segment, bodies, k));
-            }
-            Search::Left(k - grids)
-        }
-    }
-}
-
-// One pass over the segments.
-fn locate(file: &[u8], n: usize) -> Located
-    ensures { of_located result ≡ located file.now n }
-{
-    if file.len() == 0 {
-        return Located::Refused(refusals::FILE);
+    if file.is_empty() {
+        return Err(Refusal::File);
     }
     let mut at = 0;
-    let mut search = Search::Left(n);
+    let mut found = Err(n);
+    // There is no count to go by: each segment says where the next one starts.
     while at < file.len() {
-        let s = segment::read(file, at);
-        if s.fault != 0 {
-            return Located::Refused(s.fault);
+        let segment = Segment::read(file, at)?;
+        if let Err(left) = found {
+            found = segment.nth(left);
         }
-        search = past(file, at, s.bodies, search);
-        at = s.end;
+        at = segment.end;
     }
-    match search {
-        Search::Found(g) => Located::At(g),
-        Search::Left(k) => Located::Refused(refusals::NO_GRID),
-    }
-}
-
-// The answer of a refusal: zeros beside its number.
-fn no_part(number: u32) -> Picked
-    ensures { result ≡ picked (refused number) }
-{
-    Picked {
-        number: number,
-        start: 0,
-        length: 0,
-    }
+    found.or(Err(Refusal::NoGrid))
 }
 
 // The part that holds grid n.
-pub fn grid_part(file: &[u8], n: usize) -> Picked
-    ensures { result ≡ picked (pick file.now n) }
+#[tactic(auto, unfolding(crate::specs::Contents::pick))]
+pub fn grid_span(file: &[u8], n: usize) -> Result<Span, Refusal>
+    ensures { span_said result ≡ pick file.now n }
 {
-    match locate(file, n) {
-        Located::Refused(number) => no_part(number),
-        Located::At(g) => Picked {
-            number: 0,
-            start: g.start,
-            length: g.length,
-        },
-    }
+    Ok(locate(file, n)?.body)
 }
 
 // The part that holds the name of grid n.
-pub fn name_part(file: &[u8], n: usize) -> Picked
-    ensures { result ≡ picked (pick_name file.now n) }
+#[tactic(auto, unfolding(crate::specs::Contents::pick_name))]
+pub fn name_span(file: &[u8], n: usize) -> Result<Span, Refusal>
+    ensures { span_said result ≡ pick_name file.now n }
 {
-    match locate(file, n) {
-        Located::Refused(number) => no_part(number),
-        Located::At(g) => Picked {
-            number: 0,
-            start: g.name_start,
-            length: g.name_length,
-        },
+    Ok(locate(file, n)?.name)
+}
+
+// The bytes of a part, none on a refusal.
+fn bytes_of(file: &[u8], found: Result<Span, Refusal>) -> &[u8]
+    requires { IfOk found (λ p. p.start + p.length ≤ length file.now) }
+    ensures { result.now ≡ loaded file.now (span_said found) }
+{
+    match found {
+        Ok(span) => &file[span.start..span.start + span.length],
+        Err(_) => &[],
     }
 }
 
@@ -116,18 +87,12 @@ pub fn name_part(file: &[u8], n: usize) -> Picked
 pub fn part(file: &[u8], n: usize) -> &[u8]
     ensures { result.now ≡ loaded file.now (pick file.now n) }
 {
-    let p = grid_part(file, n);
-    let start = p.start;
-    let end = start + p.length;
-    &file[start..end]
+    bytes_of(file, grid_span(file, n))
 }
 
 // The bytes of its name, none on a refusal.
 pub fn grid_name(file: &[u8], n: usize) -> &[u8]
     ensures { result.now ≡ loaded file.now (pick_name file.now n) }
 {
-    let p = name_part(file, n);
-    let start = p.start;
-    let end = start + p.length;
-    &file[start..end]
+    bytes_of(file, name_span(file, n))
 }

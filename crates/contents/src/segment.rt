@@ -1,73 +1,42 @@
 // One segment of a file: its header, its entries with their names, and its bodies. Each place is tested before a sum is formed from it.
-ghost use Rattle.std.specs.Prelude.{◌≡◌, ◌+◌, ◌<◌, ◌≤◌, length};
+ghost use Rattle.std.specs.Prelude.{◌≡◌, ◌+◌, ◌≤◌, IfOk, length};
+ghost use Rattle.refusals.specs.Numbers.{fault_of};
 ghost use Rattle.contents.specs.Segments.{count, size, name_length, entry_end, mark_passes, header_holds, header_passes};
-ghost use Rattle.contents.specs.Segments.{entry_holds, entry_passes, body_passes, body_at, grid_at, entries_fault, segment_fault};
-ghost use Rattle.contents.specs.Inner.{as_grid, EntriesRun, BodiesRun, SegmentRun};
+ghost use Rattle.contents.specs.Segments.{entry_holds, entry_passes, body_passes, body_at, grid_at, entries_fault, bodies_fault, segment_fault, segment_end};
+ghost use Rattle.contents.specs.Inner.{Passed};
+ghost use Rattle.refusals.specs.Faults.{unless};
 
-use refusals::both;
+use crate::{Grid, Span};
+use refusals::Refusal;
 
 const HEADER: usize = 16;
 
 const ENTRY: usize = 176;
 
-// Where the name of a grid and its body stand.
+// A header inside the file: a mark, a grid or more, and major version 32.
 #[derive(Clone, Copy)]
-pub struct Grid {
-    pub name_start: usize,
-    pub name_length: usize,
-    pub start: usize,
-    pub length: usize,
+struct Header<'a> {
+    file: &'a [u8],
+    at: usize,
+    ghost inside: { at + 16 ≤ length file.now },
 }
 
-// A run over the entries or the bodies of a segment: the fault, 0 for none, and then the place after the last.
+// A segment without a fault: its header, and where its bodies start and where it ends.
 #[derive(Clone, Copy)]
-pub struct Run {
-    pub fault: u32,
+pub(crate) struct Segment<'a> {
+    header: Header<'a>,
+    bodies: usize,
     pub end: usize,
+    ghost no_fault: { segment_fault header.file.now header.at ≡ 0 },
+    ghost begins: { bodies ≡ body_at header.file.now header.at 0 },
+    ghost ends: { end ≡ segment_end header.file.now header.at },
 }
 
-// A segment: its fault, 0 for none, and then where its bodies start and where it ends.
-#[derive(Clone, Copy)]
-pub struct Segment {
-    pub fault: u32,
-    pub bodies: usize,
-    pub end: usize,
-}
-
+// "NanoVDB0" or "NanoVDB2".
 fn mark_passes(mark: u64) -> bool
     ensures { result ≡ mark_passes mark }
 {
-    if mark == 0x304244566f6e614e {
-        true
-    } else {
-        mark == 0x324244566f6e614e
-    }
-}
-
-fn header_holds(file: &[u8], at: usize) -> bool
-    requires { at + 16 ≤ length file.now }
-    ensures { result ≡ header_holds file.now at }
-{
-    let mark = mark_passes(layout::u64_at(file, at));
-    let grids = both(mark, 0 < layout::u16_at(file, at + 12));
-    both(grids, layout::u32_at(file, at + 8) / 2097152 == 32)
-}
-
-fn header_passes(file: &[u8], at: usize) -> bool
-    ensures { result ≡ header_passes file.now at }
-{
-    if layout::inside(file.len(), at, HEADER) {
-        return header_holds(file, at);
-    }
-    false
-}
-
-// How many grids the segment has.
-pub(crate) fn grid_count(file: &[u8], segment: usize) -> usize
-    requires { segment + 16 ≤ length file.now }
-    ensures { result ≡ count file.now segment }
-{
-    layout::u16_at(file, segment + 12) as usize
+    mark == 0x304244566f6e614e || mark == 0x324244566f6e614e
 }
 
 // The length of the body whose entry stands at `at`.
@@ -92,130 +61,142 @@ fn entry_end(file: &[u8], at: usize) -> usize
     at + ENTRY + name_length(file, at)
 }
 
-fn entry_holds(file: &[u8], segment: usize, at: usize) -> bool
-    requires { (segment + 16 ≤ length file.now) × (at + 176 ≤ length file.now) }
-    ensures { result ≡ entry_holds file.now segment at }
-{
-    let codec = layout::u16_at(file, at + 168) == layout::u16_at(file, segment + 14);
-    let version = layout::u32_at(file, at + 172) == layout::u32_at(file, segment + 8);
-    let name = name_length(file, at);
-    let named = both(0 < name, layout::inside(file.len(), at + ENTRY, name));
-    both(both(codec, version), named)
-}
-
-fn entry_passes(file: &[u8], segment: usize, at: usize) -> bool
-    requires { segment + 16 ≤ length file.now }
-    ensures { result ≡ entry_passes file.now segment at }
-{
-    if layout::inside(file.len(), at, ENTRY) {
-        return entry_holds(file, segment, at);
-    }
-    false
-}
-
 fn body_passes(n: usize, at: usize, size: usize) -> bool
     ensures { result ≡ body_passes n at size }
 {
-    both(736 <= size, layout::inside(n, at, size))
+    736 <= size && layout::inside(n, at, size)
 }
 
-// The entries in order, each with its name.
-fn entries(file: &[u8], segment: usize) -> Run
-    requires { segment + 16 ≤ length file.now }
-    ensures { EntriesRun file.now segment result }
-{
-    let grids = grid_count(file, segment);
-    let mut at = segment + HEADER;
-    let mut i = 0;
-    while i < grids {
-        if !entry_passes(file, segment, at) {
-            return Run {
-                fault: refusals::FILE,
-                end: 0,
-            };
+impl<'a> Header<'a> {
+    #[tactic(auto, unfolding(crate::specs::Segments::header_holds))]
+    fn holds(&self) -> bool
+        ensures { result ≡ header_holds self.now.file.now self.now.at }
+    {
+        mark_passes(layout::u64_at(self.file, self.at))
+            && 0 < layout::u16_at(self.file, self.at + 12)
+            && layout::u32_at(self.file, self.at + 8) / 2097152 == 32
+    }
+
+    // The header at `at`, which passes.
+    fn read(file: &'a [u8], at: usize) -> Result<Header<'a>, Refusal>
+        ensures fault { fault_of result ≡ unless (header_passes file.now at) 19 }
+        ensures same { IfOk result (λ h. (h.file.now ≡ file.now) × (h.at ≡ at)) }
+    {
+        if layout::inside(file.len(), at, HEADER) {
+            let header = Header { file, at };
+            if header.holds() {
+                return Ok(header);
+            }
         }
-        at = entry_end(file, at);
-        i += 1;
+        Err(Refusal::File)
     }
-    Run { fault: 0, end: at }
-}
 
-// The bodies in order, from `start` on, by the sizes in the entries.
-fn bodies(file: &[u8], segment: usize, start: usize) -> Run
-    requires { (segment + 16 ≤ length file.now) × (entries_fault file.now segment ≡ 0) × (start ≡ body_at file.now segment 0) }
-    ensures { BodiesRun file.now segment result }
-{
-    let grids = grid_count(file, segment);
-    let mut entry = segment + HEADER;
-    let mut at = start;
-    let mut i = 0;
-    while i < grids {
-        let size = size_at(file, entry);
-        if !body_passes(file.len(), at, size) {
-            return Run {
-                fault: refusals::FILE,
-                end: 0,
-            };
+    // How many grids the segment has.
+    fn grids(&self) -> usize
+        ensures { result ≡ count self.now.file.now self.now.at }
+    {
+        usize::from(layout::u16_at(self.file, self.at + 12))
+    }
+
+    #[tactic(auto, unfolding(crate::specs::Segments::entry_holds))]
+    fn entry_holds(&self, at: usize) -> bool
+        requires { at + 176 ≤ length self.now.file.now }
+        ensures { result ≡ entry_holds self.now.file.now self.now.at at }
+    {
+        let file = self.file;
+        let codec = layout::u16_at(file, at + 168) == layout::u16_at(file, self.at + 14);
+        let version = layout::u32_at(file, at + 172) == layout::u32_at(file, self.at + 8);
+        let name = name_length(file, at);
+        codec && version && 0 < name && layout::inside(file.len(), at + ENTRY, name)
+    }
+
+    fn entry_passes(&self, at: usize) -> bool
+        ensures { result ≡ entry_passes self.now.file.now self.now.at at }
+    {
+        layout::inside(self.file.len(), at, ENTRY) && self.entry_holds(at)
+    }
+
+    // The entries in order, each with its name: the place after the last, where the bodies start.
+    fn entries(&self) -> Result<usize, Refusal>
+        ensures fault { fault_of result ≡ entries_fault self.now.file.now self.now.at }
+        ensures end { IfOk result (λ end. end ≡ body_at self.now.file.now self.now.at 0) }
+    {
+        let mut at = self.at + HEADER;
+        for _ in 0..self.grids() {
+            if !self.entry_passes(at) {
+                return Err(Refusal::File);
+            }
+            at = entry_end(self.file, at);
         }
-        at += size;
-        entry = entry_end(file, entry);
-        i += 1;
+        Ok(at)
     }
-    Run { fault: 0, end: at }
-}
 
-// A segment from its header to its last body: 20 stands between the entries and the bodies.
-pub(crate) fn read(file: &[u8], at: usize) -> Segment
-    ensures { SegmentRun file.now at result }
-{
-    if !header_passes(file, at) {
-        return Segment {
-            fault: refusals::FILE,
-            bodies: 0,
-            end: 0,
-        };
-    }
-    let names = entries(file, at);
-    let start = names.end;
-    if names.fault != 0 {
-        return Segment {
-            fault: names.fault,
-            bodies: 0,
-            end: 0,
-        };
-    }
-    if layout::u16_at(file, at + 14) != 0 {
-        return Segment {
-            fault: refusals::CODEC,
-            bodies: 0,
-            end: 0,
-        };
-    }
-    let held = bodies(file, at, start);
-    Segment {
-        fault: held.fault,
-        bodies: start,
-        end: held.end,
+    // The bodies in order, from `start` on, by the sizes in the entries: the place after the last.
+    fn bodies(&self, start: usize) -> Result<usize, Refusal>
+        requires named { entries_fault self.now.file.now self.now.at ≡ 0 }
+        requires begins { start ≡ body_at self.now.file.now self.now.at 0 }
+        ensures fault { fault_of result ≡ bodies_fault self.now.file.now self.now.at }
+        ensures end { IfOk result (λ end. end ≡ segment_end self.now.file.now self.now.at) }
+    {
+        let mut entry = self.at + HEADER;
+        let mut at = start;
+        for _ in 0..self.grids() {
+            let size = size_at(self.file, entry);
+            if !body_passes(self.file.len(), at, size) {
+                return Err(Refusal::File);
+            }
+            at += size;
+            entry = entry_end(self.file, entry);
+        }
+        Ok(at)
     }
 }
 
-// Grid k of a segment that has no fault and whose bodies start at `start`.
-pub(crate) fn grid_in(file: &[u8], segment: usize, start: usize, k: usize) -> Grid
-    requires { (segment_fault file.now segment ≡ 0) × (start ≡ body_at file.now segment 0) × (k < count file.now segment) }
-    ensures { as_grid result ≡ grid_at file.now segment k }
-{
-    let mut entry = segment + HEADER;
-    let mut at = start;
-    let mut i = 0;
-    while i < k {
-        at += size_at(file, entry);
-        entry = entry_end(file, entry);
-        i += 1;
+impl<'a> Segment<'a> {
+    // The segment at `at`, from its header to its last body: 20 stands between the entries and the bodies.
+    #[tactic(auto, unfolding(crate::specs::Segments::segment_fault))]
+    pub(crate) fn read(file: &'a [u8], at: usize) -> Result<Segment<'a>, Refusal>
+        ensures fault { fault_of result ≡ segment_fault file.now at }
+        ensures same { IfOk result (λ s. (s.header.file.now ≡ file.now) × (s.header.at ≡ at)) }
+    {
+        let header = Header::read(file, at)?;
+        let bodies = header.entries()?;
+        if layout::u16_at(file, at + 14) != 0 {
+            return Err(Refusal::Codec);
+        }
+        let end = header.bodies(bodies)?;
+        Ok(Segment {
+            header,
+            bodies,
+            end,
+        })
     }
-    Grid {
-        name_start: entry + ENTRY,
-        name_length: name_length(file, entry),
-        start: at,
-        length: size_at(file, entry),
+
+    // Grid k of the segment, or how many are left to be passed behind it.
+    pub(crate) fn nth(&self, k: usize) -> Result<Grid, usize>
+        ensures { Passed self.now.header.file.now self.now.header.at k result }
+    {
+        let file = self.header.file;
+        let start = self.header.at;
+        let grids = self.header.grids();
+        if grids <= k {
+            return Err(k - grids);
+        }
+        let mut entry = start + HEADER;
+        let mut at = self.bodies;
+        for _ in 0..k {
+            at += size_at(file, entry);
+            entry = entry_end(file, entry);
+        }
+        Ok(Grid {
+            name: Span {
+                start: entry + ENTRY,
+                length: name_length(file, entry),
+            },
+            body: Span {
+                start: at,
+                length: size_at(file, entry),
+            },
+        })
     }
 }

@@ -1,7 +1,7 @@
 -- A grid taken out of a file loads exactly as the same bytes alone, and the claim covers it. Assumes nothing.
 use Rattle.std.specs.Prelude.{ℕ, zero, suc, ◌≡◌, refl, List, [], ◌++◌, length}
 use Rattle.std.proofs.Common.{sym, ap, ◌∙◌}
-use Rattle.refusals.specs.Results.{Result, ok, refused, number_of, bind}
+use Rattle.refusals.specs.Results.{Result, ok, refused, number_of}
 use Rattle.refusals.specs.Faults.{◌then◌, passing}
 use Rattle.refusals.proofs.FaultSteps.{then_stop}
 use Rattle.contents.specs.Segments.{Part}
@@ -10,7 +10,7 @@ use Rattle.contents.proofs.ContentsLaws as Contents
 use Rattle.contents.proofs.Numbers.{pick_some}
 use Rattle.nanovdb.specs.Nodes.{Places}
 use Rattle.nanovdb.specs.Decode.{Accepted, bytes_fault, decode_scalar, decode_density}
-use Rattle.nanovdb.specs.Lent.{Lent, Answer, Tables, lent_fault, places_of, decode_into, answer_of, left_of}
+use Rattle.nanovdb.specs.Lent.{Lent, Answer, lent_fault, places_of, decode_into, answer_of, left_of}
 use Rattle.claim.specs.Promises.{Handed}
 use Rattle.claim.proofs.ContractLaws.{through_contracts}
 use Rattle.files.specs.OfFile.{decode_part}

@@ -8,7 +8,6 @@ ghost use Rattle.decode.specs.Answers.{answer};
 ghost use Rattle.files.specs.OfFile.{decode_part};
 
 use decode::{Decoded, decode_density_grid};
-use refusals::first_fault;
 
 // Grid n of a file, as `decode_density_grid` decodes the same bytes alone. Where the file is refused the part is empty, of which the decode leaves zeros.
 pub fn decode_grid_of_file(
@@ -33,10 +32,8 @@ pub fn decode_grid_of_file(
         upper_values.new lower_links.new lower_values.new leaf_values.new work.new in
         after ≡ left_of (lengths before) (decode_part decode_density file.now n (lengths before)) }
 {
-    let found = contents::grid_part(file, n);
-    let part = contents::part(file, n);
-    let d = decode_density_grid(
-        part,
+    let decoded = decode_density_grid(
+        contents::part(file, n),
         blocks,
         root_links,
         root_values,
@@ -47,14 +44,11 @@ pub fn decode_grid_of_file(
         leaf_values,
         work,
     );
-    let medium = d.medium;
-    Decoded {
-        number: first_fault(found.number, d.number),
-        roots: d.roots,
-        upper: d.upper,
-        lower: d.lower,
-        leaf: d.leaf,
-        background: d.background,
-        medium: medium,
+    match contents::grid_span(file, n) {
+        Ok(_) => decoded,
+        Err(refusal) => Decoded {
+            number: refusal.number(),
+            ..decoded
+        },
     }
 }

@@ -3,6 +3,7 @@ use mathlib.Core.Path.{◌≡◌, refl, sym, ap, ◌∙◌}
 use mathlib.Core.Bool.{Bool, cond}
 use mathlib.Core.List.{List, [], ◌∷◌}
 use Prim.Native.Nat.{ℕ, zero, suc, ◌+◌, ◌*◌, ◌^◌, ◌<◌}
+use native.Mathlib.Numerals.{add-one}
 use native.Mathlib.Omega.{arith}
 use lib.IntN.{ℤ}
 use lib.Dec.{eqb}
@@ -26,8 +27,9 @@ use Rattle.nanovdb.proofs.UsedLaws.{accepts, used_parts}
 use Rattle.boxes.specs.Boxes.{Box, between}
 use Rattle.walk.specs.Classes.{class_count, limits_fault, sides_fault, listed, public_counts}
 use Rattle.walk.proofs.ClassLaws.{total_size}
-use Rattle.text.specs.Page.{Page}
-use Rattle.text.proofs.PageLaws.{Wrote, ◌then◌ as ◌after◌, same_text}
+use Rattle.text.specs.declared.Page.{Page}
+use Rattle.text.specs.Written.{Writes}
+use Rattle.text.proofs.Writing.{◌then◌ as ◌after◌, as_text}
 use Rattle.report.specs.Report.{refused_line, lent}
 use Rattle.report.specs.ClassReport.{limits, index_box, class_line, class_lines, total_line, count_lines, class_text}
 use Rattle.report.specs.Inner.{counts_in, used_in, classes_in}
@@ -36,25 +38,31 @@ use Rattle.report.proofs.Fields.{held, Fit}
 
 -- ---- the branches of the code
 
-pub counts_refused : {n : ℕ} (counts : List ℕ) {p q : Page} → (n ≡ 0 → ⊥) → Wrote p (refused_line n) q → Wrote p (counts_in n counts) q
+pub counts_refused : {n : ℕ} (counts : List ℕ) {p q : Page} → (n ≡ 0 → ⊥) → Writes p (refused_line n) q → Writes p (counts_in n counts) q
 unfolding counts_in
 counts_refused {n} counts h e =
-    same_text e (ap (λ (t : Bool). cond t (count_lines (λ k. get_or counts k 0)) (refused_line n)) (sym (ne_eqb n 0 h)))
+    as_text e (ap (λ (t : Bool). cond t (count_lines (λ k. get_or counts k 0)) (refused_line n)) (sym (ne_eqb n 0 h)))
 
-pub counts_lines : {n : ℕ} (counts : List ℕ) {p q : Page} → n ≡ 0 → Wrote p (count_lines (λ k. get_or counts k 0)) q → Wrote p (counts_in n counts) q
+pub counts_lines : {n : ℕ} (counts : List ℕ) {p q : Page} → n ≡ 0 → Writes p (count_lines (λ k. get_or counts k 0)) q → Writes p (counts_in n counts) q
 unfolding counts_in
 counts_lines {n} counts h e =
-    same_text e (ap (λ (t : Bool). cond t (count_lines (λ k. get_or counts k 0)) (refused_line n)) (sym (eq-eqb n 0 h)))
+    as_text e (ap (λ (t : Bool). cond t (count_lines (λ k. get_or counts k 0)) (refused_line n)) (sym (eq-eqb n 0 h)))
 
 three_sum : (f : ℕ → ℕ) → f 0 + f 1 + f 2 ≡ sum 3 f
 unfolding sum
 three_sum f = omega arith
 
--- the lines of three counts
-pub three_lines : {p q r s t : Page} (count : ℕ → ℕ) → Wrote p (class_line 0 (count 0)) q → Wrote q (class_line 1 (count 1)) r
-    → Wrote r (class_line 2 (count 2)) s → Wrote s (total_line (count 0 + count 1 + count 2)) t → Wrote p (count_lines count) t
-unfolding count_lines class_lines
-three_lines count a b c e = ((a after b) after c) after same_text e (ap total_line (three_sum count))
+-- one class more
+pub class_more : {p q r : Page} (count : ℕ → ℕ) (k : ℕ) → Writes p (class_lines count k) q → Writes q (class_line k (count k)) r
+    → Writes p (class_lines count (k + 1)) r
+unfolding class_lines
+class_more count k a b = as_text (a after b) (ap (class_lines count) (sym (add-one k)))
+
+-- the lines of three counts, and their total
+pub three_lines : {p q r : Page} (count : ℕ → ℕ) (k : ℕ) → k ≡ 3 → Writes p (class_lines count k) q
+    → Writes q (total_line (count 0 + count 1 + count 2)) r → Writes p (count_lines count) r
+unfolding count_lines
+three_lines count k z a b = as_text a (ap (class_lines count) z) after as_text b (ap total_line (three_sum count))
 
 -- ---- the count
 
@@ -82,9 +90,9 @@ told_of m {g} l h e = record {
 }
 
 pub told_text : (a : Answer) (blocks : List ℤ) (links : List ℕ) (values : List Float) {n : ℕ} {counts : List ℕ} {p q : Page}
-    → Told (used_in a blocks links values) (index_box a.medium) n counts → Wrote p (counts_in n counts) q → Wrote p (classes_in a blocks links values) q
+    → Told (used_in a blocks links values) (index_box a.medium) n counts → Writes p (counts_in n counts) q → Writes p (classes_in a blocks links values) q
 unfolding classes_in
-told_text a blocks links values t e = same_text e (λ i. counts_in (t.number i) (t.each i))
+told_text a blocks links values t e = as_text e (λ i. counts_in (t.number i) (t.each i))
 
 limits_pass : limits_fault limits ≡ 0
 unfolding limits_fault first_fault of_bits lt

@@ -1,10 +1,11 @@
 -- Coordinates and bits behind a blank, from the steps that write them. A local holds an i32 as its bits. Assumes nothing.
-use mathlib.Core.Path.{◌≡◌, sym, ap}
+use mathlib.Core.Path.{◌≡◌, sym, ap, ◌∙◌}
 use mathlib.Core.List.{List, [], ◌∷◌, ◌++◌}
-use Prim.Native.Nat.{ℕ, ◌+◌, ◌<◌}
+use Prim.Native.Nat.{ℕ, ◌+◌, ◌<◌, ◌≤◌}
 use native.Mathlib.Numerals.{add-one}
 use lib.IntN.{ℤ}
-use lib.ListN.{length, get_or}
+use lib.ListN.{length, get_or, drop, drop_of_length-le}
+use lib.Seq.{drop-cons}
 use lib.Ieee.{Float, nan, binary32, to_bits}
 use mir.Syntax.{w32}
 use mir.Val.{SFits, to_z, of_z}
@@ -14,18 +15,20 @@ use Rattle.float.specs.Zero.{+0}
 use Rattle.layout.specs.Coordinates.{Coord}
 use Rattle.sparse_grid.specs.Tables.{block_at}
 use Rattle.text.specs.Numerals.{signed_text, hex8}
-use Rattle.text.specs.Page.{Page}
-use Rattle.text.proofs.PageLaws.{Wrote, ◌then◌, same_text}
-use Rattle.report.specs.Report.{coordinate, triple, bits, root_line, root_lines}
+use Rattle.text.specs.declared.Page.{Page}
+use Rattle.text.specs.Written.{Writes}
+use Rattle.text.proofs.Writing.{◌then◌, as_text}
+use Rattle.report.specs.Report.{newline, number, coordinate, triple, bits, root_line, root_lines, refused_word, refused_line}
+use Rattle.report.specs.Lines.{numbers}
 use Rattle.report.specs.Inner.{coord_of, roots_in}
 
 -- an i32 as a local holds it
 abbrev pub held : ℤ → ℤ
 held z = to_z w32 (of_z w32 z)
 
-pub put_coordinate : {p q r : Page} {z : ℤ} → SFits w32 z → Wrote p (32 ∷ []) q → Wrote q (signed_text (held z)) r → Wrote p (coordinate z) r
+pub put_coordinate : {p q r : Page} {z : ℤ} → SFits w32 z → Writes p (32 ∷ []) q → Writes q (signed_text (held z)) r → Writes p (coordinate z) r
 unfolding coordinate
-put_coordinate f d e = same_text (d then e) (ap (λ (x : ℤ). 32 ∷ signed_text x) (to_z-of_z f))
+put_coordinate f d e = as_text (d then e) (ap (λ (x : ℤ). 32 ∷ signed_text x) (to_z-of_z f))
 
 -- three i32 that fit
 pub record Fit (k : Coord) : Type 0 where
@@ -33,28 +36,40 @@ pub record Fit (k : Coord) : Type 0 where
   pub y : SFits w32 k.y
   pub z : SFits w32 k.z
 
-pub put_triple : {p q r s : Page} {k : Coord} → Fit k → Wrote p (coordinate (held k.x)) q → Wrote q (coordinate (held k.y)) r
-    → Wrote r (coordinate (held k.z)) s → Wrote p (triple k) s
+pub put_triple : {p q r s : Page} {k : Coord} → Fit k → Writes p (coordinate (held k.x)) q → Writes q (coordinate (held k.y)) r
+    → Writes r (coordinate (held k.z)) s → Writes p (triple k) s
 unfolding triple
 put_triple fit d e f =
-    same_text (d then e then f)
+    as_text (d then e then f)
     (λ i. coordinate (to_z-of_z fit.x i) ++ (coordinate (to_z-of_z fit.y i) ++ coordinate (to_z-of_z fit.z i)))
 
 -- three i32 that a call is handed
-pub held_triple : {p q : Page} {k : Coord} → Fit k → Wrote p (triple (coord_of (held k.x) (held k.y) (held k.z))) q → Wrote p (triple k) q
-held_triple fit e = same_text e (λ i. triple (coord_of (to_z-of_z fit.x i) (to_z-of_z fit.y i) (to_z-of_z fit.z i)))
+pub held_triple : {p q : Page} {k : Coord} → Fit k → Writes p (triple (coord_of (held k.x) (held k.y) (held k.z))) q → Writes p (triple k) q
+held_triple fit e = as_text e (λ i. triple (coord_of (to_z-of_z fit.x i) (to_z-of_z fit.y i) (to_z-of_z fit.z i)))
 
-pub put_bits : {p q r : Page} {n : ℕ} (v : Float) → n ≡ to_bits binary32 v → Wrote p (32 ∷ []) q → Wrote q (hex8 n) r → Wrote p (bits v) r
+pub put_bits : {p q r : Page} {n : ℕ} (v : Float) → n ≡ to_bits binary32 v → Writes p (32 ∷ []) q → Writes q (hex8 n) r → Writes p (bits v) r
 unfolding bits
-put_bits v h d e = same_text (d then e) (ap (λ (k : ℕ). 32 ∷ hex8 k) h)
+put_bits v h d e = as_text (d then e) (ap (λ (k : ℕ). 32 ∷ hex8 k) h)
 
 -- one root more
-pub root_more : {p q r : Page} (blocks : List ℤ) (values : List Float) (i : ℕ) → Wrote p (root_lines (roots_in blocks values) i) q
-    → Wrote q (root_line (block_at (roots_in blocks []) i) (get_or values i +0)) r → Wrote p (root_lines (roots_in blocks values) (i + 1)) r
+pub root_more : {p q r : Page} (blocks : List ℤ) (values : List Float) (i : ℕ) → Writes p (root_lines (roots_in blocks values) i) q
+    → Writes q (root_line (block_at (roots_in blocks []) i) (get_or values i +0)) r → Writes p (root_lines (roots_in blocks values) (i + 1)) r
 unfolding root_lines
-root_more blocks values i e f = same_text (e then f) (ap (root_lines (roots_in blocks values)) (sym (add-one i)))
+root_more blocks values i e f = as_text (e then f) (ap (root_lines (roots_in blocks values)) (sym (add-one i)))
 
 -- a value that was read from its slice
-pub read_bits : {p q : Page} (values : List Float) (i : ℕ) → i < length values → Wrote p (bits (get_or values i nan)) q
-    → Wrote p (bits (get_or values i +0)) q
-read_bits values i h e = same_text e (ap bits (get_d_any values i nan +0 h))
+pub read_bits : {p q : Page} (values : List Float) (i : ℕ) → i < length values → Writes p (bits (get_or values i nan)) q
+    → Writes p (bits (get_or values i +0)) q
+read_bits values i h e = as_text e (ap bits (get_d_any values i nan +0 h))
+
+-- ---- the numbers of a line: the next one, and the end
+
+pub numbers_next : (values : List ℕ) (i : ℕ) → i < length values → numbers (drop i values) ≡ number (get_or values i 0) ++ numbers (drop (i + 1) values)
+numbers_next values i h = ap numbers (drop-cons values i 0 h) ∙ ap (λ (k : ℕ). number (get_or values i 0) ++ numbers (drop k values)) (sym (add-one i))
+
+pub numbers_end : (values : List ℕ) (i : ℕ) → length values ≤ i → numbers (drop i values) ≡ newline
+numbers_end values i h = ap numbers (drop_of_length-le values h)
+
+pub refused_text : {p q : Page} {n m : ℕ} → n ≡ m → Writes p (refused_word ++ numbers (n ∷ [])) q → Writes p (refused_line m) q
+unfolding refused_line
+refused_text e w = as_text w (ap (λ (k : ℕ). refused_word ++ (number k ++ newline)) e)

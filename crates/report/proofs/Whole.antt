@@ -14,8 +14,11 @@ use Rattle.lent.specs.Padded.{padded}
 use Rattle.sparse_grid.specs.Tables.{Grid}
 use Rattle.nanovdb.specs.Decode.{Accepted, decode_density}
 use Rattle.nanovdb.specs.Lent.{Lent, Answer, Tables, answer_of, filled, left_of, decode_into}
-use Rattle.text.specs.Page.{Page, page}
-use Rattle.text.proofs.PageLaws.{Wrote, same_text, puts_front}
+use Rattle.text.specs.Page as Spec
+use Rattle.text.specs.declared.Page.{Page}
+use Rattle.text.specs.Written.{Writes}
+use Rattle.text.proofs.PageLaws.{puts_front}
+use Rattle.text.proofs.Writing.{as_text}
 use Rattle.report.specs.Report.{grid_line, nodes_line, box_line, back_line, root_line, root_lines, refused_line, long_line}
 use Rattle.report.specs.Report.{lent, result_text, printed_of, grid_text, report_of}
 use Rattle.report.specs.ClassReport.{class_report_of}
@@ -32,21 +35,21 @@ module _ (classes : Bool) (n : ℕ) (a : Answer) (blocks : List ℤ) (links : Li
   abbrev by_text : Bool → List ℕ
   by_text t = cond t (classes_in a blocks links values) (lines_in n a blocks values)
 
-  pub text_refused : {p q : Page} → (a.number ≡ 0 → ⊥) → Wrote p (refused_line a.number) q → Wrote p (text_in classes n a blocks links values) q
+  pub text_refused : {p q : Page} → (a.number ≡ 0 → ⊥) → Writes p (refused_line a.number) q → Writes p (text_in classes n a blocks links values) q
   unfolding text_in
-  text_refused h e = same_text e (ap by_number (sym (ne_eqb a.number 0 h)))
+  text_refused h e = as_text e (ap by_number (sym (ne_eqb a.number 0 h)))
 
   accepted : a.number ≡ 0 → by_text classes ≡ text_in classes n a blocks links values
   unfolding text_in
   accepted h = ap by_number (sym (eq-eqb a.number 0 h))
 
-  pub text_classes : {p q : Page} → a.number ≡ 0 → classes ≡ true → Wrote p (classes_in a blocks links values) q
-      → Wrote p (text_in classes n a blocks links values) q
-  text_classes h c e = same_text e (ap by_text (sym c) ∙ accepted h)
+  pub text_classes : {p q : Page} → a.number ≡ 0 → classes ≡ true → Writes p (classes_in a blocks links values) q
+      → Writes p (text_in classes n a blocks links values) q
+  text_classes h c e = as_text e (ap by_text (sym c) ∙ accepted h)
 
-  pub text_lines : {p q : Page} → a.number ≡ 0 → classes ≡ false → Wrote p (lines_in n a blocks values) q
-      → Wrote p (text_in classes n a blocks links values) q
-  text_lines h c e = same_text e (ap by_text (sym c) ∙ accepted h)
+  pub text_lines : {p q : Page} → a.number ≡ 0 → classes ≡ false → Writes p (lines_in n a blocks values) q
+      → Writes p (text_in classes n a blocks links values) q
+  text_lines h c e = as_text e (ap by_text (sym c) ∙ accepted h)
 
 -- ---- the tables, which have zeros past the roots
 
@@ -156,9 +159,9 @@ pub roots_most : {b : List ℕ} {a : Answer} {t : Tables} → Left b a t → len
 roots_most {b} {t = t} left h =
     subst (λ (y : Answer). y.roots ≤ 999) (sym left.answer) (most (decode_into decode_density b lent) t left.tables h)
 
--- a text at the front of a slice, which 65,536 bytes hold
-pub at_front : {l o bs text : List ℕ} {r : ℕ} → bs ≡ text → Wrote (page l 0) bs (page o r) → length bs ≤ 65536
-    → (r ≡ min (length text) (length l)) × ((o ≡ take (length l) text ++ drop (length text) l) × (length text ≤ 65536))
-at_front {l} {text = text} same e h =
-    let f = (same_text e same).is ∙ puts_front l text in
-    (ap (λ (p : Page). p.at) f, (ap (λ (p : Page). p.cells) f, subst (λ (t : List ℕ). length t ≤ 65536) same h))
+-- a text at the front of a slice
+pub at_front : (l : List ℕ) {o bs text : List ℕ} {r : ℕ} → bs ≡ text → Spec.page o r ≡ Spec.puts (Spec.page l 0) bs
+    → (r ≡ min (length text) (length l)) × (o ≡ take (length l) text ++ drop (length text) l)
+at_front l {text = text} same e =
+    let f = e ∙ ap (Spec.puts (Spec.page l 0)) same ∙ puts_front l text in
+    (ap (λ (p : Spec.Page). p.at) f, ap (λ (p : Spec.Page). p.cells) f)

@@ -1,4 +1,5 @@
 pub mod Report
 pub mod ClassReport
 pub mod Inner
+pub mod Lines
 pub mod Room

@@ -1,39 +1,32 @@
 -- A sheet from its page: zeros after a fault, and otherwise the page on zeros. Assumes nothing.
 use mathlib.Core.Path.{◌≡◌, sym, ap, ◌∙◌}
 use mathlib.Core.List.{List, [], ◌++◌}
-use Prim.Native.Nat.{ℕ, zero, suc, ◌+◌, ◌-◌, ◌*◌, ◌≤◌, min}
-use native.Mathlib.Nat.{mul-le-mul}
+use Prim.Native.Nat.{ℕ, zero, suc, ◌-◌, ◌≤◌, min}
 use native.Mathlib.Omega.{arith}
 use lib.ListN.{length, drop, replicate, length-replicate}
 use lib.Seq.{take_all}
 use lib.Ieee.{Float}
-use Rattle.refusals.specs.Results.{Result, ok, number_of, value_or}
+use Rattle.refusals.specs.Results.{Result, ok, refused, value_or}
+use Rattle.cells.specs.Cells.{Cells}
 use Rattle.refusals.proofs.FaultSteps.{passing_stop, passing_on}
 use Rattle.float.specs.Zero.{+0}
 use Rattle.lent.specs.Padded.{padded}
 use Rattle.lent.proofs.PaddedLaws.{padded_none}
 use Rattle.text.specs.Page.{Page, page, puts}
-use Rattle.text.proofs.PageLaws.{Wrote, ◌then◌, same_text, puts_front}
-use Rattle.sheet.specs.Sheet.{head_line, row_lines, most_of, page_of, sheet}
-use Rattle.sheet.proofs.Faults.{Asked, fault, lines, told}
-
--- ---- sizes
-
-pub area_most : (x y : ℕ) → x ≤ 128 → y ≤ 128 → x * y ≤ 16384
-area_most x y h k = mul-le-mul h k
-
-pub size_most : (x y : ℕ) → x ≤ 128 → y ≤ 128 → y * (x + 5) ≤ 17024
-size_most x y h k = mul-le-mul k (more x h)
-  where
-    more : (x : ℕ) → x ≤ 128 → x + 5 ≤ 133
-    more x h = omega arith
+use Rattle.text.specs.Written.{Writes}
+use Rattle.text.specs.declared.Page as Code
+use Rattle.text.proofs.PageLaws.{puts_front}
+use Rattle.text.proofs.Writing.{◌then◌, as_text}
+use Rattle.sheet.specs.Answers.{length_of}
+use Rattle.sheet.specs.Sheet.{head_line, row_lines, most_of, page_of, layer_page, sheet_fault, sheet}
+use Rattle.sheet.proofs.Faults.{told}
 
 -- ---- the heading, and the rows below it
 
-pub page_is : (x y k : ℕ) (layer : List Float) {p q r : Page} {g : Float} → g ≡ most_of +0 layer
-    → Wrote p (head_line k g) q → Wrote q (row_lines x g layer y) r → Wrote p (page_of x y k layer) r
+pub page_is : (x y k : ℕ) (layer : List Float) {p q r : Code.Page} {g : Float} → g ≡ most_of +0 layer
+    → Writes p (head_line k g) q → Writes q (row_lines x g layer y) r → Writes p (page_of x y k layer) r
 unfolding page_of
-page_is x y k layer m e f = same_text (e then f) (ap (λ (h : Float). head_line k h ++ row_lines x h layer y) m)
+page_is x y k layer m e f = as_text (e then f) (ap (λ (h : Float). head_line k h ++ row_lines x h layer y) m)
 
 -- ---- a text that has room, written to the front of zeros
 
@@ -52,37 +45,31 @@ on_zeros room bs h =
 
 -- ---- what is answered
 
-module _ (q : Asked) where
+module _ (n : Cells) (k : ℕ) (table : List Float) (room : ℕ) where
   abbrev answer : Result (List ℕ)
-  answer = sheet q.n q.k q.table q.room
+  answer = sheet n k table room
 
-  -- the clauses of the promise
-  pub record Prints (number : ℕ) (text : List ℕ) (written : ℕ) : Type 0 where
-    pub number_is : number ≡ number_of answer
-    pub text_is : text ≡ padded q.room 0 (value_or [] answer)
-    pub written_is : written ≡ length (value_or [] answer)
+  -- the clauses of the promise, for an answer that is said
+  pub record Prints (said : Result ℕ) (text : List ℕ) : Type 0 where
+    pub said_is : said ≡ length_of answer
+    pub text_is : text ≡ padded room 0 (value_or [] answer)
 
-  by_answer : {r : Result (List ℕ)} → answer ≡ r → Prints (number_of r) (padded q.room 0 (value_or [] r)) (length (value_or [] r))
-  by_answer e = record {
-    number_is = sym (ap number_of e);
-    text_is = sym (ap (λ (s : Result (List ℕ)). padded q.room 0 (value_or [] s)) e);
-    written_is = sym (ap (λ (s : Result (List ℕ)). length (value_or [] s)) e);
+  by_answer : {r : Result (List ℕ)} {text : List ℕ} → answer ≡ r → text ≡ padded room 0 (value_or [] r) → Prints (length_of r) text
+  by_answer e f = record {
+    said_is = sym (ap length_of e);
+    text_is = f ∙ sym (ap (λ (s : Result (List ℕ)). padded room 0 (value_or [] s)) e);
   }
 
-  pub refused_out : {r : ℕ} {text : List ℕ} → r ≡ fault q → (r ≡ 0 → ⊥) → text ≡ replicate q.room 0 → Prints r text 0
+  pub refused_out : {m : ℕ} {text : List ℕ} → m ≡ sheet_fault n k table room → (m ≡ 0 → ⊥) → text ≡ replicate room 0 → Prints (refused m) text
   unfolding sheet
-  refused_out e h f =
-      let p = by_answer (passing_stop (fault q) (ok (lines q)) (λ z. h (e ∙ z))) in
-      record { number_is = e ∙ p.number_is; text_is = f ∙ sym (padded_none q.room 0) ∙ p.text_is; written_is = p.written_is }
+  refused_out e some f =
+      let stop = passing_stop (sheet_fault n k table room) (ok (layer_page n k table)) (λ z. some (e ∙ z)) in
+      by_answer (stop ∙ ap refused (sym e)) (f ∙ sym (padded_none room 0))
 
-  pub page_out : {zeros text : List ℕ} {written : ℕ} → fault q ≡ 0 → zeros ≡ replicate q.room 0
-      → Wrote (page zeros 0) (lines q) (page text written) → Prints 0 text written
+  pub page_out : {zeros text : List ℕ} {written : ℕ} → sheet_fault n k table room ≡ 0 → zeros ≡ replicate room 0
+      → page text written ≡ puts (page zeros 0) (layer_page n k table) → Prints (ok written) text
   unfolding sheet
-  page_out e f w =
-      let p = by_answer (passing_on (fault q) (ok (lines q)) e) in
-      let all = w.is ∙ ap (λ (l : List ℕ). puts (page l 0) (lines q)) f ∙ on_zeros q.room (lines q) (told q e).fits in
-      record {
-        number_is = p.number_is;
-        text_is = ap (λ (x : Page). x.cells) all ∙ p.text_is;
-        written_is = ap (λ (x : Page). x.at) all ∙ p.written_is;
-      }
+  page_out {text = text} e f w =
+      let all = w ∙ ap (λ (l : List ℕ). puts (page l 0) (layer_page n k table)) f ∙ on_zeros room (layer_page n k table) (told n k table room e).fits in
+      let p = by_answer {text = text} (passing_on (sheet_fault n k table room) (ok (layer_page n k table)) e) (ap (λ (x : Page). x.cells) all) in
+      record { said_is = ap ok (ap (λ (x : Page). x.at) all) ∙ p.said_is; text_is = p.text_is }

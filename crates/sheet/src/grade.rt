@@ -6,9 +6,9 @@ ghost use Rattle.sheet.specs.Grades.{units_of, grade as grade_of, mark as mark_o
 
 // digits × 2^place.
 #[derive(Clone, Copy)]
-pub struct Scaled {
-    pub digits: u64,
-    pub place: u64,
+struct Scaled {
+    digits: u64,
+    place: u64,
 }
 
 fn units(v: f32) -> Scaled
@@ -22,44 +22,53 @@ fn units(v: f32) -> Scaled
     }
 }
 
-fn power(t: u64) -> u64
-    requires { t < 28 }
-    ensures { (result ≡ 2 ^ t) × (result ≤ 2 ^ 28) }
-{
-    1u64 << t
-}
-
-// a <= b × 2^s.
+// a <= b × 2^s. Its twin below shifts the other side: one function would test again which side it is.
+#[tactic(auto, using(crate::proofs::Steps::some_far))]
 fn below_shifted(a: u64, b: u64, s: u64) -> bool
     requires { (a < 2 ^ 28) × (b < 2 ^ 28) }
     ensures { result ≡ leb a (b * 2 ^ s) }
 {
     if s < 28 {
-        return a <= b * power(s);
+        return a <= b << s;
     }
-    if b == 0 { a <= 0 } else { true }
+    b != 0 || a == 0
 }
 
 // a × 2^s <= b.
+#[tactic(auto, using(crate::proofs::Steps::far_down))]
 fn shifted_below(a: u64, s: u64, b: u64) -> bool
     requires { (a < 2 ^ 28) × (b < 2 ^ 28) }
     ensures { result ≡ leb (a * 2 ^ s) b }
 {
     if s < 28 {
-        return a * power(s) <= b;
+        return a << s <= b;
     }
     a == 0
 }
 
-// a × 2^p <= b × 2^q, exactly: by the difference of the exponents.
-fn at_most(a: u64, p: u64, b: u64, q: u64) -> bool
-    requires { (a < 2 ^ 28) × (b < 2 ^ 28) }
-    ensures { result ≡ leb (a * 2 ^ p) (b * 2 ^ q) }
-{
-    if p <= q {
-        below_shifted(a, b, q - p)
-    } else {
-        shifted_below(a, p - q, b)
+impl Scaled {
+    // Exactly: by the difference of the exponents.
+    #[tactic(auto, using(crate::proofs::GradeLaws::compare_up, crate::proofs::GradeLaws::compare_down))]
+    fn at_most(self, other: Scaled) -> bool
+        requires { (self.digits < 2 ^ 28) × (other.digits < 2 ^ 28) }
+        ensures { result ≡ leb (self.digits * 2 ^ self.place) (other.digits * 2 ^ other.place) }
+    {
+        if self.place <= other.place {
+            below_shifted(self.digits, other.digits, other.place - self.place)
+        } else {
+            shifted_below(self.digits, self.place - other.place, other.digits)
+        }
+    }
+
+    #[tactic(auto, using(crate::proofs::GradeLaws::k_times))]
+    fn times(self, k: u64) -> Scaled
+        requires { (self.digits < 2 ^ 24) × (k ≤ 9) }
+        ensures { (result.digits * 2 ^ result.place ≡ k * (self.digits * 2 ^ self.place)) × (result.digits < 2 ^ 28) }
+    {
+        Scaled {
+            digits: k * self.digits,
+            place: self.place,
+        }
     }
 }
 
@@ -68,15 +77,13 @@ fn grade(f: Scaled, g: Scaled) -> u64
     requires { (f.digits < 2 ^ 24) × (g.digits < 2 ^ 24) }
     ensures { (result ≡ grade_of (f.digits * 2 ^ f.place) (g.digits * 2 ^ g.place)) × (result ≤ 9) }
 {
-    let nine = 9 * f.digits;
-    let mut k: u64 = 1;
-    while k < 9 {
-        if at_most(nine, f.place, k * g.digits, g.place) {
+    let nine = f.times(9);
+    for k in 1..9 {
+        if nine.at_most(g.times(k)) {
             return k;
         }
-        k += 1;
     }
-    k
+    9
 }
 
 // The character of v where the layer's greatest is g.
@@ -85,8 +92,8 @@ pub(crate) fn mark(v: f32, g: f32) -> u8
     ensures { result ≡ mark_of v g }
 {
     if v == 0.0 {
-        return 46;
+        return b'.';
     }
     let k = grade(units(v), units(g));
-    48 + k as u8
+    b'0' + k as u8
 }

@@ -1,24 +1,31 @@
 // A layer of a table of cells on paper: a heading, and a line for each y from the highest down, with a character for each x.
 #![tactic(auto)]
 
-ghost use Rattle.std.specs.Prelude.{◌≡◌, true, [], ◌+◌, ◌*◌, ◌≤◌, length};
+ghost use Rattle.std.specs.Prelude.{◌≡◌, true, [], ◌+◌, ◌*◌, ◌≤◌, IfOk, length};
 ghost use Rattle.std.specs.Float.Ieee.Scale.{finite};
-ghost use Rattle.refusals.specs.Results.{number_of, value_or};
+ghost use Rattle.refusals.specs.Results.{value_or};
+ghost use Rattle.refusals.specs.Numbers.{fault_of, said_by};
 ghost use Rattle.float.specs.Zero.{+0};
 ghost use Rattle.lent.specs.Padded.{padded};
-ghost use Rattle.cells.specs.Cells.{cells};
+ghost use Rattle.cells.specs.Record.{as_cells};
 ghost use Rattle.figures.specs.Figures.{every};
 ghost use Rattle.text.specs.Page.{page, puts};
-ghost use Rattle.sheet.specs.Sheet.{most_of, page_of, sheet_fault, sheet};
+ghost use Rattle.text.specs.Written.{Writes};
+ghost use Rattle.sheet.specs.Sheet.{most_of, layer_of, page_of, sheet_fault, sheet};
+ghost use Rattle.sheet.specs.Answers.{length_of};
 
+mod bridge;
 mod grade;
 mod lines;
 
-use cells::table_fault;
-use figures::{figures_fault, greater};
-use refusals::{LAYER, NO_PLACE};
+pub use bridge::print_layer;
+use cells::Cells;
+use figures::{check_figures, greater};
+use refusals::Refusal;
+use text::Page;
 
 // The number of a refusal, or 0, and how many bytes were written.
+// Bridge: what smokegrid takes from `print_layer`.
 #[derive(Clone, Copy)]
 pub struct Printed {
     pub number: u32,
@@ -30,78 +37,68 @@ fn most(layer: &[f32]) -> f32
     ensures { result ≡ most_of +0 layer.now }
 {
     let mut greatest = 0.0f32;
-    let mut i: usize = 0;
-    while i < layer.len() {
-        greatest = greater(greatest, layer[i]);
-        i += 1;
+    for figure in layer {
+        greatest = greater(greatest, *figure);
     }
     greatest
 }
 
-// The cells of a layer.
-fn area(x: u32, y: u32) -> usize
-    requires { (x ≤ 128) × (y ≤ 128) }
-    ensures { result ≡ x * y }
-{
-    (x as usize) * (y as usize)
-}
-
 // The bytes of a page.
-fn size(x: u32, y: u32) -> usize
-    requires { (x ≤ 128) × (y ≤ 128) }
-    ensures { result ≡ 19 + y * (x + 5) }
+fn size(cells: Cells) -> usize
+    requires { (cells.x ≤ 128) × (cells.y ≤ 128) }
+    ensures { result ≡ 19 + cells.y * (cells.x + 5) }
 {
-    19 + (y as usize) * (x as usize + 5)
+    19 + (cells.y as usize) * (cells.x as usize + 5)
 }
 
-// `room` is how many bytes are lent.
-fn sheet_fault(table: &[f32], x: u32, y: u32, z: u32, k: u32, room: usize) -> u32
-    ensures { result ≡ sheet_fault (cells x y z) k table.now room }
+// Layer k, which passes and whose page has room in `room` bytes.
+#[tactic(auto, using(crate::proofs::Faults::layer_fits, figures::proofs::Parts::part_is), unfolding(crate::specs::Sheet::sheet_fault))]
+fn checked_layer(table: &[f32], cells: Cells, k: u32, room: usize) -> Result<&[f32], Refusal>
+    ensures fault { fault_of result ≡ sheet_fault (as_cells cells) k table.now room }
+    ensures layer { IfOk result (λ layer. layer.now ≡ layer_of (as_cells cells) k table.now) }
 {
-    let fault = table_fault(x, y, z, table.len());
-    if fault != 0 {
-        return fault;
+    cells.check_table(table.len())?;
+    if k >= cells.z {
+        return Err(Refusal::Layer);
     }
-    if k >= z {
-        return LAYER;
+    let area = (cells.x as usize) * (cells.y as usize);
+    let start = (k as usize) * area;
+    let layer = &table[start..start + area];
+    check_figures(layer)?;
+    if size(cells) > room {
+        return Err(Refusal::NoPlace);
     }
-    let n = area(x, y);
-    let start = (k as usize) * n;
-    let end = start + n;
-    let figures = figures_fault(&table[start..end]);
-    if figures != 0 {
-        return figures;
-    }
-    if size(x, y) <= room { 0 } else { NO_PLACE }
+    Ok(layer)
 }
 
-fn put_page(text: &mut [u8], k: u64, layer: &[f32], x: usize, y: usize) -> usize
-    requires { (y * x ≤ length layer.now) × (every finite layer.now ≡ true) }
+fn put_page(page: &mut Page<'_>, k: u32, layer: &[f32], x: u32, y: u32)
+    requires fits { y * x ≤ length layer.now }
+    requires real { every finite layer.now ≡ true }
+    ensures { Writes page.old (page_of x y k layer.now) page.new }
+{
+    let greatest = most(layer);
+    lines::put_head(page, k, greatest);
+    lines::put_rows(page, layer, x, y, greatest);
+}
+
+// The page at the front of `text`, and how many bytes it takes.
+fn write_page(text: &mut [u8], k: u32, layer: &[f32], x: u32, y: u32) -> usize
+    requires fits { y * x ≤ length layer.now }
+    requires real { every finite layer.now ≡ true }
     ensures { page text.new result ≡ puts (page text.old 0) (page_of x y k layer.now) }
 {
-    let g = most(layer);
-    let next = lines::put_head(text, 0, k, g);
-    lines::put_rows(text, next, layer, x, y, g)
+    let mut page = Page { bytes: text, at: 0 };
+    put_page(&mut page, k, layer, x, y);
+    page.at
 }
 
-// Writes the page of layer k to the front of `text`, and zeros past it. After a refusal there are zeros alone.
-pub fn print_layer(table: &[f32], x: u32, y: u32, z: u32, k: u32, text: &mut [u8]) -> Printed
-    ensures number { result.number ≡ number_of (sheet (cells x y z) k table.now (length text.old)) }
+// Writes the page of layer k to the front of `text`, and zeros past it, and answers how many bytes it takes. After a refusal there are zeros alone.
+pub fn write_layer(table: &[f32], cells: Cells, k: u32, text: &mut [u8]) -> Result<usize, Refusal>
+    ensures answer { said_by result ≡ length_of (sheet (as_cells cells) k table.now (length text.old)) }
     ensures text { let n = length text.old in
-        text.new ≡ padded n 0 (value_or [] (sheet (cells x y z) k table.now n)) }
-    ensures written { result.written ≡ length (value_or [] (sheet (cells x y z) k table.now (length text.old))) }
+        text.new ≡ padded n 0 (value_or [] (sheet (as_cells cells) k table.now n)) }
 {
-    let number = sheet_fault(table, x, y, z, k, text.len());
-    lent::zero_u8(text);
-    if number != 0 {
-        return Printed { number, written: 0 };
-    }
-    let n = area(x, y);
-    let start = (k as usize) * n;
-    let end = start + n;
-    let written = put_page(text, k as u64, &table[start..end], x as usize, y as usize);
-    Printed {
-        number: 0,
-        written: written as u64,
-    }
+    text.fill(0);
+    let layer = checked_layer(table, cells, k, text.len())?;
+    Ok(write_page(text, k, layer, cells.x, cells.y))
 }

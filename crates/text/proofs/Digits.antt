@@ -1,27 +1,19 @@
--- The digits of a number: those of its tenth, and the last. Assumes nothing.
-use mathlib.Core.Path.{◌≡◌, refl, sym, ap, ◌∙◌}
-use mathlib.Core.List.{[], ◌∷◌, ◌++◌}
-use Prim.Native.Nat.{ℕ, zero, suc, ◌+◌, ◌-◌, ◌/◌, ◌%◌}
-use native.Mathlib.Omega.{arith}
-use lib.IntN.{ℤ, pos, negsuc}
-use native.Mathlib.Numerals.{add-one}
-use Rattle.text.specs.Numerals.{digit, decimal, signed_text, sixteens}
-pub use Rattle.text.proofs.NumeralLaws.{decimal_small, decimal_more}
-use Rattle.text.specs.Page.{Page}
-use Rattle.text.proofs.PageLaws.{Wrote, ◌then◌, same_text}
+-- The digits of a number in base sixteen, the highest first: digit i of eight stands behind the first i. Assumes nothing.
+use Rattle.std.proofs.Common.{◌≡◌, refl, sym, ap, ◌∙◌, [], ◌∷◌, ◌++◌, ℕ, ◌+◌, ◌-◌, ◌*◌, ◌/◌, ◌%◌, ◌^◌, ◌<◌, arith, add-one, pow-add}
+use Rattle.std.proofs.Math.Nat.{div-div-eq-div-mul}
+use Rattle.text.specs.Numerals.{digit, sixteens, hex8}
 
-pub sixteens_more : (k n : ℕ) → (k ≡ 0 → ⊥) → sixteens k n ≡ sixteens (k - 1) (n / 16) ++ (digit (n % 16) ∷ [])
+-- the digits above place k of n, for four bits a digit
+shifted : (n k : ℕ) → n / 2 ^ k / 16 ≡ n / 2 ^ (k + 4)
+shifted n k = div-div-eq-div-mul n (2 ^ k) 16 ∙ ap (λ (m : ℕ). n / m) (sym (pow-add 2 k 4))
+
+pub eight_more : (n i : ℕ) → i < 8 → {d : ℕ} → d ≡ digit (n / 2 ^ (28 - 4 * i) % 16)
+    → sixteens i (n / 2 ^ (32 - 4 * i)) ++ (d ∷ []) ≡ sixteens (i + 1) (n / 2 ^ (32 - 4 * (i + 1)))
 unfolding sixteens
-sixteens_more zero n h = absurd (h refl)
-sixteens_more (suc k) n h =
-    let e : k ≡ suc k - 1 = omega arith in
-    ap (λ (j : ℕ). sixteens j (n / 16) ++ (digit (n % 16) ∷ [])) e
+eight_more n i h {d} e =
+    let k : 32 - 4 * (i + 1) ≡ 28 - 4 * i = omega arith in
+    let j : 28 - 4 * i + 4 ≡ 32 - 4 * i = omega arith in
+    rw (add-one i, ← add-one i, k, e, shifted n (28 - 4 * i), j) refl
 
--- a number of either sign
-pub signed_below : {p q r : Page} {z : ℤ} {k : ℕ} → z ≡ negsuc k → Wrote p (45 ∷ []) q → Wrote q (decimal (k + 1)) r → Wrote p (signed_text z) r
-unfolding signed_text
-signed_below {k = k} e f g = same_text (f then g) (ap (λ (n : ℕ). 45 ∷ decimal n) (add-one k) ∙ ap signed_text (sym e))
-
-pub signed_above : {p r : Page} {z : ℤ} {k : ℕ} → z ≡ pos k → Wrote p (decimal k) r → Wrote p (signed_text z) r
-unfolding signed_text
-signed_above e f = same_text f (ap signed_text (sym e))
+pub eight_all : (n i : ℕ) → i ≡ 8 → sixteens i (n / 2 ^ (32 - 4 * i)) ≡ hex8 n
+eight_all n i e = let one : n / 1 ≡ n = omega arith in rw e (ap (λ (m : ℕ). sixteens 8 m) one)

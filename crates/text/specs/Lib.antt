@@ -1,3 +1,4 @@
 pub mod Numerals
 pub mod Lengths
 pub mod Page
+pub mod Written

@@ -1,13 +1,9 @@
 -- The lines, one after another.
-use Rattle.text.proofs.PageLaws.{wrote, ◌then◌}
+use Rattle.text.proofs.Writing.{◌then◌}
+use Rattle.report.specs.Report.{grid_word, grid_line, nodes_word, nodes_line}
 use Rattle.report.specs.Inner.{lines_in}
 use Rattle.report.proofs.put_lines.Goals as goal
 
 pub returns : goal.returns
-unfolding lines_in
-returns c =
-    (wrote c.put_grid-second.ensures
-    then wrote c.put_nodes-third.ensures
-    then wrote c.put_box-fourth.ensures
-    then wrote c.put_back-fifth.ensures
-    then wrote c.put_roots.ensures).is
+unfolding lines_in grid_word grid_line nodes_word nodes_line
+returns c = c.put_line.ensures then c.put_line-2.ensures then c.put_box.ensures then c.put_back.ensures then c.put_roots.ensures

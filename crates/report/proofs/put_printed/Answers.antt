@@ -1,8 +1,9 @@
 -- The decode into these tables, and the text of its answer.
-use Rattle.std.proofs.Common.{List, ℕ, ◌≤◌, length, subst, arith}
+use Rattle.std.proofs.Common.{List, ℕ, ◌≤◌, length, subst}
 use Rattle.nanovdb.specs.Lent.{tables}
 use Rattle.decode.specs.Answers.{answer}
-use Rattle.text.proofs.PageLaws.{wrote, same_text}
+use Rattle.text.proofs.Writing.{as_text}
+use Rattle.report.specs.Report.{long_word, long_line}
 use Rattle.report.specs.Room.{long_room}
 use Rattle.report.proofs.ClassRoom.{printed_room}
 use Rattle.report.proofs.Counting.{Nodeless}
@@ -11,8 +12,9 @@ use Rattle.report.proofs.put_printed.Goals as goal
 
 -- ---- too long an input
 pub returns-then-bytes-gt-MOST-clause-text : goal.returns-then-bytes-gt-MOST-clause-text
+unfolding long_word long_line
 returns-then-bytes-gt-MOST-clause-text c =
-    (same_text (wrote c.put_long.ensures) (long_is c.args.classes c.args.bytes.now c.if-bytes-gt-MOST.true)).is
+    as_text c.put_line.ensures (long_is c.args.classes c.args.bytes.now c.if-bytes-gt-MOST.true)
 
 pub returns-then-bytes-gt-MOST-clause-room : goal.returns-then-bytes-gt-MOST-clause-room
 returns-then-bytes-gt-MOST-clause-room c =
@@ -32,8 +34,7 @@ put_text-requires c =
       leaf_values = d.auto.leaf_values;
     } in
     let left : Left c.args.bytes.now (answer d.result) t = record { answer = d.ensures.result_value; tables = d.ensures.after_after; no_nodes = none } in
-    let most = roots_most left d.auto.root_links in
-    (most, omega arith, omega arith, omega arith)
+    roots_most left d.auto.root_links
 
 pub returns-clause-text : goal.returns-clause-text
 returns-clause-text c =
@@ -48,7 +49,7 @@ returns-clause-text c =
       leaf_values = d.auto.leaf_values;
     } in
     let left : Left c.args.bytes.now (answer d.result) t = record { answer = d.ensures.result_value; tables = d.ensures.after_after; no_nodes = none } in
-    (same_text (wrote c.put_text.ensures.result_after) (printed_is c.args.classes left c.if-bytes-gt-MOST.false)).is
+    as_text c.put_text.ensures.result_after (printed_is c.args.classes left c.if-bytes-gt-MOST.false)
 
 pub returns-clause-room : goal.returns-clause-room
 returns-clause-room c =

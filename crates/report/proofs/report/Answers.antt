@@ -1,13 +1,10 @@
 -- The first of the two texts.
-use Rattle.text.proofs.PageLaws.{wrote}
+use Rattle.std.proofs.Common.{List, ℕ, ◌≤◌, length, subst}
 use Rattle.report.proofs.Whole.{report_printed, at_front}
 use Rattle.report.proofs.report.Goals as goal
 
-pub returns-clause-value : goal.returns-clause-value
-returns-clause-value c = (at_front (report_printed c.args.bytes.now) (wrote c.put_printed.ensures.text) c.put_printed.ensures.room).0
-
-pub returns-clause-out_after : goal.returns-clause-out_after
-returns-clause-out_after c = (at_front (report_printed c.args.bytes.now) (wrote c.put_printed.ensures.text) c.put_printed.ensures.room).1.0
-
-pub returns-clause-bytes_len_bound : goal.returns-clause-bytes_len_bound
-returns-clause-bytes_len_bound c = (at_front (report_printed c.args.bytes.now) (wrote c.put_printed.ensures.text) c.put_printed.ensures.room).1.1
+pub returns : goal.returns
+returns c =
+    let same = report_printed c.args.bytes.now in
+    let f = at_front c.args.out.now same c.write_printed.ensures.text in
+    record { value = f.0; out_after = f.1; bytes_len_bound = subst (λ (l : List ℕ). length l ≤ 65536) same c.write_printed.ensures.room }

@@ -1,17 +1,26 @@
 -- Blanks by the number of digits, and the digits.
-use Rattle.text.proofs.PageLaws.{wrote, ◌then◌, same_text}
+use Rattle.std.proofs.Common.{ap, arith}
+use Rattle.text.specs.Numerals.{decimal}
+use Rattle.text.proofs.Writing.{moved, stays, ◌then◌, as_text}
 use Rattle.sheet.proofs.Pages.{place_one, place_two, place_three}
 use Rattle.sheet.proofs.lines.put_place.Goals as goal
-
-pub returns-then-n-lt10 : goal.returns-then-n-lt10
-returns-then-n-lt10 c =
-    (same_text (wrote c.put_byte-one.ensures then wrote c.put_byte-two.ensures then wrote c.put_decimal.ensures)
-    (place_one c.args.n c.if-n-lt10.true)).is
-
-pub returns-then-n-lt100 : goal.returns-then-n-lt100
-returns-then-n-lt100 c =
-    (same_text (wrote c.put_byte-one-then-n-lt100.ensures then wrote c.put_decimal-then-n-lt100.ensures)
-    (place_two c.args.n c.if-n-lt10.false c.if-n-lt100.true)).is
+use Rattle.sheet.proofs.lines.put_place.Goals.{then-n-lt10, else-n-lt10, then-n-lt100, else-n-lt100}
 
 pub returns : goal.returns
-returns c = (same_text (wrote c.put_decimal-2.ensures) (place_three c.args.n c.if-n-lt10.false c.if-n-lt100.false)).is
+returns c =
+    let n = c.args.n in
+    let digits = as_text c.put_decimal.ensures (ap decimal c.from.ensures) in
+    elim c.if-n-lt10.branch [
+      | then-n-lt10 w ↦ elim c.if-n-lt100.branch [
+        | then-n-lt100 v ↦
+            as_text (moved w.page-is w.put_byte.ensures then moved v.page-is v.put_byte-then-n-lt100.ensures then digits)
+            (place_one n w.if-n-lt10.true)
+        | else-n-lt100 v ↦ absurd (omega arith)
+      ]
+      | else-n-lt10 w ↦ elim c.if-n-lt100.branch [
+        | then-n-lt100 v ↦
+            as_text (stays w.page-is then moved v.page-is v.put_byte-then-n-lt100.ensures then digits)
+            (place_two n w.if-n-lt10.false v.if-n-lt100.true)
+        | else-n-lt100 v ↦ as_text (stays w.page-is then stays v.page-is then digits) (place_three n w.if-n-lt10.false v.if-n-lt100.false)
+      ]
+    ]

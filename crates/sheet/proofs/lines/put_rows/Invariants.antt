@@ -1,12 +1,7 @@
--- The rows that are left, behind the lines written, end as the whole.
-use Rattle.std.proofs.Common.{◌≡◌, ◌≤◌}
-use Rattle.text.specs.Page.{page, puts}
+-- The rows below those written are left to be written.
+use Rattle.text.proofs.Writing.{Leaves}
 use Rattle.sheet.specs.Sheet.{row_lines}
 use Rattle.sheet.proofs.lines.put_rows.Given as goal
 
-abbrev pub invariant-loop-left : goal.invariant-loop-left
-invariant-loop-left l =
-    (l.left ≤ l.y) × (puts (page l.out l.next) (row_lines l.x l.g l.layer l.left) ≡ puts (page l.initial.out l.at) (row_lines l.x l.g l.layer l.y))
-
-abbrev pub decreases-loop-left : goal.decreases-loop-left
-decreases-loop-left l = l.left
+abbrev pub invariant-loop-row : goal.invariant-loop-row
+invariant-loop-row l = Leaves l.initial.page (row_lines l.x l.greatest l.layer l.y) l.page (row_lines l.x l.greatest l.layer l.row)
