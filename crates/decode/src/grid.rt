@@ -7,8 +7,15 @@ ghost use Rattle.decode.specs.Inner.TreeRead.{Zeroed};
 ghost use Rattle.decode.specs.Inner.GridRead.{grid_fault, used_in, Used, lent, GridOut};
 
 use crate::header;
-use crate::tree::{Tree, TreeRead, read_tree};
+use crate::tree::{Tree, read_tree};
 use refusals::first_fault;
+
+// A tree that has passed every test, or the number of the refusal.
+#[derive(Clone, Copy)]
+pub enum TreeRead {
+    Read(Tree),
+    Refused(u32),
+}
 
 // 18 for paired tables of unequal length, or blocks that are not three a root. By remainder and quotient, so that no product wraps.
 fn lent_fault(
@@ -133,8 +140,8 @@ pub(crate) fn read_grid(
         return TreeRead::Refused(header);
     }
     match read_tree(bytes, work, blocks, rl, rv, ul, uv, ll, lv, leaves) {
-        TreeRead::Refused(e) => TreeRead::Refused(e),
-        TreeRead::Read(x) => {
+        Err(e) => TreeRead::Refused(e.number()),
+        Ok(x) => {
             let fault = grid_fault(density, bytes, x, blocks, rl, rv, ul, uv, ll, lv, leaves);
             if fault != 0 {
                 return TreeRead::Refused(fault);

@@ -16,9 +16,8 @@ mod tiles;
 mod tree;
 mod values;
 
-use grid::read_grid;
+use grid::{TreeRead, read_grid};
 use medium::Medium;
-use tree::TreeRead;
 
 // The number of the refusal (0 where there is a grid), how many roots and nodes are used, the background and the medium.
 #[derive(Clone, Copy)]

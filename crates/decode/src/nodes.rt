@@ -1,15 +1,18 @@
 // The node reader: a node of level 2, 1 or 0 (upper, lower, leaf) is read with its children, depth first, slots rising.
 // The child mask is read a word at a time: the slots up to the next child are values, and are read in one run.
-ghost use Rattle.std.specs.Prelude.{◌≡◌, ◌+◌, ◌*◌, ◌%◌, ◌<◌, ◌≤◌, length};
+ghost use Rattle.std.specs.Prelude.{◌≡◌, ◌+◌, ◌*◌, ◌%◌, ◌<◌, ◌≤◌, eqb, length};
 ghost use Rattle.layout.specs.Bytes.{signed, u64_at};
 ghost use Rattle.nanovdb.specs.Nodes.{size_of, entries_of, mask_of, table_of, child_target};
 ghost use Rattle.decode.specs.Inner.Stored.{at_upper, at_lower, slot_value, TilesStored, NextChild};
 ghost use Rattle.decode.specs.Inner.WorkTable.{Rep};
-ghost use Rattle.decode.specs.Inner.Filled.{of_target, slot_target, count_in, places_in, grown_by, room_in};
+ghost use Rattle.refusals.specs.Results.{ok, need};
+ghost use Rattle.refusals.specs.Numbers.{said_by};
+ghost use Rattle.decode.specs.Inner.Filled.{slot_target, count_in, places_in, grown_by, room_in};
 ghost use Rattle.decode.specs.Inner.Filled.{Tabs, tabs, with_work, places_of, Few, Fit, OpenOut, NodeOut};
 
 use crate::spans::{Entered, Spans};
 use crate::{spans, values};
+use refusals::Refusal;
 
 // How far the reader has come: the spans that it has claimed, and how many nodes of each level it has numbered.
 #[derive(Clone, Copy)]
@@ -22,9 +25,9 @@ pub struct State {
 
 // A node's number, and the state after it.
 #[derive(Clone, Copy)]
-pub enum Placed {
-    Node(u32, State),
-    Refused(u32),
+pub struct Placed {
+    pub number: u32,
+    pub state: State,
 }
 
 // A new node: its number, where its child mask stands, how many entries it has and where they begin in their table, and the state that counts it.
@@ -37,17 +40,11 @@ pub struct Opening {
     pub now: State,
 }
 
+// A node that has been read before, by its number, or a new one.
 #[derive(Clone, Copy)]
 pub enum Opened {
     Again(u32),
     Fresh(Opening),
-    Stop(u32),
-}
-
-#[derive(Clone, Copy)]
-pub enum Target {
-    At(usize),
-    Refused(u32),
 }
 
 // ---- places in the bytes
@@ -55,10 +52,11 @@ pub enum Target {
 fn entries_of(level: u64) -> usize
     ensures { result ≡ entries_of level }
 {
-    if level == 0 {
-        return 512;
+    match level {
+        0 => 512,
+        1 => 4096,
+        _ => 32768,
     }
-    if level == 1 { 4096 } else { 32768 }
 }
 
 // Where an internal node's child mask stands.
@@ -66,13 +64,10 @@ fn mask_at(source: usize, level: u64) -> usize
     requires { source < 4294967296 }
     ensures { result ≡ source + mask_of level }
 {
-    if level == 0 {
-        return source;
-    }
-    if level == 1 {
-        source + 544
-    } else {
-        source + 4128
+    match level {
+        0 => source,
+        1 => source + 544,
+        _ => source + 4128,
     }
 }
 
@@ -88,44 +83,47 @@ fn slot_at(source: usize, level: u64, i: usize) -> usize
     }
 }
 
+// A place that a node may have: a multiple of 32.
+fn child_place(to: usize) -> Result<usize, Refusal>
+    ensures { said_by result ≡ need (eqb (to % 32) 0) 8 (ok to) }
+{
+    if to % 32 == 0 {
+        Ok(to)
+    } else {
+        Err(Refusal::ChildTarget)
+    }
+}
+
 // A child's place: its parent's, moved by the signed number of these bits. Compared before it is added, so nothing wraps.
-pub(crate) fn child_target(base: usize, bits: u64) -> Target
+pub(crate) fn child_target(base: usize, bits: u64) -> Result<usize, Refusal>
     requires { base < 4294967296 }
-    ensures { of_target result ≡ child_target base (signed 64 bits) }
+    ensures { said_by result ≡ child_target base (signed 64 bits) }
 {
     if bits < 9223372036854775808 {
-        let up = base + (bits as usize);
-        if up % 32 != 0 {
-            return Target::Refused(refusals::CHILD_TARGET);
-        }
-        return Target::At(up);
+        return child_place(base + (bits as usize));
     }
     let back = (18446744073709551615 - bits) as usize;
     if base <= back {
-        return Target::Refused(refusals::CHILD_TARGET);
+        return Err(Refusal::ChildTarget);
     }
-    let down = base - back - 1;
-    if down % 32 != 0 {
-        return Target::Refused(refusals::CHILD_TARGET);
-    }
-    Target::At(down)
+    child_place(base - back - 1)
 }
 
 // The place of the child whose slot has these bits: none of them set is no place.
-fn slot_target(source: usize, bits: u64) -> Target
+fn slot_target(source: usize, bits: u64) -> Result<usize, Refusal>
     requires { source < 4294967296 }
-    ensures { of_target result ≡ slot_target source bits }
+    ensures { said_by result ≡ slot_target source bits }
 {
     if bits == 0 {
-        return Target::Refused(refusals::CHILD_TARGET);
+        return Err(Refusal::ChildTarget);
     }
     child_target(source, bits)
 }
 
 // The place of the child in slot i of the node at source.
-fn child_at(bytes: &[u8], source: usize, level: u64, i: usize) -> Target
+fn child_at(bytes: &[u8], source: usize, level: u64, i: usize) -> Result<usize, Refusal>
     requires { (0 < level) × (source < 4294967296) × (i < 32768) }
-    ensures { of_target result ≡ slot_target source (u64_at bytes.now (source + table_of level + 8 * i)) }
+    ensures { said_by result ≡ slot_target source (u64_at bytes.now (source + table_of level + 8 * i)) }
 {
     slot_target(source, layout::u64_at(bytes, slot_at(source, level, i)))
 }
@@ -151,23 +149,21 @@ fn next_child(bytes: &[u8], mask: usize, i: usize, n: usize) -> usize
 fn count_of(level: u64, st: State) -> usize
     ensures { result ≡ count_in st level }
 {
-    if level == 0 {
-        return st.leaves;
+    match level {
+        0 => st.leaves,
+        1 => st.lowers,
+        _ => st.uppers,
     }
-    if level == 1 { st.lowers } else { st.uppers }
 }
 
 // How many whole nodes of a level its table holds.
 fn places_of(level: u64, upper: usize, lower: usize, leaf: usize) -> usize
     ensures { result ≡ places_in level upper lower leaf }
 {
-    if level == 0 {
-        return leaf / 512;
-    }
-    if level == 1 {
-        lower / 4096
-    } else {
-        upper / 32768
+    match level {
+        0 => leaf / 512,
+        1 => lower / 4096,
+        _ => upper / 32768,
     }
 }
 
@@ -176,27 +172,22 @@ fn grown(level: u64, st: State, spans: Spans) -> State
     requires { (st.uppers < 4294967296) × (st.lowers < 4294967296) × (st.leaves < 4294967296) }
     ensures { result ≡ grown_by level st spans }
 {
-    if level == 0 {
-        return State {
-            spans: spans,
-            uppers: st.uppers,
-            lowers: st.lowers,
+    match level {
+        0 => State {
+            spans,
             leaves: st.leaves + 1,
-        };
-    }
-    if level == 1 {
-        return State {
-            spans: spans,
-            uppers: st.uppers,
+            ..st
+        },
+        1 => State {
+            spans,
             lowers: st.lowers + 1,
-            leaves: st.leaves,
-        };
-    }
-    State {
-        spans: spans,
-        uppers: st.uppers + 1,
-        lowers: st.lowers,
-        leaves: st.leaves,
+            ..st
+        },
+        _ => State {
+            spans,
+            uppers: st.uppers + 1,
+            ..st
+        },
     }
 }
 
@@ -246,7 +237,7 @@ fn open(
     st: State,
     work: &mut [u64],
     places: usize,
-) -> Opened
+) -> Result<Opened, Refusal>
     requires { (length bytes.now < 4294967296) × (level < 3) × Rep work.old st.spans.count × Few st }
     ensures { (t : Tabs) →
         let before = with_work t work.old in
@@ -254,31 +245,20 @@ fn open(
         places ≡ places_of level t → Fit (length bytes.now) before st → OpenOut level bytes.now source before st after result }
 {
     let k = count_of(level, st);
-    let spans = st.spans;
-    match spans::enter(
-        bytes.len() as u64,
-        work,
-        spans,
-        source as u64,
-        level,
-        k as u32,
-    ) {
-        Entered::Again(n) => Opened::Again(n),
-        Entered::Stop(e) => Opened::Stop(e),
+    match spans::enter(bytes.len() as u64, work, st.spans, source as u64, level, k as u32)? {
+        Entered::Again(n) => Ok(Opened::Again(n)),
         Entered::Fresh(next) => {
             if places <= k {
-                return Opened::Stop(refusals::NO_PLACE);
+                return Err(Refusal::NoPlace);
             }
             let entries = entries_of(level);
-            let mask = mask_at(source, level);
-            let now = grown(level, st, next);
-            Opened::Fresh(Opening {
+            Ok(Opened::Fresh(Opening {
                 number: k as u32,
-                mask: mask,
-                entries: entries,
+                mask: mask_at(source, level),
+                entries,
                 base: k * entries,
-                now: now,
-            })
+                now: grown(level, st, next),
+            }))
         }
     }
 }
@@ -295,7 +275,7 @@ pub(crate) fn node(
     ll: &mut [u32],
     lv: &mut [f32],
     leaves: &mut [f32],
-) -> Placed
+) -> Result<Placed, Refusal>
     requires { (length bytes.now < 4294967296) × (level < 3)
         × Fit (length bytes.now) (tabs work.old ul.old uv.old ll.old lv.old leaves.old) st }
     ensures { let before = tabs work.old ul.old uv.old ll.old lv.old leaves.old in
@@ -303,33 +283,27 @@ pub(crate) fn node(
         NodeOut level bytes.now source before st after result }
 {
     let places = places_of(level, ul.len(), ll.len(), leaves.len());
-    let o = match open(bytes, source, level, st, work, places) {
-        Opened::Again(n) => return Placed::Node(n, st),
-        Opened::Stop(e) => return Placed::Refused(e),
+    let o = match open(bytes, source, level, st, work, places)? {
+        Opened::Again(number) => return Ok(Placed { number, state: st }),
         Opened::Fresh(o) => o,
     };
-    let mut now = o.now;
+    let number = o.number;
+    let mut state = o.now;
     if level == 0 {
         values::leaf(bytes, source, leaves, o.base);
-        return Placed::Node(o.number, now);
+        return Ok(Placed { number, state });
     }
     let mut i: usize = 0;
     loop {
         let j = next_child(bytes, o.mask, i, o.entries);
         tiles_between(level, bytes, source, o.base, i, j, uv, lv);
         if j == o.entries {
-            return Placed::Node(o.number, now);
+            return Ok(Placed { number, state });
         }
-        match child_at(bytes, source, level, j) {
-            Target::Refused(e) => return Placed::Refused(e),
-            Target::At(to) => match node(bytes, to, level - 1, now, work, ul, uv, ll, lv, leaves) {
-                Placed::Refused(e) => return Placed::Refused(e),
-                Placed::Node(child, s) => {
-                    link(level, ul, ll, o.base, j, child);
-                    now = s;
-                }
-            },
-        }
+        let to = child_at(bytes, source, level, j)?;
+        let child = node(bytes, to, level - 1, state, work, ul, uv, ll, lv, leaves)?;
+        link(level, ul, ll, o.base, j, child.number);
+        state = child.state;
         i = j + 1;
     }
 }

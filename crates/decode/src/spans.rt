@@ -4,11 +4,7 @@ ghost use Rattle.nanovdb.specs.Spans.{overlaps, seen};
 ghost use Rattle.decode.specs.Inner.WorkTable.{size, spans, nodes, header_span, root_span, chain_in, Rep, MetIn, MetAt, FoundIn, seen_of};
 ghost use Rattle.decode.specs.Inner.WorkTable.{Small, put_s, Pushed, ClaimOut, RootOut, EnterOut};
 
-#[derive(Clone, Copy)]
-pub enum Found {
-    At(u32),
-    Nothing,
-}
+use refusals::Refusal;
 
 // How many nodes have been claimed, and where the root stands.
 #[derive(Clone, Copy)]
@@ -18,61 +14,44 @@ pub struct Spans {
     pub limit: u64,
 }
 
+// A node that has been read before, by its number, or a new one and the spans with it.
 #[derive(Clone, Copy)]
 pub enum Entered {
     Again(u32),
     Fresh(Spans),
-    Stop(u32),
 }
 
-#[derive(Clone, Copy)]
-pub enum Claimed {
-    Done(Spans),
-    Refused(u32),
-}
-
+#[tactic(auto, unfolding(crate::specs::Inner::WorkTable::size))]
 fn size_of(level: u64) -> u64
     ensures { (result ≡ size level) × ((2144 ≤ result) × (result ≤ 270400)) }
 {
-    if level == 0 {
-        return 2144;
+    match level {
+        0 => 2144,
+        1 => 33856,
+        _ => 270400,
     }
-    if level == 1 { 33856 } else { 270400 }
 }
 
 fn over(a: u64, word: u64, start: u64, end: u64) -> bool
     ensures { result ≡ (ltb a end && ltb start (a + size (word % 4))) }
 {
     let s = size_of(word % 4);
-    if a < end {
-        if start < s {
-            return true;
-        }
-        if start - s < a { true } else { false }
-    } else {
-        false
-    }
+    a < end && (start < s || start - s < a)
 }
 
 fn hit(a: u64, word: u64, start: u64, level: u64) -> bool
     ensures { result ≡ (eqb a start && eqb (word % 4) level) }
 {
-    if a == start { word % 4 == level } else { false }
+    a == start && word % 4 == level
 }
 
 // Whether the header or the root is met.
+#[tactic(auto, unfolding(nanovdb::specs::Spans::overlaps))]
 fn fixed(root: u64, limit: u64, start: u64, end: u64) -> bool
     requires { start < end }
     ensures { result ≡ overlaps (header_span ∷ (root_span root limit ∷ [])) start end }
 {
-    if start < 736 {
-        return true;
-    }
-    if root < end {
-        if start < limit { true } else { false }
-    } else {
-        false
-    }
+    start < 736 || (root < end && start < limit)
 }
 
 fn chain(n: usize, level: u64, q: u64) -> usize
@@ -131,19 +110,17 @@ fn meets_at(work: &[u64], count: usize, level: u64, start: u64, end: u64) -> boo
     let n = work.len() / 4;
     let size = size_of(level);
     let last = (end - 1) / size;
-    let mut q = first(start, size);
-    while q <= last {
+    for q in first(start, size)..last + 1 {
         let h = chain(n, level, q);
         if meets_in(work, count, h, start, end) {
             return true;
         }
-        q += 1;
     }
     false
 }
 
 // The number of the node of this level that starts here, if it has been claimed.
-pub(crate) fn find(work: &[u64], st: Spans, start: u64, level: u64) -> Found
+pub(crate) fn find(work: &[u64], st: Spans, start: u64, level: u64) -> Option<u32>
     requires { Rep work.now st.count × (level < 3) }
     ensures { (seen_of result ≡ seen (spans work.now st.count st.root st.limit) start level) × Small result }
 {
@@ -152,10 +129,10 @@ pub(crate) fn find(work: &[u64], st: Spans, start: u64, level: u64) -> Found
     let h = chain(n, level, start / size);
     let r = find_in(work, st.count, h, start, level);
     if r == 0 {
-        return Found::Nothing;
+        return None;
     }
     let j = (r - 1) as usize;
-    Found::At((work[j * 4 + 1] / 4) as u32)
+    Some((work[j * 4 + 1] / 4) as u32)
 }
 
 // Whether some span overlaps the bytes from start to end.
@@ -201,8 +178,7 @@ pub(crate) fn push(work: &mut [u64], st: Spans, start: u64, level: u64, number: 
     put(work, h, count, start, number as u64 * 4 + level);
     Spans {
         count: count + 1,
-        root: st.root,
-        limit: st.limit,
+        ..st
     }
 }
 
@@ -214,25 +190,21 @@ pub(crate) fn claim(
     start: u64,
     level: u64,
     number: u32,
-) -> Claimed
+) -> Result<Spans, Refusal>
     requires { Rep work.old st.count × (level < 3) × (number < 4294967295) }
     ensures { ClaimOut len work.old work.new st result start level number }
 {
     let size = size_of(level);
-    if len < start {
-        return Claimed::Refused(refusals::PAST_END);
-    }
-    if len - start < size {
-        return Claimed::Refused(refusals::PAST_END);
+    if len < start || len - start < size {
+        return Err(Refusal::PastEnd);
     }
     if meets(work, st, start, start + size) {
-        return Claimed::Refused(refusals::OVERLAP);
+        return Err(Refusal::Overlap);
     }
     if work.len() / 4 < st.count + 3 {
-        return Claimed::Refused(refusals::NO_PLACE);
+        return Err(Refusal::NoPlace);
     }
-    let next = push(work, st, start, level, number);
-    Claimed::Done(next)
+    Ok(push(work, st, start, level, number))
 }
 
 // The words hold no node.
@@ -241,34 +213,31 @@ pub(crate) fn clear(work: &mut [u64])
     ensures { (Rep work.new 0) × (length work.new ≡ length work.old) }
 {
     let n = work.len() / 4;
-    let mut h: usize = 0;
-    while h < n {
+    for h in 0..n {
         work[h * 4 + 3] = 0;
-        h += 1;
     }
 }
 
 // Claims the root, from root to limit, behind the header's span, and empties the chains.
-pub(crate) fn begin(len: u64, work: &mut [u64], root: u64, limit: u64) -> Claimed
+pub(crate) fn begin(len: u64, work: &mut [u64], root: u64, limit: u64) -> Result<Spans, Refusal>
     requires { root < limit }
     ensures { RootOut len work.old work.new result root limit }
 {
     if len < limit {
-        return Claimed::Refused(refusals::PAST_END);
+        return Err(Refusal::PastEnd);
     }
     if root < 736 {
-        return Claimed::Refused(refusals::OVERLAP);
+        return Err(Refusal::Overlap);
     }
     if work.len() / 4 < 2 {
-        return Claimed::Refused(refusals::NO_PLACE);
+        return Err(Refusal::NoPlace);
     }
     clear(work);
-    let st = Spans {
+    Ok(Spans {
         count: 0,
-        root: root,
-        limit: limit,
-    };
-    Claimed::Done(st)
+        root,
+        limit,
+    })
 }
 
 // The node of this level that starts here: one that has been claimed is used again, and any other is claimed.
@@ -279,18 +248,12 @@ pub(crate) fn enter(
     start: u64,
     level: u64,
     number: u32,
-) -> Entered
+) -> Result<Entered, Refusal>
     requires { Rep work.old st.count × (level < 3) × (number < 4294967295) }
     ensures { EnterOut len work.old work.new st result start level number }
 {
-    let f = find(work, st, start, level);
-    match f {
-        Found::At(n) => return Entered::Again(n),
-        Found::Nothing => {}
-    }
-    let c = claim(len, work, st, start, level, number);
-    match c {
-        Claimed::Done(t) => Entered::Fresh(t),
-        Claimed::Refused(e) => Entered::Stop(e),
+    match find(work, st, start, level) {
+        Some(n) => Ok(Entered::Again(n)),
+        None => Ok(Entered::Fresh(claim(len, work, st, start, level, number)?)),
     }
 }

@@ -7,25 +7,14 @@ ghost use Rattle.decode.specs.Inner.Filled.{tabs, Fit};
 ghost use Rattle.decode.specs.Inner.Rooted.{root_tabs, RootPut, TileOut, TilesOut};
 
 use crate::nodes;
-use crate::nodes::{Placed, State, Target};
-
-// The state after a tile, or why it is refused.
-#[derive(Clone, Copy)]
-pub enum Step {
-    Next(State),
-    Stop(u32),
-}
+use crate::nodes::State;
+use refusals::Refusal;
 
 // Every bit outside the three fields is 0: 20, 41, 62 and 63.
 fn key_passes(key: u64) -> bool
     ensures { result ≡ key_passes key }
 {
-    if key < 4611686018427387904 {
-        if key / 1048576 % 2 == 0 {
-            return key / 2199023255552 % 2 == 0;
-        }
-    }
-    false
+    key < 4611686018427387904 && key / 1048576 % 2 == 0 && key / 2199023255552 % 2 == 0
 }
 
 // A field of 20 bits, with its sign.
@@ -77,7 +66,7 @@ fn tile(
     ll: &mut [u32],
     lv: &mut [f32],
     leaves: &mut [f32],
-) -> Step
+) -> Result<State, Refusal>
     requires { (length bytes.now < 4294967296) × (root < 4294967296) × (i < 4294967296) × (3 * i + 3 ≤ length blocks.old)
         × (i < length rl.old) × (length rv.old ≡ length rl.old)
         × Fit (length bytes.now) (tabs work.old ul.old uv.old ll.old lv.old leaves.old) st }
@@ -90,23 +79,17 @@ fn tile(
     let at = root + 64 + 32 * i;
     let key = layout::u64_at(bytes, at);
     if !key_passes(key) {
-        return Step::Stop(refusals::KEY_BIT);
+        return Err(Refusal::KeyBit);
     }
     let relative = layout::u64_at(bytes, at + 8);
     if relative == 0 {
         put_root(blocks, rl, rv, i, key, 0, layout::f32_at(bytes, at + 20));
-        return Step::Next(st);
+        return Ok(st);
     }
-    match nodes::child_target(root, relative) {
-        Target::Refused(e) => Step::Stop(e),
-        Target::At(to) => match nodes::node(bytes, to, 2, st, work, ul, uv, ll, lv, leaves) {
-            Placed::Refused(e) => Step::Stop(e),
-            Placed::Node(k, s) => {
-                put_root(blocks, rl, rv, i, key, k + 1, 0.0);
-                Step::Next(s)
-            }
-        },
-    }
+    let to = nodes::child_target(root, relative)?;
+    let node = nodes::node(bytes, to, 2, st, work, ul, uv, ll, lv, leaves)?;
+    put_root(blocks, rl, rv, i, key, node.number + 1, 0.0);
+    Ok(node.state)
 }
 
 // The first `count` tiles.
@@ -124,7 +107,7 @@ pub(crate) fn tiles(
     ll: &mut [u32],
     lv: &mut [f32],
     leaves: &mut [f32],
-) -> Step
+) -> Result<State, Refusal>
     requires { (length bytes.now < 4294967296) × (root < 4294967296) × (count < 4294967296)
         × (length blocks.old ≡ 3 * length rl.old) × (count ≤ length rl.old) × (length rv.old ≡ length rl.old)
         × Fit (length bytes.now) (tabs work.old ul.old uv.old ll.old lv.old leaves.old) st }
@@ -135,15 +118,10 @@ pub(crate) fn tiles(
         TilesOut bytes.now root count before roots st after left result }
 {
     let mut now = st;
-    let mut i: usize = 0;
-    while i < count {
-        match tile(
+    for i in 0..count {
+        now = tile(
             bytes, root, i, now, work, blocks, rl, rv, ul, uv, ll, lv, leaves,
-        ) {
-            Step::Stop(e) => return Step::Stop(e),
-            Step::Next(s) => now = s,
-        }
-        i += 1;
+        )?;
     }
-    Step::Next(now)
+    Ok(now)
 }

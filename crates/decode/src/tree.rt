@@ -6,10 +6,8 @@ ghost use Rattle.decode.specs.Inner.Rooted.{root_tabs};
 ghost use Rattle.decode.specs.Inner.TreeRead.{TreeOut};
 
 use crate::nodes::State;
-use crate::spans::Claimed;
-use crate::tiles::Step;
 use crate::{spans, tiles};
-use refusals::both;
+use refusals::Refusal;
 
 // Where the root stands, how many tiles it has, and how many nodes were reached.
 #[derive(Clone, Copy)]
@@ -17,12 +15,6 @@ pub struct Tree {
     pub root: usize,
     pub roots: usize,
     pub nodes: State,
-}
-
-#[derive(Clone, Copy)]
-pub enum TreeRead {
-    Read(Tree),
-    Refused(u32),
 }
 
 // The counts in the bytes are those of the nodes that were reached.
@@ -33,10 +25,7 @@ fn counts_pass(bytes: &[u8], st: State) -> bool
     let leaves = layout::u32_at(bytes, 704) as usize;
     let lowers = layout::u32_at(bytes, 708) as usize;
     let uppers = layout::u32_at(bytes, 712) as usize;
-    both(
-        both(st.leaves == leaves, st.lowers == lowers),
-        st.uppers == uppers,
-    )
+    st.leaves == leaves && st.lowers == lowers && st.uppers == uppers
 }
 
 pub(crate) fn read_tree(
@@ -50,7 +39,7 @@ pub(crate) fn read_tree(
     ll: &mut [u32],
     lv: &mut [f32],
     leaves: &mut [f32],
-) -> TreeRead
+) -> Result<Tree, Refusal>
     requires { (length bytes.now < 4294967296) × (length blocks.old ≡ 3 * length rl.old) × (length rv.old ≡ length rl.old)
         × (length uv.old ≡ length ul.old) × (length lv.old ≡ length ll.old) }
     ensures { let before = tabs work.old ul.old uv.old ll.old lv.old leaves.old in
@@ -61,44 +50,37 @@ pub(crate) fn read_tree(
 {
     let n = bytes.len();
     if n < 736 {
-        return TreeRead::Refused(refusals::PAST_END);
+        return Err(Refusal::PastEnd);
     }
     if work.len() < 4 {
-        return TreeRead::Refused(refusals::NO_PLACE);
+        return Err(Refusal::NoPlace);
     }
     let offset = layout::u64_at(bytes, 696) as usize;
     if n - 700 < offset {
-        return TreeRead::Refused(refusals::PAST_END);
+        return Err(Refusal::PastEnd);
     }
     let root = 672 + offset;
     let count = layout::u32_at(bytes, root + 24) as usize;
-    match spans::begin(n as u64, work, root as u64, (root + 64 + 32 * count) as u64) {
-        Claimed::Refused(e) => TreeRead::Refused(e),
-        Claimed::Done(spans) => {
-            if rl.len() < count {
-                return TreeRead::Refused(refusals::NO_PLACE);
-            }
-            let st = State {
-                spans: spans,
-                uppers: 0,
-                lowers: 0,
-                leaves: 0,
-            };
-            match tiles::tiles(
-                bytes, root, count, st, work, blocks, rl, rv, ul, uv, ll, lv, leaves,
-            ) {
-                Step::Stop(e) => TreeRead::Refused(e),
-                Step::Next(nodes) => {
-                    if counts_pass(bytes, nodes) {
-                        return TreeRead::Read(Tree {
-                            root: root,
-                            roots: count,
-                            nodes: nodes,
-                        });
-                    }
-                    TreeRead::Refused(refusals::NODE_COUNTS)
-                }
-            }
-        }
+    let limit = root + 64 + 32 * count;
+    let spans = spans::begin(n as u64, work, root as u64, limit as u64)?;
+    if rl.len() < count {
+        return Err(Refusal::NoPlace);
     }
+    let st = State {
+        spans,
+        uppers: 0,
+        lowers: 0,
+        leaves: 0,
+    };
+    let nodes = tiles::tiles(
+        bytes, root, count, st, work, blocks, rl, rv, ul, uv, ll, lv, leaves,
+    )?;
+    if !counts_pass(bytes, nodes) {
+        return Err(Refusal::NodeCounts);
+    }
+    Ok(Tree {
+        root,
+        roots: count,
+        nodes,
+    })
 }

@@ -39,10 +39,3 @@ pub fn greater(a: f32, b: f32) -> f32
 {
     if a < b { b } else { a }
 }
-
-// Bridge: sheet.
-pub fn figures_fault(figures: &[f32]) -> u32
-    ensures { result ≡ figures_fault figures.now }
-{
-    refusals::fault(check_figures(figures))
-}

@@ -20,15 +20,6 @@ use Rattle.index.specs.declared.Axis.TheVariants.{X, Y, Z}
 -- the literals 1.0 of both formats
 pub ruleset ones = (one_literal, one_literal_64)
 
--- 13 is the only fault of a map
-pub map_refused : (m : Medium) → (map_fault m ≡ 0 → ⊥) → 13 ≡ map_fault m
-unfolding map_fault
-map_refused m h = one _ h
-  where
-    one : (t : Bool) → (unless t 13 ≡ 0 → ⊥) → 13 ≡ unless t 13
-    one true h = absurd (h refl)
-    one false h = refl
-
 abbrev line_at : CodeMedium.Medium → Bool → ℕ → Line
 line_at m t i = record {
   last = t;

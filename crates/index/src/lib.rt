@@ -4,9 +4,8 @@
 ghost use Rattle.std.specs.Prelude.{◌≡◌, ◌<◌, IfSome, IsNone};
 ghost use Rattle.std.specs.Float.{binary32};
 ghost use Rattle.std.specs.Float.Ieee.{mul, to_bits};
-ghost use Rattle.refusals.specs.Numbers.{said_by, fault_of};
+ghost use Rattle.refusals.specs.Numbers.{said_by};
 ghost use Rattle.float.specs.Fused.{fma};
-ghost use Rattle.medium.specs.Medium.{map_fault};
 ghost use Rattle.medium.specs.Record.{point_of, as_medium};
 ghost use Rattle.index.specs.Axes.{corner_on, index_on, majorant_on, first_on, second_on, axis_ends, column, is_last, line_of};
 ghost use Rattle.index.specs.Found.{holds_on, axis_cell};
@@ -26,18 +25,6 @@ pub use bridge::{
     z_line,
 };
 
-// 13 where the map or the translation does not pass.
-#[tactic(auto, using(crate::proofs::Steps::map_refused))]
-fn check_map(m: Medium) -> Result<(), Refusal>
-    ensures { fault_of result ≡ map_fault (as_medium m) }
-{
-    if medium::map_fault(m) == 0 {
-        Ok(())
-    } else {
-        Err(Refusal::Map)
-    }
-}
-
 // One row of the map times a vector.
 fn row_bits(d: [f32; 3], row: [f32; 3]) -> u32
     ensures { let x = point_of d in let a = point_of row in
@@ -51,7 +38,7 @@ fn row_bits(d: [f32; 3], row: [f32; 3]) -> u32
 pub fn index_position(m: Medium, point: [f32; 3]) -> Result<[u32; 3], Refusal>
     ensures { said_by result ≡ index_bits (as_medium m) (point_of point) }
 {
-    check_map(m)?;
+    m.check_map()?;
     let d = [
         point[0] - m.translation[0],
         point[1] - m.translation[1],

@@ -8,8 +8,10 @@ ghost use Rattle.layout.specs.Bytes.{u16_at, u32_at, u64_at, i32_at, i64_at, f32
 ghost use Rattle.layout.specs.Reads.{read_field};
 
 mod bridge;
+mod coordinate;
 
 pub use bridge::{f32_at, f64_at, i32_at, i64_at, u16_at, u32_at, u64_at};
+pub use coordinate::Coordinate;
 use refusals::Refusal;
 
 // Whether a field of `width` bytes at `at` lies inside n bytes. The sum at + width may pass 2^64, so it is not formed.

@@ -5,53 +5,33 @@
 
 ghost use Rattle.std.specs.Prelude.{◌≤◌, IfOk};
 
-use replay::{
-    fill_links, fill_numbers, fill_values, first_links, first_numbers, first_values, least,
-    read_bytes, read_cases, report,
-};
+use layout::Coordinate;
+use refusals::Refusal;
+use replay::{fill, first, read_bytes, read_cases, report};
+use sparse_grid::{Entries, Grid};
 use std::io;
 use std::io::Read;
 
 // Whether a lookup gave this number and this pattern.
-fn answers(answer: sparse_grid::Answer, number: u32, bits: u32) -> bool {
+fn answers(answer: Result<f32, Refusal>, number: u32, bits: u32) -> bool {
     match answer {
-        sparse_grid::Answer::Value(v) => number == 0 && float::bits_of(v) == bits,
-        sparse_grid::Answer::Refused(n) => number == n,
+        Ok(value) => number == 0 && float::bits_of(value) == bits,
+        Err(e) => number == e.number(),
     }
 }
 
 // Reads a lookup and makes it: 1 where the answer differs.
-fn lookup<R: Read>(
-    list: &mut R,
-    background: f32,
-    blocks: &[i32],
-    root_links: &[u32],
-    root_values: &[f32],
-    upper_links: &[u32],
-    upper_values: &[f32],
-    lower_links: &[u32],
-    lower_values: &[f32],
-    leaf_values: &[f32],
-) -> io::Result<u32>
+fn lookup<R: Read>(list: &mut R, grid: &Grid) -> io::Result<u32>
     ensures { IfOk result (λ differ. differ ≤ 1) }
 {
     let mut b = [0u8; 20];
     let n = read_bytes(list, &mut b)?;
     let b = &b[..n];
-    let answer = sparse_grid::get_value(
-        background,
-        blocks,
-        root_links,
-        root_values,
-        upper_links,
-        upper_values,
-        lower_links,
-        lower_values,
-        leaf_values,
-        layout::i32_at(b, 0),
-        layout::i32_at(b, 4),
-        layout::i32_at(b, 8),
-    );
+    let answer = grid.value(Coordinate {
+        x: layout::i32_at(b, 0),
+        y: layout::i32_at(b, 4),
+        z: layout::i32_at(b, 8),
+    });
     if answers(answer, layout::u32_at(b, 12), layout::u32_at(b, 16)) {
         Ok(0)
     } else {
@@ -60,35 +40,12 @@ fn lookup<R: Read>(
 }
 
 // How many of the next n lookups differ.
-fn lookups<R: Read>(
-    list: &mut R,
-    n: u32,
-    background: f32,
-    blocks: &[i32],
-    root_links: &[u32],
-    root_values: &[f32],
-    upper_links: &[u32],
-    upper_values: &[f32],
-    lower_links: &[u32],
-    lower_values: &[f32],
-    leaf_values: &[f32],
-) -> io::Result<u32>
+fn lookups<R: Read>(list: &mut R, n: u32, grid: &Grid) -> io::Result<u32>
     ensures { IfOk result (λ differ. differ ≤ n) }
 {
     let mut differ: u32 = 0;
     for _ in 0..n {
-        differ += lookup(
-            list,
-            background,
-            blocks,
-            root_links,
-            root_values,
-            upper_links,
-            upper_values,
-            lower_links,
-            lower_values,
-            leaf_values,
-        )?;
+        differ += lookup(list, grid)?;
     }
     Ok(differ)
 }
@@ -99,44 +56,44 @@ fn unlike(a: u32, b: u32) -> u32
     if a == b { 0 } else { 1 }
 }
 
+// The numbers at the head of a case.
+#[derive(Clone, Copy)]
+struct Head {
+    bytes: [u8; 80],
+}
+
+impl Head {
+    // Bytes past the end of the list count as 0.
+    fn read<R: Read>(list: &mut R) -> io::Result<Head> {
+        let mut bytes = [0u8; 80];
+        let n = read_bytes(list, &mut bytes)?;
+        bytes[n..].fill(0);
+        Ok(Head { bytes })
+    }
+
+    fn word(&self, at: usize) -> u32 {
+        layout::u32_at(&self.bytes, at)
+    }
+
+    fn count(&self, at: usize) -> usize {
+        self.word(at) as usize
+    }
+
+    // How many lookups a case has.
+    fn asked(&self) -> u32
+        ensures { result ≤ 65535 }
+    {
+        self.word(68).min(65535)
+    }
+}
+
 // How many of the two checks of a grid differ.
-fn checks(
-    head: &[u8; 80],
-    background: f32,
-    blocks: &[i32],
-    root_links: &[u32],
-    root_values: &[f32],
-    upper_links: &[u32],
-    upper_values: &[f32],
-    lower_links: &[u32],
-    lower_values: &[f32],
-    leaf_values: &[f32],
-) -> u32
+fn checks(head: &Head, grid: &Grid) -> u32
     ensures { result ≤ 2 }
 {
-    let plain = sparse_grid::validate(
-        background,
-        blocks,
-        root_links,
-        root_values,
-        upper_links,
-        upper_values,
-        lower_links,
-        lower_values,
-        leaf_values,
-    );
-    let density = sparse_grid::validate_density(
-        background,
-        blocks,
-        root_links,
-        root_values,
-        upper_links,
-        upper_values,
-        lower_links,
-        lower_values,
-        leaf_values,
-    );
-    unlike(plain, head_word(head, 72)) + unlike(density, head_word(head, 76))
+    let plain = refusals::fault(grid.validate());
+    let density = refusals::fault(grid.validate_density());
+    unlike(plain, head.word(72)) + unlike(density, head.word(76))
 }
 
 // How many lookups were made, and how many answers differ.
@@ -147,139 +104,83 @@ struct Seen {
 }
 
 // How many checks and lookups of a case differ.
-fn judge<R: Read>(
-    list: &mut R,
-    head: &[u8; 80],
-    background: f32,
-    blocks: &[i32],
-    root_links: &[u32],
-    root_values: &[f32],
-    upper_links: &[u32],
-    upper_values: &[f32],
-    lower_links: &[u32],
-    lower_values: &[f32],
-    leaf_values: &[f32],
-) -> io::Result<u32>
-    ensures { IfOk result (λ differ. differ ≤ 65537) }
-{
-    let first = checks(
-        head,
-        background,
-        blocks,
-        root_links,
-        root_values,
-        upper_links,
-        upper_values,
-        lower_links,
-        lower_values,
-        leaf_values,
-    );
-    let more = lookups(
-        list,
-        asked(head),
-        background,
-        blocks,
-        root_links,
-        root_values,
-        upper_links,
-        upper_values,
-        lower_links,
-        lower_values,
-        leaf_values,
-    )?;
-    Ok(first + more)
-}
-
-fn head_word(head: &[u8; 80], at: usize) -> u32 {
-    layout::u32_at(head, at)
-}
-
-fn head_count(head: &[u8; 80], at: usize) -> usize {
-    head_word(head, at) as usize
-}
-
-// How many lookups a case has.
-fn asked(head: &[u8; 80]) -> u32
-    ensures { result ≤ 65535 }
-{
-    least(head_word(head, 68), 65535)
-}
-
-// The head of a case. Bytes past the end of the list count as 0.
-fn read_head<R: Read>(list: &mut R) -> io::Result<[u8; 80]> {
-    let mut head = [0u8; 80];
-    let n = read_bytes(list, &mut head)?;
-    head[n..].fill(0);
-    Ok(head)
-}
-
-// The parts of the tables that the head names, judged.
-fn judge_parts<R: Read>(
-    list: &mut R,
-    head: &[u8; 80],
-    blocks: &[i32; 24],
-    root_links: &[u32; 8],
-    root_values: &[f32; 8],
-    upper_links: &[u32; 65536],
-    upper_values: &[f32; 65536],
-    lower_links: &[u32; 8192],
-    lower_values: &[f32; 8192],
-    leaf_values: &[f32; 1024],
-) -> io::Result<Seen>
+fn judge<R: Read>(list: &mut R, head: &Head, grid: &Grid) -> io::Result<Seen>
     ensures { IfOk result (λ seen. (seen.lookups ≤ 65535) × (seen.differ ≤ 65537)) }
 {
-    let differ = judge(
-        list,
-        head,
-        layout::f32_at(head, 64),
-        first_numbers(blocks, head_count(head, 0)),
-        first_links(root_links, head_count(head, 4)),
-        first_values(root_values, head_count(head, 8)),
-        first_links(upper_links, head_count(head, 12)),
-        first_values(upper_values, head_count(head, 16)),
-        first_links(lower_links, head_count(head, 20)),
-        first_values(lower_values, head_count(head, 24)),
-        first_values(leaf_values, head_count(head, 28)),
-    )?;
+    let first = checks(head, grid);
+    let asked = head.asked();
+    let more = lookups(list, asked, grid)?;
     Ok(Seen {
-        lookups: asked(head),
-        differ,
+        lookups: asked,
+        differ: first + more,
     })
+}
+
+// Room for the tables of a case.
+#[derive(Drop)]
+struct Tables {
+    blocks: [i32; 24],
+    root_links: [u32; 8],
+    root_values: [f32; 8],
+    upper_links: [u32; 65536],
+    upper_values: [f32; 65536],
+    lower_links: [u32; 8192],
+    lower_values: [f32; 8192],
+    leaf_values: [f32; 1024],
+}
+
+impl Tables {
+    // What stands in the list for each table that is not zero.
+    fn fill<R: Read>(&mut self, list: &mut R, head: &Head) -> io::Result<()> {
+        fill(list, head.word(32), &mut self.blocks)?;
+        fill(list, head.word(36), &mut self.root_links)?;
+        fill(list, head.word(40), &mut self.root_values)?;
+        fill(list, head.word(44), &mut self.upper_links)?;
+        fill(list, head.word(48), &mut self.upper_values)?;
+        fill(list, head.word(52), &mut self.lower_links)?;
+        fill(list, head.word(56), &mut self.lower_values)?;
+        fill(list, head.word(60), &mut self.leaf_values)
+    }
+
+    // The parts of the tables that the head names.
+    fn grid(&self, head: &Head) -> Grid {
+        Grid {
+            background: layout::f32_at(&head.bytes, 64),
+            blocks: first(&self.blocks, head.count(0)),
+            roots: Entries {
+                links: first(&self.root_links, head.count(4)),
+                values: first(&self.root_values, head.count(8)),
+            },
+            upper: Entries {
+                links: first(&self.upper_links, head.count(12)),
+                values: first(&self.upper_values, head.count(16)),
+            },
+            lower: Entries {
+                links: first(&self.lower_links, head.count(20)),
+                values: first(&self.lower_values, head.count(24)),
+            },
+            leaf_values: first(&self.leaf_values, head.count(28)),
+        }
+    }
 }
 
 // Reads a case into tables of zeros and judges it.
 fn replay<R: Read>(list: &mut R) -> io::Result<Seen>
     ensures { IfOk result (λ seen. (seen.lookups ≤ 65535) × (seen.differ ≤ 65537)) }
 {
-    let mut blocks = [0i32; 24];
-    let mut root_links = [0u32; 8];
-    let mut root_values = [0.0f32; 8];
-    let mut upper_links = [0u32; 65536];
-    let mut upper_values = [0.0f32; 65536];
-    let mut lower_links = [0u32; 8192];
-    let mut lower_values = [0.0f32; 8192];
-    let mut leaf_values = [0.0f32; 1024];
-    let head = read_head(list)?;
-    fill_numbers(list, head_word(&head, 32), &mut blocks)?;
-    fill_links(list, head_word(&head, 36), &mut root_links)?;
-    fill_values(list, head_word(&head, 40), &mut root_values)?;
-    fill_links(list, head_word(&head, 44), &mut upper_links)?;
-    fill_values(list, head_word(&head, 48), &mut upper_values)?;
-    fill_links(list, head_word(&head, 52), &mut lower_links)?;
-    fill_values(list, head_word(&head, 56), &mut lower_values)?;
-    fill_values(list, head_word(&head, 60), &mut leaf_values)?;
-    judge_parts(
-        list,
-        &head,
-        &blocks,
-        &root_links,
-        &root_values,
-        &upper_links,
-        &upper_values,
-        &lower_links,
-        &lower_values,
-        &leaf_values,
-    )
+    let mut tables = Tables {
+        blocks: [0; 24],
+        root_links: [0; 8],
+        root_values: [0.0; 8],
+        upper_links: [0; 65536],
+        upper_values: [0.0; 65536],
+        lower_links: [0; 8192],
+        lower_values: [0.0; 8192],
+        leaf_values: [0.0; 1024],
+    };
+    let head = Head::read(list)?;
+    tables.fill(list, &head)?;
+    judge(list, &head, &tables.grid(&head))
 }
 
 // How many cases were replayed, and what was seen in them.

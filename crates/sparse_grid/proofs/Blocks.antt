@@ -1,19 +1,17 @@
--- Blocks of roots: a block above all before it is no earlier one, and what a scan finds.
-use Rattle.std.proofs.Common.{◌≡◌, ℕ, zero, suc, ◌+◌, ◌<◌, ◌≤◌, Bool, true, false, not, ◌&&◌, ◌||◌, List, length, get_or, ℤ, sym, refl, ap, ◌∙◌, subst, inl, inr, le_refl, lt_of_lt_of_le, le_of_suc-le-suc, eq-or-lt_of_le, add-one, arith, w32, SFits, to_z, of_z}
-use lib.Ieee.{Float, nan, eq}
+-- Blocks of roots: a block above all before it is no earlier one, and what a scan finds; the fault of a root.
+use Rattle.std.proofs.Common.{◌≡◌, ℕ, zero, suc, ◌+◌, ◌/◌, ◌<◌, ◌≤◌, Bool, true, false, not, ◌&&◌, ◌||◌, length, get_or, sym, refl, ap, ◌∙◌, subst, inl, inr, le_refl, lt_of_lt_of_le, eq-or-lt_of_le, le_of_suc-le-suc, add-one, arith}
+use Rattle.std.specs.Prelude.{IsTrue}
+use lib.Ieee.{nan}
 use Rattle.refusals.specs.Faults.{◌then◌, unless}
 use Rattle.float.specs.Zero.{+0}
 use Rattle.layout.specs.Coordinates.{Coord, eq_z, same_block}
-use Rattle.sparse_grid.specs.declared.Entry.{Entry}
-use Rattle.sparse_grid.specs.declared.Root.{Root}
-use Rattle.sparse_grid.specs.Tables.{Grid, block_at, entry_of, entry_at}
-use Rattle.sparse_grid.specs.Validate.{earlier, block_in, entry_fault}
-use Rattle.sparse_grid.specs.Answers.{at}
-use Rattle.sparse_grid.specs.Inner.{rank, Topped, blocks_of, root_block, block_of_root, root_of, root_fault_in, fault_of, ranged}
-use Rattle.sparse_grid.proofs.Signs.{eq_z_true, both, seen}
-use Rattle.refusals.proofs.ListLaws.{get_d_any}
+use Rattle.sparse_grid.specs.Tables.{Grid, block_at}
+use Rattle.sparse_grid.specs.Validate.{earlier, block_in, entry_fault, root_fault}
+use Rattle.sparse_grid.specs.Inner.{rank, ranged, Topped}
+use Rattle.sparse_grid.proofs.Signs.{eq_z_true, both}
+use Rattle.sparse_grid.proofs.TableLaws.{entry_fault_read}
 
-pub ranged_all : (b : Coord) → ranged b ≡ true → (block_in b.x ≡ true) × (block_in b.y ≡ true) × (block_in b.z ≡ true)
+pub ranged_all : (b : Coord) → IsTrue (ranged b) → IsTrue (block_in b.x) × IsTrue (block_in b.y) × IsTrue (block_in b.z)
 ranged_all b h =
     let p = both (block_in b.x && block_in b.y) (block_in b.z) h in
     let q = both (block_in b.x) (block_in b.y) p.0 in
@@ -59,92 +57,44 @@ module _ (g : Grid) (b : Coord) where
     | inr k ↦ ap (λ (t : Bool). t || same_block (block_at g i) b) (earlier_found i j k q)
   ]
 
+-- ---- every block before i ranks below top
+
 -- a block that rises above all before it is none of them
-pub risen : (blocks : List ℤ) (i top : ℕ) (b : Coord) → Topped blocks i top → top ≤ rank b → earlier (blocks_of blocks) i b ≡ false
+pub risen : (g : Grid) (i top : ℕ) (b : Coord) → Topped g.blocks i top → top ≤ rank b → earlier g i b ≡ false
 unfolding earlier
-risen blocks zero top b t h = refl
-risen blocks (suc i) top b t h =
-    or_none (earlier (blocks_of blocks) i b) (same_block (root_block blocks i) b)
-    (risen blocks i top b (λ j l. t j (omega arith)) h)
-    (apart (root_block blocks i) b (lt_of_lt_of_le (t i (le_refl (suc i))) h))
+risen g zero top b t h = refl
+risen g (suc i) top b t h =
+    or_none (earlier g i b) (same_block (block_at g i) b)
+    (risen g i top b (λ j l. t j (omega arith)) h)
+    (apart (block_at g i) b (lt_of_lt_of_le (t i (le_refl (suc i))) h))
 
-pub topped_none : (blocks : List ℤ) (top : ℕ) → Topped blocks 0 top
-topped_none blocks top j l = absurd (omega arith)
+pub topped_none : (g : Grid) (top : ℕ) → Topped g.blocks 0 top
+topped_none g top j l = absurd (omega arith)
 
-pub topped_next : (blocks : List ℤ) (i top next : ℕ) → Topped blocks i top → top ≤ next → rank (root_block blocks i) < next → Topped blocks (i + 1) next
-topped_next blocks i top next t h k j l =
+pub topped_next : (g : Grid) (i top next : ℕ) → Topped g.blocks i top → top ≤ next → rank (block_at g i) < next → Topped g.blocks (i + 1) next
+topped_next g i top next t h k j l =
     elim (eq-or-lt_of_le (le_of_suc-le-suc (subst (λ (n : ℕ). j < n) (add-one i) l))) [
-      | inl e ↦ subst (λ (n : ℕ). rank (root_block blocks n) < next) (sym e) k
+      | inl e ↦ subst (λ (n : ℕ). rank (block_at g n) < next) (sym e) k
       | inr q ↦ lt_of_lt_of_le (t j q) h
     ]
 
--- ---- the tables of the roots, and a root record that was read there
+-- ---- the fault of root i, by the tests of its block b
 
-pub record Roots : Type 0 where
-  pub blocks : List ℤ
-  pub links : List ℕ
-  pub values : List Float
+module _ (g : Grid) (i : ℕ) (b : Coord) (is : b ≡ block_at g i) where
+  abbrev entry : ℕ
+  entry = entry_fault (length g.upper_links / 32768) (get_or g.root_links i 0) (get_or g.root_values i +0)
 
-pub record Read (t : Roots) (i : ℕ) (r : Root) : Type 0 where
-  pub is : r ≡ root_of t.blocks t.links t.values i
+  by_tests : {inside again : Bool} → ranged b ≡ inside → earlier g i b ≡ again → root_fault g i ≡ (unless (inside && not again) 11 then entry)
+  unfolding root_fault
+  by_tests p q = (λ k. unless (ranged (sym is k) && not (earlier g i (sym is k))) 11 then entry) ∙ (λ k. unless (p k && not (q k)) 11 then entry)
 
--- its numbers fit, as those of every record do
-pub record Fit (r : Root) : Type 0 where
-  pub x : SFits w32 r.x
-  pub y : SFits w32 r.y
-  pub z : SFits w32 r.z
+  pub outside : ranged b ≡ false → root_fault g i ≡ 11
+  outside h = by_tests h refl
 
--- its block, as it reaches a callee
-abbrev pub passed : Root → Coord
-passed r = at (to_z w32 (of_z w32 r.x)) (to_z w32 (of_z w32 r.y)) (to_z w32 (of_z w32 r.z))
+  pub again : ranged b ≡ true → earlier g i b ≡ true → root_fault g i ≡ 11
+  again h e = by_tests h e
 
-passed_is : {t : Roots} {i : ℕ} {r : Root} → Read t i r → Fit r → passed r ≡ root_block t.blocks i
-passed_is read fit = (λ k. at (seen fit.x k) (seen fit.y k) (seen fit.z k)) ∙ ap block_of_root read.is
-
--- another root, compared with it
-pub compared : {t : Roots} {i j : ℕ} {r s : Root} → Read t i r → Fit r → Read t j s
-    → same_block (block_of_root s) (passed r) ≡ same_block (root_block t.blocks j) (root_block t.blocks i)
-unfolding passed_is
-compared read fit other = λ k. same_block (block_of_root (other.is k)) (passed_is read fit k)
-
--- ---- the fault of an entry and of a root
-
-entry_of_lem : (count l : ℕ) (v : Float) → fault_of count (entry_of l v) (eq v +0) ≡ entry_fault count l v
-entry_of_lem count zero v = refl
-entry_of_lem count (suc l) v = refl
-
--- the fault of the entry at slot i, as the code comes by it
-pub slot_entry : {e : Entry} (links : List ℕ) (values : List Float) (count i : ℕ) → e ≡ entry_at links values i → i < length values
-    → fault_of count e (eq (get_or values i nan) +0) ≡ entry_fault count (get_or links i 0) (get_or values i +0)
-slot_entry links values count i is l =
-    (λ k. fault_of count (is k) (eq (get_d_any values i nan +0 l k) +0)) ∙ entry_of_lem count (get_or links i 0) (get_or values i +0)
-
-abbrev pub fault_at : Roots → ℕ → ℕ → ℕ
-fault_at t = root_fault_in t.blocks t.links t.values
-
--- whether some root before i has its block
-abbrev pub repeats : Roots → ℕ → Bool
-repeats t i = earlier (blocks_of t.blocks) i (root_block t.blocks i)
-
-abbrev slot_fault : Roots → ℕ → ℕ → ℕ
-slot_fault t uppers i = entry_fault uppers (get_or t.links i 0) (get_or t.values i +0)
-
-by_tests : (t : Roots) (uppers i : ℕ) {inside again : Bool} → ranged (root_block t.blocks i) ≡ inside → repeats t i ≡ again
-    → fault_at t uppers i ≡ (unless (inside && not again) 11 then slot_fault t uppers i)
-unfolding root_fault_in
-by_tests t uppers i p q = λ k. unless (p k && not (q k)) 11 then slot_fault t uppers i
-
-module _ {t : Roots} {i : ℕ} {r : Root} (uppers : ℕ) (read : Read t i r) where
-  inside : {b : Bool} → ranged (block_of_root r) ≡ b → ranged (root_block t.blocks i) ≡ b
-  inside h = ap (λ (s : Root). ranged (block_of_root s)) (sym read.is) ∙ h
-
-  pub outside : ranged (block_of_root r) ≡ false → fault_at t uppers i ≡ 11
-  outside h = by_tests t uppers i (inside h) refl
-
-  pub again : ranged (block_of_root r) ≡ true → repeats t i ≡ true → fault_at t uppers i ≡ 11
-  again h e = by_tests t uppers i (inside h) e
-
-  pub entry_left : ranged (block_of_root r) ≡ true → repeats t i ≡ false → i < length t.values
-      → fault_at t uppers i ≡ fault_of uppers r.entry (eq (get_or t.values i nan) +0)
-  entry_left h e l =
-      by_tests t uppers i (inside h) e ∙ sym (slot_entry t.links t.values uppers i (ap (λ (s : Root). s.entry) read.is) l)
+  -- of a block that passes, the entry that is read decides
+  pub entry_left : ranged b ≡ true → earlier g i b ≡ false → i < length g.root_values
+      → root_fault g i ≡ entry_fault (length g.upper_links / 32768) (get_or g.root_links i 0) (get_or g.root_values i nan)
+  entry_left h e l = by_tests h e ∙ sym (entry_fault_read g.root_links g.root_values (length g.upper_links / 32768) i l)

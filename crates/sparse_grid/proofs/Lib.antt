@@ -1,8 +1,7 @@
 pub mod Tested
-pub mod Tests
 pub mod Steps
 pub mod Blocks
-pub mod Whole
+pub mod Levels
 pub mod Nodes
 pub mod Rising
 pub mod Examples

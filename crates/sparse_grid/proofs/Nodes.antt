@@ -1,78 +1,19 @@
 -- A lookup, step by step: the root whose block fits, and the nodes below it.
-use Rattle.std.proofs.Common.{◌≡◌, ℕ, zero, suc, ◌+◌, ◌-◌, ◌*◌, ◌/◌, ◌%◌, ◌<◌, ◌≤◌, Bool, true, false, cond, ltb, leb, List, [], length, ℤ, sym, refl, ap, ◌∙◌, arith, le-ltb, lt-ltb, eq-eqb, ne_eqb, le-leb}
-use lib.Ieee.{Float}
-use borrow.Author.Tests.{lt-leb}
-use Rattle.layout.specs.Coordinates.{Coord, slot, same_block, block_of}
+use Rattle.std.proofs.Common.{◌≡◌, ℕ, zero, suc, ◌+◌, ◌-◌, ◌*◌, ◌<◌, ◌≤◌, Bool, true, false, cond, leb, List, length, ℤ, sym, refl, ap, ◌∙◌, arith, le-ltb, lt-ltb, eq-eqb, ne_eqb}
+use Rattle.refusals.specs.Results.{Result, ok, refused, need}
+use Rattle.layout.specs.Coordinates.{Coord, same_block, block_of}
 use Rattle.layout.specs.Walk.{of_background}
-use Rattle.sparse_grid.specs.declared.Entry.{Entry}
-use Rattle.sparse_grid.specs.declared.Entry.TheVariants.{Child, Tile}
+use Rattle.sparse_grid.specs.declared.Entry.TheVariants.{Child}
 use Rattle.sparse_grid.specs.Tables.{Grid, entry_at}
 use Rattle.sparse_grid.specs.Validate.{pair_fault}
-use Rattle.sparse_grid.specs.Lookup.{Found, value, refused, lower_entry, lower_at, upper_entry, upper_at, root_entry, roots_from, lookup}
-use Rattle.sparse_grid.specs.Biased.{place}
-use Rattle.sparse_grid.specs.BiasedLaws.{mod_8, mod_128, mod_4096}
-use Rattle.sparse_grid.specs.Inner.{root_block, root_from, below_of, from_root, nodes_of, level_at, told}
-
--- ---- a node, by the n entries that its table must have
-
-pub missing : (n have : ℕ) (f : Found) → have < n → refused 11 ≡ cond (leb n have) f (refused 11)
-missing n have f h = ap (λ (t : Bool). cond t f (refused 11)) (sym (lt-leb n have h))
-
-pub present : (n have : ℕ) (f : Found) → n ≤ have → f ≡ cond (leb n have) f (refused 11)
-present n have f h = ap (λ (t : Bool). cond t f (refused 11)) (sym (le-leb n have h))
-
--- ---- where a voxel's slot stands in the table
-
-module _ (k x y z : ℕ) where
-  pub leaf_slot : 512 * k + (x % 8 * 64 + y % 8 * 8 + z % 8) ≡ 512 * k + slot 8 1 (place x y z)
-  leaf_slot = rw (mod_8 x, mod_8 y, mod_8 z) (omega arith)
-
-  pub lower_slot_lem : 4096 * k + (x % 128 / 8 * 256 + y % 128 / 8 * 16 + z % 128 / 8) ≡ 4096 * k + slot 16 8 (place x y z)
-  lower_slot_lem = rw (mod_128 x, mod_128 y, mod_128 z) (omega arith)
-
-  pub upper_slot_lem : 32768 * k + (x % 4096 / 128 * 1024 + y % 4096 / 128 * 32 + z % 4096 / 128) ≡ 32768 * k + slot 32 128 (place x y z)
-  upper_slot_lem = rw (mod_4096 x, mod_4096 y, mod_4096 z) (omega arith)
-
--- ---- a node is read without what stands above it
-
-abbrev pub lowers : Grid → Grid
-lowers g = nodes_of [] [] g.lower_links g.lower_values g.leaf_values
-
-abbrev pub nodes : Grid → Grid
-nodes g = nodes_of g.upper_links g.upper_values g.lower_links g.lower_values g.leaf_values
-
-lower_entry_only : (g : Grid) (c : Coord) (e : Entry) → lower_entry (lowers g) c e ≡ lower_entry g c e
-lower_entry_only g c (Child j) = refl
-lower_entry_only g c (Tile v) = refl
-
-pub lower_only : (g : Grid) (k : ℕ) (c : Coord) → lower_at (lowers g) k c ≡ lower_at g k c
-lower_only g k c =
-    ap (λ (f : Found). cond (leb (4096 * (k + 1)) (length g.lower_links)) f (refused 11))
-    (lower_entry_only g c (entry_at g.lower_links g.lower_values (4096 * k + slot 16 8 c)))
-
-upper_entry_only : (g : Grid) (c : Coord) (e : Entry) → upper_entry (nodes g) c e ≡ upper_entry g c e
-upper_entry_only g c (Child j) = sym (lower_only (nodes g) j c) ∙ lower_only g j c
-upper_entry_only g c (Tile v) = refl
-
-pub upper_only : (g : Grid) (k : ℕ) (c : Coord) → upper_at (nodes g) k c ≡ upper_at g k c
-upper_only g k c =
-    ap (λ (f : Found). cond (leb (32768 * (k + 1)) (length g.upper_links)) f (refused 11))
-    (upper_entry_only g c (entry_at g.upper_links g.upper_values (32768 * k + slot 32 128 c)))
-
-root_only : (g : Grid) (c : Coord) (e : Entry) → root_entry (nodes g) c e ≡ root_entry g c e
-root_only g c (Child k) = upper_only g k c
-root_only g c (Tile v) = refl
-
--- with the roots, but without their blocks
-abbrev pub rooted : Grid → Grid
-rooted g =
-    below_of g.background g.root_links g.root_values g.upper_links g.upper_values g.lower_links g.lower_values g.leaf_values
-
-from_only : (g : Grid) (c : Coord) (i : ℕ) → from_root (rooted g) c i ≡ from_root g c i
-from_only g c i =
-    let e = entry_at g.root_links g.root_values i in
-    ap (λ (f : Found). cond (ltb i (length g.root_links)) f (value g.background of_background))
-    (sym (root_only (rooted g) c e) ∙ root_only g c e)
+use Rattle.sparse_grid.specs.Lookup as found
+use Rattle.sparse_grid.specs.Lookup.{Found, value, lower_entry, lower_at, upper_entry, upper_at, root_entry, roots_from, lookup}
+use Rattle.sparse_grid.specs.Inner.{root_block, root_from, from_root}
+use Rattle.sparse_grid.specs.Nodes.{index_in}
+use Rattle.sparse_grid.specs.Spots.{Cube}
+use Rattle.sparse_grid.specs.Ends.{with_leaves}
+use lib.Ieee.{Float}
+use Rattle.sparse_grid.proofs.SpotLaws.{lower_same, upper_same}
 
 -- ---- the roots from i on
 
@@ -113,37 +54,82 @@ first_root g c (suc n) i e = go (same_block (root_block g.blocks i) (block_of c)
         (lt-ltb i (length g.root_links) (omega arith))
     go false h = h
 
--- ---- the whole lookup
+-- ---- the root that a search found, and what stands there
 
-module _ (g : Grid) (c : Coord) where
+module _ (g : Grid) (c b : Coord) (is : b ≡ block_of c) where
+  first : from_root g c (root_from g.blocks (length g.root_links) 0 b) ≡ roots_from g (length g.root_links) 0 c
+  first = ap (λ (q : Coord). from_root g c (root_from g.blocks (length g.root_links) 0 q)) is ∙ first_root g c (length g.root_links) 0 (omega arith)
+
+  pub root_none : root_from g.blocks (length g.root_links) 0 b ≡ length g.root_links → value g.background of_background ≡ roots_from g (length g.root_links) 0 c
+  root_none e =
+      ap (λ (t : Bool). cond t (root_entry g c (entry_at g.root_links g.root_values (length g.root_links))) (value g.background of_background))
+      (sym (le-ltb (length g.root_links) (length g.root_links) (omega arith)))
+      ∙ ap (from_root g c) (sym e)
+      ∙ first
+
+  pub root_some : (i : ℕ) → (root_from g.blocks (length g.root_links) 0 b ≡ i) × (i < length g.root_links)
+      → root_entry g c (entry_at g.root_links g.root_values i) ≡ roots_from g (length g.root_links) 0 c
+  root_some i h =
+      ap (λ (t : Bool). cond t (root_entry g c (entry_at g.root_links g.root_values i)) (value g.background of_background))
+      (sym (lt-ltb i (length g.root_links) h.1))
+      ∙ ap (from_root g c) (sym h.0)
+      ∙ first
+
+  pub root_child : (i : ℕ) → (root_from g.blocks (length g.root_links) 0 b ≡ i) × (i < length g.root_links) → {k : ℕ}
+      → Child k ≡ entry_at g.root_links g.root_values i → upper_at g k c ≡ roots_from g (length g.root_links) 0 c
+  root_child i h e = ap (root_entry g c) e ∙ root_some i h
+
+-- ---- a node below, by the index of its slot
+
+abbrev pub along : (ℕ → Found) → Result ℕ → Found
+along f (ok i) = f i
+along f (refused n) = found.refused n
+
+along_need : (t : Bool) (f : ℕ → Found) (i j : ℕ) → i ≡ j → along f (need t 11 (ok i)) ≡ cond t (f j) (found.refused 11)
+along_need true f i j e = ap f e
+along_need false f i j e = refl
+
+-- what stands at a slot of an upper node, and of a lower node
+abbrev pub upper_slot : Grid → Coord → ℕ → Found
+upper_slot g c i = upper_entry g c (entry_at g.upper_links g.upper_values i)
+
+abbrev pub lower_slot : Grid → Coord → ℕ → Found
+lower_slot g c i = lower_entry g c (entry_at g.lower_links g.lower_values i)
+
+module _ (g : Grid) (c p : Coord) (s : Cube c p) (k : ℕ) where
+  pub upper_step : {r : Result ℕ} → r ≡ index_in 32 128 (length g.upper_links) k p → along (upper_slot g c) r ≡ upper_at g k c
+  upper_step e =
+      ap (along (upper_slot g c)) e
+      ∙ along_need (leb (32768 * (k + 1)) (length g.upper_links)) (upper_slot g c) _ _ (ap (λ (n : ℕ). 32768 * k + n) (sym (upper_same s)))
+
+  pub upper_child : {i j : ℕ} → ok i ≡ index_in 32 128 (length g.upper_links) k p → Child j ≡ entry_at g.upper_links g.upper_values i
+      → lower_at g j c ≡ upper_at g k c
+  upper_child e f = ap (upper_entry g c) f ∙ upper_step e
+
+  pub lower_step : {r : Result ℕ} → r ≡ index_in 16 8 (length g.lower_links) k p → along (lower_slot g c) r ≡ lower_at g k c
+  lower_step e =
+      ap (along (lower_slot g c)) e
+      ∙ along_need (leb (4096 * (k + 1)) (length g.lower_links)) (lower_slot g c) _ _ (ap (λ (n : ℕ). 4096 * k + n) (sym (lower_same s)))
+
+-- ---- the whole lookup, whatever the leaves
+
+module _ (g : Grid) (leaves : List Float) (c : Coord) where
+  h : Grid
+  h = with_leaves g leaves
+
+  pair_same : pair_fault g ≡ pair_fault h
+  unfolding pair_fault h
+  pair_same = refl
+
   -- what the test of the pairs decides
-  paired : Bool → Found
-  paired t = cond t (roots_from g (length g.root_links) 0 c) (refused (pair_fault g))
+  by_pairs : Bool → Found
+  unfolding h
+  by_pairs t = cond t (roots_from h (length g.root_links) 0 c) (found.refused (pair_fault h))
 
-  pub unpaired : (pair_fault g ≡ 0 → ⊥) → refused (pair_fault g) ≡ lookup g c
-  unfolding lookup paired
-  unpaired h = ap paired (sym (ne_eqb (pair_fault g) 0 h))
+  pub unpaired : (n : ℕ) → n ≡ pair_fault g → (n ≡ 0 → ⊥) → found.refused n ≡ lookup (with_leaves g leaves) c
+  unfolding lookup by_pairs h
+  unpaired n e f = ap found.refused (e ∙ pair_same) ∙ ap by_pairs (sym (ne_eqb (pair_fault h) 0 (λ z. f (e ∙ pair_same ∙ z))))
 
-  by_root : pair_fault g ≡ 0 → from_root g c (root_from g.blocks (length g.root_links) 0 (block_of c)) ≡ lookup g c
-  unfolding lookup paired
-  by_root h = first_root g c (length g.root_links) 0 (omega arith) ∙ ap paired (sym (eq-eqb (pair_fault g) 0 h))
-
-  -- what stands at the place p of root i, where both are those of b, the coordinate as the code has it
-  pub by_place : {b p : Coord} {i : ℕ} {r : Found} → pair_fault g ≡ 0
-      → r ≡ from_root (rooted g) p i → p ≡ b → i ≡ root_from g.blocks (length g.root_links) 0 (block_of b) → b ≡ c
-      → r ≡ lookup g c
-  by_place {b} {p} {i} h q there root same =
-      q
-      ∙ from_only g p i
-      ∙ (λ t. from_root g (there t) (root t))
-      ∙ (λ t. from_root g (same t) (root_from g.blocks (length g.root_links) 0 (block_of (same t))))
-      ∙ by_root h
-
--- ---- what a function answers that stores the value and the level and answers a number
-
-pub told_value : (n : ℕ) (v : Float) (l : ℕ) → n ≡ 0 → value v (level_at l) ≡ told n v l
-told_value n v l e = ap (λ (k : ℕ). told k v l) (sym e)
-
-pub told_refused : (n : ℕ) (v : Float) (l : ℕ) → (n ≡ 0 → ⊥) → refused n ≡ told n v l
-told_refused zero v l h = absurd (h refl)
-told_refused (suc n) v l h = refl
+  pub paired : {r : Found} → 0 ≡ pair_fault g → r ≡ roots_from (with_leaves g leaves) (length g.root_links) 0 c → r ≡ lookup (with_leaves g leaves) c
+  unfolding lookup by_pairs h
+  paired e q = q ∙ ap by_pairs (sym (eq-eqb (pair_fault h) 0 (sym (e ∙ pair_same))))

@@ -1,11 +1,11 @@
 -- What a lookup of a grid reads is a value of its tables, its background, or +0. So where `density_fault` finds none that is negative,
 -- no lookup reads one. Assumes nothing.
-use Rattle.std.specs.Prelude.{◌≡◌, ℕ, zero, suc, ◌+◌, ◌*◌, ◌<◌, Bool, true, false, cond, not, T, List, length, ◌==◌, nat_le, nat_lt, slice_index, slice_index_or, refl, Float}
-use Rattle.std.proofs.Common.{ap, ◌∙◌, subst, sym, ltb-true, ltb-false}
+use Rattle.std.specs.Prelude.{◌≡◌, ℕ, zero, suc, ◌+◌, ◌*◌, Bool, true, false, cond, not, List, length, ◌==◌, nat_le, nat_lt, slice_index, slice_index_or, refl, Float}
+use Rattle.std.proofs.Common.{subst, sym, ltb-true, ltb-false}
 use Rattle.std.proofs.Math.ListN.{get_or-eq_default}
 use Rattle.std.specs.Float.Ieee.{lt}
 use Rattle.std.specs.Float.Ieee.Bits.{is_false}
-use Rattle.refusals.specs.Faults.{◌then◌, first_fault}
+use Rattle.refusals.specs.Faults.{◌then◌}
 use Rattle.refusals.specs.FaultLaws.{then_zero, unless_zero, first_fault_zero}
 use Rattle.float.specs.Zero.{+0}
 use Rattle.float.proofs.Ordered.{same_not_lt}

@@ -10,3 +10,6 @@ pub mod Sound
 pub mod Roots
 pub mod Reorder
 pub mod Inner
+pub mod Record
+pub mod Nodes
+pub mod Ends

@@ -1,5 +1,5 @@
 -- Where a lookup ends, as far as the coordinates of one cube of 8 share it: in a leaf, or at a value that is theirs all.
-use Rattle.std.specs.Prelude.{◌≡◌, ℕ, cond, List, [], Float}
+use Rattle.std.specs.Prelude.{◌≡◌, cond, List, [], Float}
 use Rattle.std.specs.Int.Signed.{shr_z}
 use Rattle.refusals.specs.Results.{Result, ok, value_or}
 use Rattle.refusals.specs.Faults.{passing}

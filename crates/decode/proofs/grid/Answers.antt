@@ -25,8 +25,11 @@ use Rattle.decode.specs.Inner.Rooted.{RootsHeld}
 use Rattle.decode.specs.Inner.TreeRead.{Zeroed, LendsAll, TreeOut}
 use Rattle.decode.specs.Inner.GridRead.{decode_of, grid_fault, lent, used_in, Used, answer_in, GridOut}
 use Rattle.decode.specs.declared.tree.Tree as Tree
-use Rattle.decode.specs.declared.tree.TreeRead as Code
-use Rattle.decode.specs.declared.tree.TreeRead.TheVariants.{Read, Refused}
+use Rattle.std.specs.Prelude.{Ok, Err, Result as Outcome}
+use Rattle.refusals.specs.Numbers.{number}
+use Rattle.refusals.specs.declared.Refusal.{Refusal}
+use Rattle.decode.specs.declared.grid.TreeRead as Code
+use Rattle.decode.specs.declared.grid.TreeRead.TheVariants.{Read, Refused}
 use Rattle.decode.proofs.grid.Ways.{accepted_of, of_bytes, of_tree, of_fault, of_accepted, into_lent, into_places}
 use Rattle.decode.proofs.grid.Parts.{used, parts, left, answers}
 use Rattle.decode.proofs.grid.Zeros.{nodes_of, roots_of}
@@ -123,7 +126,7 @@ pub record Begun (b : List ℕ) (t : Tables) : Type 0 where
   pub zeroed : Zeroed (nodes_of t) (roots_of t)
 
 -- the tree reader has answered `read`, and left the tables u
-pub record Got (b : List ℕ) (t u : Tables) (read : Code.TreeRead) : Type 0 where
+pub record Got (b : List ℕ) (t u : Tables) (read : Outcome Tree.Tree Refusal) : Type 0 where
   pub begun : Begun b t
   pub kept : Kept t u
   pub says : TreeOut b (nodes_of t) (roots_of t) (nodes_of u) (roots_of u) read
@@ -151,54 +154,50 @@ pub out-bytes : {density : Bool} {b : List ℕ} {t : Tables} {n : ℕ} → lent_
 out-bytes {density} {b} {t} {n} paired e h =
     refuses density b t t n refl (into density b t paired (of_bytes b (places_of (lengths t)) density (λ z. h (e ∙ z)) ∙ ap refused (sym e)))
 
-module _ {b : List ℕ} {t u : Tables} {read : Code.TreeRead} (got : Got b t u read) where
-  -- what the tree reader says of these places
-  told : {r : Code.TreeRead} → read ≡ r → TreeOut b (nodes_of t) (roots_of t) (nodes_of u) (roots_of u) r
-  told is = subst (TreeOut b (nodes_of t) (roots_of t) (nodes_of u) (roots_of u)) is got.says
+-- the places of the tables
+lends : (t : Tables) → LendsAll (nodes_of t) (roots_of t) (places_of (lengths t))
+lends t = record { nodes = record { spans = refl; upper = refl; lower = refl; leaf = refl }; roots = refl }
 
-  lends : LendsAll (nodes_of t) (roots_of t) (places_of (lengths t))
-  lends = record { nodes = record { spans = refl; upper = refl; lower = refl; leaf = refl }; roots = refl }
+pub out-tree : {density : Bool} {b : List ℕ} {t u : Tables} {e : Refusal} {n : ℕ} → Got b t u (Err e) → n ≡ number e → GridOut density b t u (Refused n)
+out-tree {density} {b} {t} {u} {n = n} got is =
+    let p = places_of (lengths t) in
+    let refusal = got.says p (lends t) got.begun.zeroed ∙ ap refused (sym is) in
+    refuses density b t u n (same got.kept) (into density b t got.begun.paired (of_tree b p got.begun.passed density n refusal))
 
-  pub out-tree : {density : Bool} {n : ℕ} → read ≡ Refused n → GridOut density b t u (Refused n)
-  out-tree {density} {n} is =
-      let p = places_of (lengths t) in
-      let e = of_tree b p got.begun.passed density n (told is p lends got.begun.zeroed) in
-      refuses density b t u n (same got.kept) (into density b t got.begun.paired e)
+module _ {b : List ℕ} {t u : Tables} {x : Tree.Tree} (got : Got b t u (Ok x)) where
+  given : (r : Roots) × (tree b (places_of (lengths t)) ≡ ok r) × Holds (nodes_of u) x.nodes r.state [] []
+      × RootsHeld (roots_of u) r.roots × (x.root ≡ root_place b) × (x.root + 28 ≤ length b) × (length r.roots ≡ x.roots)
+  given = got.says (places_of (lengths t)) (lends t) got.begun.zeroed
 
-  module _ {x : Tree.Tree} (is : read ≡ Read x) where
-    given : (r : Roots) × (tree b (places_of (lengths t)) ≡ ok r) × Holds (nodes_of u) x.nodes r.state [] []
-        × RootsHeld (roots_of u) r.roots × (x.root ≡ root_place b) × (x.root + 28 ≤ length b) × (length r.roots ≡ x.roots)
-    given = told is (places_of (lengths t)) lends got.begun.zeroed
+  pub tree-used : (length b < 4294967296) × UsedBy b x (lengths u)
+  tree-used =
+      let (r, tree_is, holds, roots, place, inside, size) = given in
+      (short b got.begun.passed, used b x (nodes_of u) (roots_of u) r holds roots place inside size (tree_holds b (places_of (lengths t)) r tree_is).keeps)
 
-    pub tree-used : (length b < 4294967296) × UsedBy b x (lengths u)
-    tree-used =
+  module _ {density : Bool} {n : ℕ} (fault : n ≡ grid_fault density (used_of b x u)) where
+    pub out_fault : (n ≡ 0 → ⊥) → GridOut density b t u (Refused n)
+    out_fault h =
         let (r, tree_is, holds, roots, place, inside, size) = given in
-        (short b got.begun.passed, used b x (nodes_of u) (roots_of u) r holds roots place inside size (tree_holds b (places_of (lengths t)) r tree_is).keeps)
+        let p = places_of (lengths t) in
+        let keeps = (tree_holds b p r tree_is).keeps in
+        let whole = parts b x (nodes_of u) (roots_of u) r holds roots place inside size keeps in
+        let e : n ≡ grid_fault density (accepted_of b r) = fault ∙ ap (grid_fault density) whole in
+        let f = of_fault b p got.begun.passed r tree_is density (λ z. h (e ∙ z)) ∙ ap refused (sym e) in
+        refuses density b t u n (same got.kept) (into density b t got.begun.paired f)
 
-    module _ {density : Bool} {n : ℕ} (fault : n ≡ grid_fault density (used_of b x u)) where
-      pub out_fault : (n ≡ 0 → ⊥) → GridOut density b t u (Refused n)
-      out_fault h =
-          let (r, tree_is, holds, roots, place, inside, size) = given in
-          let p = places_of (lengths t) in
-          let keeps = (tree_holds b p r tree_is).keeps in
-          let whole = parts b x (nodes_of u) (roots_of u) r holds roots place inside size keeps in
-          let e : n ≡ grid_fault density (accepted_of b r) = fault ∙ ap (grid_fault density) whole in
-          let f = of_fault b p got.begun.passed r tree_is density (λ z. h (e ∙ z)) ∙ ap refused (sym e) in
-          refuses density b t u n (same got.kept) (into density b t got.begun.paired f)
-
-      pub out-accepted : n ≡ 0 → GridOut density b t u (Read x)
-      out-accepted z =
-          let (r, tree_is, holds, roots, place, inside, size) = given in
-          let p = places_of (lengths t) in
-          let keeps = (tree_holds b p r tree_is).keeps in
-          let whole = parts b x (nodes_of u) (roots_of u) r holds roots place inside size keeps in
-          let e : n ≡ grid_fault density (accepted_of b r) = fault ∙ ap (grid_fault density) whole in
-          let f = of_accepted b p got.begun.passed r tree_is density (sym e ∙ z) in
-          let d : decode_into (decode_of density) b (lengths t) ≡ ok (accepted_of b r) = into density b t got.begun.paired f in
-          let moved = ap (λ (k : Lent). left_of k (ok (accepted_of b r))) (same got.kept) ∙ ap (left_of (lengths t)) (sym d) in
-          let small = short b got.begun.passed in
-          record {
-            place = omega arith;
-            says = answers b x (nodes_of u) (roots_of u) r holds roots place inside size keeps ∙ ap answer_of (sym d);
-            left = left b x (nodes_of u) (roots_of u) r holds roots place inside size keeps ∙ moved;
-          }
+    pub out-accepted : n ≡ 0 → GridOut density b t u (Read x)
+    out-accepted z =
+        let (r, tree_is, holds, roots, place, inside, size) = given in
+        let p = places_of (lengths t) in
+        let keeps = (tree_holds b p r tree_is).keeps in
+        let whole = parts b x (nodes_of u) (roots_of u) r holds roots place inside size keeps in
+        let e : n ≡ grid_fault density (accepted_of b r) = fault ∙ ap (grid_fault density) whole in
+        let f = of_accepted b p got.begun.passed r tree_is density (sym e ∙ z) in
+        let d : decode_into (decode_of density) b (lengths t) ≡ ok (accepted_of b r) = into density b t got.begun.paired f in
+        let moved = ap (λ (k : Lent). left_of k (ok (accepted_of b r))) (same got.kept) ∙ ap (left_of (lengths t)) (sym d) in
+        let small = short b got.begun.passed in
+        record {
+          place = omega arith;
+          says = answers b x (nodes_of u) (roots_of u) r holds roots place inside size keeps ∙ ap answer_of (sym d);
+          left = left b x (nodes_of u) (roots_of u) r holds roots place inside size keeps ∙ moved;
+        }

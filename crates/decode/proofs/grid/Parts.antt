@@ -22,7 +22,7 @@ use Rattle.decode.specs.Inner.Stored.{zero_behind}
 use Rattle.decode.specs.Inner.Rooted.{RootTabs, RootsHeld}
 use Rattle.decode.specs.Inner.GridRead.{used_in, Used, all_tables, tidied, answer_in}
 use Rattle.decode.specs.declared.tree.Tree as Tree
-use Rattle.decode.specs.declared.tree.TreeRead.TheVariants.{Read}
+use Rattle.decode.specs.declared.grid.TreeRead.TheVariants.{Read}
 use Rattle.decode.proofs.tiles.Roots.{blocks_length}
 use Rattle.decode.proofs.grid.Ways.{accepted_of}
 

@@ -11,7 +11,7 @@ use Rattle.decode.specs.Inner.Filled.{Tabs, tabs}
 use Rattle.decode.specs.Inner.Rooted.{RootTabs, root_tabs}
 use Rattle.decode.specs.Inner.TreeRead.{Zeroed}
 use Rattle.decode.specs.Inner.GridRead.{decode_of, leafless, answer_in, left_in, GridOut}
-use Rattle.decode.specs.declared.tree.TreeRead.{TreeRead}
+use Rattle.decode.specs.declared.grid.TreeRead.{TreeRead}
 
 -- a table of n zeros is as many zeros as it is long
 own : {A : Type 0} (t : List A) (n : ℕ) (z : A) → t ≡ replicate n z → t ≡ replicate (length t) z

@@ -12,18 +12,21 @@ use Rattle.nanovdb.specs.Spans.{Span, nowhere, seen}
 use Rattle.nanovdb.specs.Nodes.{Places, State, claim, with_span, size_of, entries_of, mask_of, table_of, nodes_at, places_at, leaf_placed, placed, slots_read, node}
 use Rattle.nanovdb.proofs.HeldNodes.{span_of, opening}
 use Rattle.decode.specs.Inner.WorkTable.{size, node_span, Pushed, EnterOut, ClaimOut}
-use Rattle.decode.specs.Inner.Filled.{of_target, slot_target, count_in, places_of, room_in, grown_by, Tabs, Kept, Fit, Holds, Lends, Reads, NodeOut}
+use Rattle.decode.specs.Inner.Filled.{slot_target, count_in, places_of, room_in, grown_by, Tabs, Kept, Fit, Holds, Lends, Reads, NodeOut, OpenOut}
 use Rattle.decode.specs.Inner.Filled.{filling, numbered, with_work, NewNode}
 use Rattle.decode.specs.Inner.Stored.{at_upper, at_lower, leaf_value, slot_value, Stored, TilesStored, NextChild}
 use Rattle.decode.specs.declared.spans.Spans.{Spans}
 use Rattle.decode.specs.declared.spans.Entered.{Entered}
-use Rattle.decode.specs.declared.spans.Entered.TheVariants.{Again, Fresh, Stop}
-use Rattle.decode.specs.declared.spans.Claimed.TheVariants.{Done}
+use Rattle.decode.specs.declared.spans.Entered.TheVariants.{Again, Fresh}
 use Rattle.decode.specs.declared.nodes.State as Progress
 use Rattle.decode.specs.declared.nodes.Opening.{Opening}
-use Rattle.decode.specs.declared.nodes.Target as Target
+use Rattle.decode.specs.declared.nodes.Opened.{Opened}
 use Rattle.decode.specs.declared.nodes.Placed.{Placed}
-use Rattle.decode.specs.declared.nodes.Placed.TheVariants.{Node, Refused}
+use Rattle.std.specs.Prelude.{Ok, Err, Result as Answer}
+use Rattle.refusals.specs.Numbers as Numbers
+use Rattle.refusals.specs.Numbers.{said_by}
+use Rattle.refusals.specs.declared.Refusal.TheVariants.{NoPlace}
+use Rattle.refusals.specs.declared.Refusal.{Refusal}
 use Rattle.decode.proofs.nodes.Steps.{node_again, node_stops, node_full, node_filled, filled_leaf, filled_broke, filled_ends}
 use Rattle.decode.proofs.nodes.Fits.{room_of, room_of_lem, room_kept, entries_most, leaf_room, fresh_inside, fit_fresh, fit_kept}
 use Rattle.decode.proofs.nodes.Levels.{less_one}
@@ -31,15 +34,10 @@ use Rattle.decode.proofs.nodes.Tables.{with_links, with_values, with_leaves, hol
 use Rattle.decode.proofs.nodes.Turns.{Slot, Stops, stops_off, stops_child, passes_child, kept_on, lends_kept}
 use Rattle.decode.proofs.nodes.Turns.{Begins, Turn, turn_more, turn_stops, turn_tiles}
 
--- what is said of an answer
-node_is : {level : ℕ} {b : List ℕ} {source : ℕ} {t u : Tabs} {st : Progress.State} {r x : Placed} → NodeOut level b source t st u r → r ≡ x
-    → NodeOut level b source t st u x
-node_is {level} {b} {source} {t} {u} {st} out e = subst (NodeOut level b source t st u) e out
-
 -- a number that comes back is small enough for a link
-pub node-number : {level : ℕ} {b : List ℕ} {source : ℕ} {t u : Tabs} {st s : Progress.State} {r : Placed} {n : ℕ} → NodeOut level b source t st u r
-    → r ≡ Node n s → n < 4294967295
-node-number out e = (node_is out e).fit.1
+pub node-number : {level : ℕ} {b : List ℕ} {source : ℕ} {t u : Tabs} {st : Progress.State} {n : Placed} → NodeOut level b source t st u (Ok n)
+    → n.number < 4294967295
+node-number out = out.fit.1
 
 -- the number of the next node, in the code and in the definition
 counts : (level : ℕ) {t : Tabs} {st : Progress.State} {d : State} {lower upper : List Entry} → Holds t st d lower upper
@@ -56,96 +54,91 @@ rooms (suc (suc n)) l = sym l.upper
 
 -- ---- the answers of `open`
 
--- k is the number of the next node, and `enter` has answered r and left the words v
-pub record Entering (b : List ℕ) (source level : ℕ) (st : Progress.State) (k : ℕ) (w v : List ℕ) (r : Entered) : Type 0 where
-  pub number : k ≡ count_in st level
-  pub small : k < 4294967295
-  pub says : EnterOut (length b) w v st.spans r source level k
+-- a new node lies in the bytes
+pub fresh-whole : {len source level k : ℕ} (st : Progress.State) {w v : List ℕ} {next : Spans} → EnterOut len w v st.spans (Ok (Fresh next)) source level k
+    → source + size_of level ≤ len
+unfolding size
+fresh-whole {len} {source} {level} {k} st {w} {v} {next} (new, granted) = fresh_inside len w v st.spans next source level k granted
 
-module _ {b : List ℕ} {source level : ℕ} {st : Progress.State} {k : ℕ} {w v : List ℕ} {r : Entered} (e : Entering b source level st k w v r) where
-  entered : {x : Entered} → r ≡ x → EnterOut (length b) w v st.spans x source level k
-  entered is = subst (λ (y : Entered). EnterOut (length b) w v st.spans y source level k) is e.says
+-- what `enter` says of its answer, once that is known
+pub entered : (len : ℕ) (w v : List ℕ) (s : Spans) (source level k : ℕ) {x y : Entered} → x ≡ y → EnterOut len w v s (Ok x) source level k
+    → EnterOut len w v s (Ok y) source level k
+entered len w v s source level k is = subst (λ (e : Entered). EnterOut len w v s (Ok e) source level k) is
 
-  -- a claim that is granted
-  module _ {next : Spans} (is : r ≡ Fresh next) where
-    granted : ClaimOut (length b) w v st.spans (Done next) source level k
-    granted = (entered is).1
+-- and the same of `open`
+pub opened : (level : ℕ) (b : List ℕ) (source : ℕ) (t : Tabs) (st : Progress.State) (u : Tabs) {x y : Opened} → x ≡ y
+    → OpenOut level b source t st u (Ok x) → OpenOut level b source t st u (Ok y)
+opened level b source t st u is = subst (λ (o : Opened). OpenOut level b source t st u (Ok o)) is
 
-    pub fresh-whole : source + size_of level ≤ length b
-    unfolding size
-    fresh-whole = fresh_inside (length b) w v st.spans next source level k granted
+-- the span that the words hold is the definition's
+span-is : (source level k : ℕ) {t : Tabs} {st : Progress.State} {d : State} {lower upper : List Entry} → k ≡ count_in st level → Holds t st d lower upper
+    → node_span source level k ≡ span_of level source d
+unfolding size
+span-is source level k counted h = ap (node_span source level) (counted ∙ counts level h)
 
-  -- beside any other tables
-  module _ (t : Tabs) (fit : Fit (length b) (with_work t w) st) where
-    -- the span that the words hold is the definition's
-    span-is : {d : State} {lower upper : List Entry} → Holds (with_work t w) st d lower upper → node_span source level k ≡ span_of level source d
-    unfolding size
-    span-is h = ap (node_span source level) (e.number ∙ counts level h)
+-- k is the number of the next node, and `enter` has left the words v
+module _ {b : List ℕ} {source level k : ℕ} {st : Progress.State} {w v : List ℕ} (counted : k ≡ count_in st level) (t : Tabs)
+    (fit : Fit (length b) (with_work t w) st) where
+  pub out-again : {n : ℕ} → EnterOut (length b) w v st.spans (Ok (Again n)) source level k → NodeOut level b source (with_work t w) st (with_work t v) (Ok (record { number = n; state = st }))
+  out-again {n} (same, (found, small)) = record {
+    fit = (subst (λ (x : List ℕ). Fit (length b) (with_work t x) st) (sym same) fit, small);
+    says = λ p d lower upper R. (
+      d,
+      node_again level source b p d n (ap (λ (s : List Span). seen s source level) R.holds.spans_are ∙ found),
+      subst (λ (x : List ℕ). Holds (with_work t x) st d lower upper) (sym same) R.holds,
+    );
+  }
 
-    pub out-again : {n : ℕ} → r ≡ Again n → NodeOut level b source (with_work t w) st (with_work t v) (Node n st)
-    out-again {n} is =
-        let (same, (found, small)) = entered is in
+  pub out-stop : {e : Refusal} → EnterOut (length b) w v st.spans (Err e) source level k → NodeOut level b source (with_work t w) st (with_work t v) (Err e)
+  out-stop {e} (new, (same, claimed)) = record {
+    fit = tt;
+    says = λ p d lower upper R.
+        node_stops level source b p d (ap (λ (s : List Span). seen s source level) R.holds.spans_are ∙ new) (Numbers.number e)
+        (ap (claim b p d) (sym (span-is source level k counted R.holds)) ∙ claimed b p d refl R.lends.spans R.holds.spans_are);
+  }
+
+  module _ {next : Spans} (fresh : EnterOut (length b) w v st.spans (Ok (Fresh next)) source level k) where
+    new : (p : Places) (d : State) {lower upper : List Entry} → Reads level b (with_work t w) st p d lower upper → seen d.spans source level ≡ nowhere
+    new p d R = ap (λ (s : List Span). seen s source level) R.holds.spans_are ∙ fresh.0
+
+    claimed : (p : Places) (d : State) {lower upper : List Entry} → Reads level b (with_work t w) st p d lower upper
+        → claim b p d (span_of level source d) ≡ ok (with_span d (span_of level source d))
+    claimed p d R =
+        subst (λ (s : Span). claim b p d s ≡ ok (with_span d s)) (span-is source level k counted R.holds) (fresh.1.1 b p d refl R.lends.spans R.holds.spans_are)
+
+    pub out-full : places_of level t ≤ k → NodeOut level b source (with_work t w) st (with_work t v) (Err NoPlace)
+    out-full h = record {
+      fit = tt;
+      says = λ p d lower upper R.
+          node_full level source b p d (new p d R) (claimed p d R)
+          (omega (arith, counted, counts level R.holds, rooms level R.lends));
+    }
+
+    pub out-new : {mask entries : ℕ} {now : Progress.State} → k < 4294967295 → k < places_of level t → mask ≡ source + mask_of level → entries ≡ entries_of level
+        → now ≡ grown_by level st next
+        → NewNode level b source (with_work t w) st (with_work t v) (record { number = k; mask = mask; entries = entries; base = k * entries; now = now })
+    out-new {now = now} small room mask all grown =
+        let words = fresh.1.0.size_kept in
         record {
-          fit = (subst (λ (x : List ℕ). Fit (length b) (with_work t x) st) (sym same) fit, small);
-          says = λ p d lower upper R. (
-            d,
-            node_again level source b p d n (ap (λ (s : List Span). seen s source level) R.holds.spans_are ∙ found),
-            subst (λ (x : List ℕ). Holds (with_work t x) st d lower upper) (sym same) R.holds,
-          );
-        }
-
-    pub out-stop : {n : ℕ} → r ≡ Stop n → NodeOut level b source (with_work t w) st (with_work t v) (Refused n)
-    out-stop {n} is =
-        let (new, (same, claimed)) = entered is in
-        record {
-          fit = tt;
+          whole = fresh-whole st fresh;
+          small = small;
+          room = room;
+          mask = mask;
+          entries = all;
+          base = ap (λ (n : ℕ). k * n) all;
+          kept = record { work = words; upper_links = refl; upper_values = refl; lower_links = refl; lower_values = refl; leaf_values = refl };
+          fit = subst (Fit (length b) (with_work t v)) (sym grown) (fit_fresh fit source level k fresh.1);
           says = λ p d lower upper R.
-              node_stops level source b p d (ap (λ (s : List Span). seen s source level) R.holds.spans_are ∙ new) n
-              (ap (claim b p d) (sym (span-is R.holds)) ∙ claimed b p d refl R.lends.spans R.holds.spans_are);
+              let number : nodes_at d level ≡ k = sym (counted ∙ counts level R.holds) in
+              let pushed = subst (Pushed w v st.spans next source level) counted fresh.1.0 in
+              record {
+                number = number;
+                filled = subst (λ (n : ℕ). node level b p source d ≡ bind (filling level b p source (opening level source d)) (numbered n)) number
+                    (node_filled level source b p d (new p d R) (claimed p d R) (omega (arith, number, rooms level R.lends)));
+                holds = subst (λ (s : Progress.State). Holds (with_work t v) s (opening level source d) lower upper) (sym grown)
+                    (holds_opened level source R.holds pushed);
+              };
         }
-
-    module _ {next : Spans} (is : r ≡ Fresh next) where
-      new : {d : State} {lower upper : List Entry} → Holds (with_work t w) st d lower upper → seen d.spans source level ≡ nowhere
-      new h = ap (λ (s : List Span). seen s source level) h.spans_are ∙ (entered is).0
-
-      claimed : (p : Places) (d : State) {lower upper : List Entry} → Reads level b (with_work t w) st p d lower upper
-          → claim b p d (span_of level source d) ≡ ok (with_span d (span_of level source d))
-      claimed p d R =
-          subst (λ (s : Span). claim b p d s ≡ ok (with_span d s)) (span-is R.holds) ((granted is).1 b p d refl R.lends.spans R.holds.spans_are)
-
-      pub out-full : places_of level t ≤ k → NodeOut level b source (with_work t w) st (with_work t v) (Refused 9)
-      out-full h = record {
-        fit = tt;
-        says = λ p d lower upper R.
-            node_full level source b p d (new R.holds) (claimed p d R)
-            (omega (arith, e.number, counts level R.holds, rooms level R.lends));
-      }
-
-      pub out-new : {mask entries : ℕ} {now : Progress.State} → k < places_of level t → mask ≡ source + mask_of level → entries ≡ entries_of level
-          → now ≡ grown_by level st next
-          → NewNode level b source (with_work t w) st (with_work t v) (record { number = k; mask = mask; entries = entries; base = k * entries; now = now })
-      out-new {now = now} room mask all grown =
-          let words = (granted is).0.size_kept in
-          record {
-            whole = fresh-whole is;
-            small = e.small;
-            room = room;
-            mask = mask;
-            entries = all;
-            base = ap (λ (n : ℕ). k * n) all;
-            kept = record { work = words; upper_links = refl; upper_values = refl; lower_links = refl; lower_values = refl; leaf_values = refl };
-            fit = subst (Fit (length b) (with_work t v)) (sym grown) (fit_fresh fit source level k (granted is));
-            says = λ p d lower upper R.
-                let number : nodes_at d level ≡ k = sym (e.number ∙ counts level R.holds) in
-                let pushed = subst (Pushed w v st.spans next source level) e.number (granted is).0 in
-                record {
-                  number = number;
-                  filled = subst (λ (n : ℕ). node level b p source d ≡ bind (filling level b p source (opening level source d)) (numbered n)) number
-                      (node_filled level source b p d (new R.holds) (claimed p d R) (omega (arith, number, rooms level R.lends)));
-                  holds = subst (λ (s : Progress.State). Holds (with_work t v) s (opening level source d) lower upper) (sym grown)
-                      (holds_opened level source R.holds pushed);
-                };
-          }
 
 -- ---- the answers of `node` where it is new
 
@@ -162,7 +155,7 @@ module _ {level : ℕ} {b : List ℕ} {source : ℕ} {t : Tabs} {st : Progress.S
   leaf-place z = omega (arith, leaf_room level t z new.room new.base, new.kept.leaf_values)
 
   pub out-leaf : {lf : List Float} → level ≡ 0 → Stored (leaf_value b source) o.base 0 u.leaf_values 512 lf
-      → NodeOut level b source t st (with_leaves u lf) (Node o.number o.now)
+      → NodeOut level b source t st (with_leaves u lf) (Ok (record { number = o.number; state = o.now }))
   out-leaf {lf} z f = record {
     fit = (fit_kept new.fit (with_leaves u lf) refl refl refl refl, new.small);
     says = λ p d lower upper R.
@@ -184,9 +177,11 @@ pub record Internal (level : ℕ) (b : List ℕ) (source : ℕ) (t : Tabs) (st :
   pub above : 0 < level
   pub three : level < 3
 
--- its first i slots have been read into the tables v
-abbrev pub Turned : ℕ → List ℕ → ℕ → Tabs → Progress.State → Tabs → Opening → Tabs → Progress.State → ℕ → Type 0
-Turned level b source t st u o v s i = Turn level b source o u v s i
+-- and its first i slots have been read into the tables v
+pub record Turned (level : ℕ) (b : List ℕ) (source : ℕ) (t : Tabs) (st : Progress.State) (u : Tabs) (o : Opening) (v : Tabs) (s : Progress.State)
+    (i : ℕ) : Type 0 where
+  pub node : Internal level b source t st u o
+  pub turn : Turn level b source o u v s i
 
 module _ {level : ℕ} {b : List ℕ} {source : ℕ} {t : Tabs} {st : Progress.State} {u : Tabs} {o : Opening} (n : Internal level b source t st u o)
     {v : Tabs} {s : Progress.State} {i : ℕ} (turn : Turn level b source o u v s i) where
@@ -218,16 +213,16 @@ module _ {level : ℕ} {b : List ℕ} {source : ℕ} {t : Tabs} {st : Progress.S
         (ready, here ∙ ap (λ (n : ℕ). n + j) (from n.new p d R));
   }
 
-  out-broke : {x : Tabs} {e : ℕ} → i < o.entries → Stops level b source o.base i v s e → NodeOut level b source t st x (Refused e)
+  out-broke : {x : Tabs} {e : Refusal} → i < o.entries → Stops level b source o.base i v s (Numbers.number e) → NodeOut level b source t st x (Err e)
   out-broke {e = e} h stop = record {
     fit = tt;
     says = λ p d lower upper R.
         let (then, read, stopped) = turn_stops turn stop p (opening level source d) upper (begins p d R) in
         (n.new.says p d lower upper R).filled ∙ ap (λ (r : Result State). bind r (numbered o.number))
-        (filled_broke level source b p (opening level source d) n.above i e then read stopped (subst (λ (m : ℕ). i < m) n.new.entries h));
+        (filled_broke level source b p (opening level source d) n.above i (Numbers.number e) then read stopped (subst (λ (m : ℕ). i < m) n.new.entries h));
   }
 
-  pub out-ends : i ≡ o.entries → NodeOut level b source t st v (Node o.number s)
+  pub out-ends : i ≡ o.entries → NodeOut level b source t st v (Ok (record { number = o.number; state = s }))
   out-ends last = record {
     fit = (turn.fit, n.new.small);
     says = λ p d lower upper R.
@@ -240,43 +235,50 @@ module _ {level : ℕ} {b : List ℕ} {source : ℕ} {t : Tabs} {st : Progress.S
         );
   }
 
--- slot j is the next, a child stands there, and its target is known
+-- slot j is the next, a child stands there, and its place is asked for
 pub record Aimed (level : ℕ) (b : List ℕ) (source : ℕ) (t : Tabs) (st : Progress.State) (u : Tabs) (o : Opening) (v : Tabs) (s : Progress.State) (j : ℕ)
-    (target : Target.Target) : Type 0 where
+    (place : Answer ℕ Refusal) : Type 0 where
   pub node : Internal level b source t st u o
   pub turn : Turn level b source o u v s j
   pub here : j < o.entries
   pub set : mask_bit b o.mask j ≡ 1
-  pub aims : of_target target ≡ slot_target source (u64_at b (source + table_of level + 8 * j))
+  pub aims : said_by place ≡ slot_target source (u64_at b (source + table_of level + 8 * j))
 
-module _ {level : ℕ} {b : List ℕ} {source : ℕ} {t : Tabs} {st : Progress.State} {u : Tabs} {o : Opening} {v : Tabs} {s : Progress.State} {j : ℕ}
-    {target : Target.Target} (a : Aimed level b source t st u o v s j target) where
-  slot : Slot b source level o.base j v s
-  slot = record {
-    above = a.node.above;
-    three = a.node.three;
-    fit = a.turn.fit;
-    room = omega (arith, place a.node a.turn, a.here, a.node.new.entries);
-  }
+-- the values up to slot j have been read, and what stands there is a child whose place is answered
+pub aimed : {level : ℕ} {b : List ℕ} {source : ℕ} {t : Tabs} {st : Progress.State} {u : Tabs} {o : Opening} {v : Tabs} {s : Progress.State} {i j : ℕ}
+    {uv lv : List Float} {place : Answer ℕ Refusal} → Turned level b source t st u o v s i → NextChild b o.mask i o.entries j
+    → TilesStored level (slot_value b source level) o.base i v.upper_values v.lower_values j uv lv → (j ≡ o.entries → ⊥)
+    → said_by place ≡ slot_target source (u64_at b (source + table_of level + 8 * j))
+    → Aimed level b source t st u o (with_values v uv lv) s j place
+aimed {o = o} {j = j} r next stored more aims =
+    let here : j < o.entries = omega (arith, next.to, more) in
+    record { node = r.node; turn = run-to r.node r.turn next stored; here = here; set = next.found here; aims = aims }
 
-  set : mask_bit b (source + mask_of level) j ≡ 1
-  set = subst (λ (m : ℕ). mask_bit b m j ≡ 1) a.node.new.mask a.set
+module _ {level : ℕ} {b : List ℕ} {source : ℕ} {t : Tabs} {st : Progress.State} {u : Tabs} {o : Opening} {v : Tabs} {s : Progress.State} {j : ℕ} where
+  module _ {r : Answer ℕ Refusal} (a : Aimed level b source t st u o v s j r) where
+    slot : Slot b source level o.base j v s
+    slot = record {
+      above = a.node.above;
+      three = a.node.three;
+      fit = a.turn.fit;
+      room = omega (arith, place a.node a.turn, a.here, a.node.new.entries);
+    }
 
-  pub out-off : {e : ℕ} {x : Tabs} → target ≡ Target.TheVariants.Refused e → NodeOut level b source t st x (Refused e)
-  out-off q = out-broke a.node a.turn a.here (stops_off slot set (sym (ap of_target q) ∙ a.aims))
+    set : mask_bit b (source + mask_of level) j ≡ 1
+    set = subst (λ (m : ℕ). mask_bit b m j ≡ 1) a.node.new.mask a.set
 
-  pub link-room : {x : Tabs} → Kept v x → o.base + j < room_of level x
-  link-room kept = room_kept level kept.upper_links kept.lower_links slot.room
+    pub link-room : {x : Tabs} → Kept v x → o.base + j < room_of level x
+    link-room kept = room_kept level kept.upper_links kept.lower_links slot.room
+
+  pub out-off : {e : Refusal} {x : Tabs} → Aimed level b source t st u o v s j (Err e) → NodeOut level b source t st x (Err e)
+  out-off a = out-broke a.node a.turn a.here (stops_off (slot a) (set a) a.aims)
 
   -- the child at `to` has been read into the tables x
-  module _ {to : ℕ} {x : Tabs} {r : Placed} (q : target ≡ Target.TheVariants.At to) (out : NodeOut (level - 1) b to v s x r) where
-    aims-at : ok to ≡ slot_target source (u64_at b (source + table_of level + 8 * j))
-    aims-at = sym (ap of_target q) ∙ a.aims
+  module _ {to : ℕ} (a : Aimed level b source t st u o v s j (Ok to)) {x : Tabs} where
+    pub out-refused : {e : Refusal} {y : Tabs} → NodeOut (level - 1) b to v s x (Err e) → NodeOut level b source t st y (Err e)
+    out-refused out = out-broke a.node a.turn a.here (stops_child (slot a) (set a) a.aims out)
 
-    pub out-refused : {e : ℕ} {y : Tabs} → r ≡ Refused e → NodeOut level b source t st y (Refused e)
-    out-refused z = out-broke a.node a.turn a.here (stops_child slot set aims-at (node_is out z))
-
-    pub turn-child : {n : ℕ} {y : Progress.State} {ul ll : List ℕ} → r ≡ Node n y → Kept v x
-        → (ul ≡ at_upper level x.upper_links (o.base + j) (n + 1)) × (ll ≡ at_lower level x.lower_links (o.base + j) (n + 1))
-        → Turn level b source o u (with_links x ul ll) y (j + 1)
-    turn-child z kept stored = turn_more a.turn a.here (passes_child slot set aims-at (node_is out z) kept stored)
+    pub turn-child : {c : Placed} {ul ll : List ℕ} → NodeOut (level - 1) b to v s x (Ok c) → Kept v x
+        → (ul ≡ at_upper level x.upper_links (o.base + j) (c.number + 1)) × (ll ≡ at_lower level x.lower_links (o.base + j) (c.number + 1))
+        → Turn level b source o u (with_links x ul ll) c.state (j + 1)
+    turn-child out kept stored = turn_more a.turn a.here (passes_child (slot a) (set a) a.aims out kept stored)

@@ -14,7 +14,7 @@ use Rattle.decode.specs.Inner.WorkTable.{Rep, nodes, spans, size, header_span, r
 use Rattle.decode.specs.Inner.Packed.{Packed, packed_more, packed_few, no_either}
 use Rattle.decode.specs.Inner.Filled.{Tabs, with_work, Few, Fit, count_in, grown_by, places_of, room_in}
 use Rattle.decode.specs.declared.spans.Spans.{Spans}
-use Rattle.decode.specs.declared.spans.Claimed.TheVariants.{Done}
+use Rattle.std.specs.Prelude.{Ok}
 use Rattle.decode.specs.declared.nodes.State as Progress
 use Rattle.decode.proofs.spans.Laws.{overlaps_spans}
 use Rattle.decode.proofs.spans.ClaimLaws.{length_nodes}
@@ -32,7 +32,7 @@ yes_not false t = refl
 -- ---- what a claim that was granted says
 
 module _ (len : ℕ) (w w' : List ℕ) (s next : Spans) (start level number : ℕ)
-    (o : ClaimOut len w w' s (Done next) start level number) where
+    (o : ClaimOut len w w' s (Ok next) start level number) where
   -- a claim of the definition that it answers
   bytes : List ℕ
   bytes = replicate len 0
@@ -102,7 +102,7 @@ module _ {len : ℕ} {t : Tabs} {st : Progress.State} (f : Fit len t st) where
     count_small = record { uppers = omega (arith, few); lowers = omega (arith, few); leaves = omega (arith, few) }
 
   -- one node more
-  pub fit_fresh : {w : List ℕ} {next : Spans} (start level number : ℕ) → ClaimOut len t.work w st.spans (Done next) start level number
+  pub fit_fresh : {w : List ℕ} {next : Spans} (start level number : ℕ) → ClaimOut len t.work w st.spans (Ok next) start level number
       → Fit len (with_work t w) (grown_by level st next)
   fit_fresh {w} {next} start level number o = go level (omega (arith, o.0.count, f.total))
     where

@@ -13,7 +13,10 @@ use Rattle.decode.specs.Inner.Filled.{slot_target, Tabs, Fit, Kept, Holds, Lends
 use Rattle.decode.specs.Inner.Stored.{at_upper, at_lower, slot_value, TilesStored, tiles_none, tiles_more}
 use Rattle.decode.specs.declared.nodes.State as Progress
 use Rattle.decode.specs.declared.nodes.Opening.{Opening}
-use Rattle.decode.specs.declared.nodes.Placed.TheVariants.{Node, Refused}
+use Rattle.decode.specs.declared.nodes.Placed as Placed
+use Rattle.std.specs.Prelude.{Ok, Err}
+use Rattle.refusals.specs.Numbers.{number}
+use Rattle.refusals.specs.declared.Refusal.{Refusal}
 use Rattle.decode.proofs.nodes.Steps.{slot_tile, slot_off, slot_refused, slot_child, slots_more}
 use Rattle.decode.proofs.nodes.Fits.{room_of, room_kept, fit_kept}
 use Rattle.decode.proofs.nodes.Levels.{less_one}
@@ -113,15 +116,17 @@ module _ {b : List ℕ} {source level base i : ℕ} {t : Tabs} {st : Progress.St
           shut (suc (suc zero)) p h es outer = refl
           shut (suc (suc (suc n))) p h es outer = absurd (omega arith)
 
-      pub stops_child : {u : Tabs} {e : ℕ} → NodeOut (level - 1) b to t st u (Refused e) → Stops level b source base i t st e
+      pub stops_child : {u : Tabs} {e : Refusal} → NodeOut (level - 1) b to t st u (Err e) → Stops level b source base i t st (number e)
       stops_child {e = e} out p now outer R =
-          slot_refused b (node (level - 1) b p) level source i now set to e q (out.says p now.state _ _ (handed p now outer R))
+          slot_refused b (node (level - 1) b p) level source i now set to (number e) q (out.says p now.state _ _ (handed p now outer R))
 
       -- u has kept its lengths, and the child's link has been stored in it
-      pub passes_child : {u : Tabs} {n : ℕ} {v : Progress.State} {ul ll : List ℕ} → NodeOut (level - 1) b to t st u (Node n v) → Kept t u
-          → (ul ≡ at_upper level u.upper_links (base + i) (n + 1)) × (ll ≡ at_lower level u.lower_links (base + i) (n + 1))
-          → Passes level b source base i t st (with_links u ul ll) v
-      passes_child {u} {n} {v} {ul} {ll} out kept (upper, lower) =
+      pub passes_child : {u : Tabs} {c : Placed.Placed} {ul ll : List ℕ} → NodeOut (level - 1) b to t st u (Ok c) → Kept t u
+          → (ul ≡ at_upper level u.upper_links (base + i) (c.number + 1)) × (ll ≡ at_lower level u.lower_links (base + i) (c.number + 1))
+          → Passes level b source base i t st (with_links u ul ll) c.state
+      passes_child {u} {c} {ul} {ll} out kept (upper, lower) =
+          let n = c.number in
+          let v = c.state in
           let ku : length ul ≡ length u.upper_links = ap length upper ∙ upper_kept level u.upper_links (base + i) (n + 1) in
           let kl : length ll ≡ length u.lower_links = ap length lower ∙ lower_kept level u.lower_links (base + i) (n + 1) in
           let fit = out.fit.0 in

@@ -11,9 +11,6 @@ use Rattle.nanovdb.specs.Nodes.{State, claim, with_span}
 use Rattle.nanovdb.specs.Spans.{Span, overlaps, Seen, at, nowhere}
 use Rattle.refusals.specs.Results.{Result, ok, refused}
 use Rattle.decode.specs.declared.spans.Spans.{Spans}
-use Rattle.decode.specs.declared.spans.Claimed.{Claimed}
-use Rattle.decode.specs.declared.spans.Found.{Found}
-use Rattle.decode.specs.declared.spans.Found.TheVariants.{At, Nothing}
 use Rattle.decode.specs.Inner.WorkTable.{Small, size, span_at, nodes, spans, node_span, Says, header_span, root_span, SaysRoot, Begun, Rep}
 use Rattle.decode.specs.Inner.WorkTable.{seen_of, ClaimOut}
 use Rattle.decode.proofs.spans.Laws.{and_no}
@@ -46,13 +43,6 @@ held n = spans n.words n.spans.count n.spans.root n.spans.limit
 -- what the definition's `claim` of it does
 abbrev pub Answers : Node → (State → Result State) → Type 0
 Answers n f = Says n.len n.words n.spans (node_span n.start n.level n.number) f
-
--- what the code's `claim` of it answered
-abbrev pub Outcome : Node → List ℕ → Claimed → Type 0
-Outcome n w r = ClaimOut n.len n.words w n.spans r n.start n.level n.number
-
-pub claim_is : (n : Node) (w : List ℕ) {r x : Claimed} → Outcome n w r → r ≡ x → Outcome n w x
-claim_is n w out is = subst (Outcome n w) is out
 
 module _ (n : Node) where
   pub says_5 : n.len < end n → Answers n (λ (u : State). refused 5)
@@ -119,14 +109,3 @@ pub begun : {w w' : List ℕ} {root limit : ℕ} → Rep w' 0 → length w' ≡ 
     → Begun w w' (record { count = 0; root = root; limit = limit }) root limit
 unfolding spans nodes
 begun rep len = record { rep = rep; size_kept = len; list = refl }
-
--- ---- what a match has told
-
-pub seen_again : {r : Found} {k : ℕ} {s : Seen} → seen_of r ≡ s → r ≡ At k → s ≡ at k
-seen_again e q = sym e ∙ ap seen_of q
-
-pub small_again : {r : Found} {k : ℕ} → Small r → r ≡ At k → k < 4294967295
-small_again h q = subst Small q h
-
-pub seen_fresh : {r : Found} {s : Seen} → seen_of r ≡ s → r ≡ Nothing → s ≡ nowhere
-seen_fresh e q = sym e ∙ ap seen_of q

@@ -16,13 +16,15 @@ use Rattle.nanovdb.specs.Nodes.{Places, State, Read, child_target, node}
 use Rattle.nanovdb.specs.Tree.{Roots, root_of, key_passes, tile_read, tiles_read}
 use Rattle.nanovdb.proofs.HeldTiles.{tiles_read_lem}
 use Rattle.nanovdb.proofs.Kept.{Kept, kept_on}
-use Rattle.decode.specs.Inner.Filled.{of_target, Tabs, Fit, Holds, Reads, NodeFit, NodeSays, NodeOut}
-use Rattle.decode.specs.Inner.Rooted.{RootTabs, RootsHeld, RootPut, TileSays, TileOut, TilesOut, StepFit}
+use Rattle.decode.specs.Inner.Filled.{Tabs, Fit, Holds, Reads, NodeOut}
+use Rattle.decode.specs.Inner.Rooted.{RootTabs, RootsHeld, RootPut, TileOut, TilesOut}
 use Rattle.decode.specs.Inner.GridRead.{all_tables}
 use Rattle.decode.specs.declared.nodes.State as Progress
-use Rattle.decode.specs.declared.nodes.Target as Target
 use Rattle.decode.specs.declared.nodes.Placed as Placed
-use Rattle.decode.specs.declared.tiles.Step as Step
+use Rattle.std.specs.Prelude.{Ok, Err, Result as Answer}
+use Rattle.refusals.specs.Numbers.{number, said_by}
+use Rattle.refusals.specs.declared.Refusal.{Refusal}
+use Rattle.refusals.specs.declared.Refusal.TheVariants.{KeyBit}
 
 -- ---- the ways of the definition's tile
 
@@ -55,15 +57,15 @@ pub record Keyed (b : List ℕ) (root i key : ℕ) : Type 0 where
   pub is : key ≡ u64_at b (root + 64 + 32 * i)
   pub passes : key_passes key ≡ true
 
--- a node stands below it: `relative` is the tile's word, and `target` what that leads to
-pub record Aimed (b : List ℕ) (root i key relative : ℕ) (target : Target.Target) : Type 0 where
+-- a node stands below it: `relative` is the tile's word, and `place` where that leads
+pub record Aimed (b : List ℕ) (root i key relative : ℕ) (place : Answer ℕ Refusal) : Type 0 where
   pub keyed : Keyed b root i key
   pub word : relative ≡ u64_at b (root + 64 + 32 * i + 8)
   pub some : relative ≡ 0 → ⊥
-  pub aims : of_target target ≡ child_target root (signed 64 relative)
+  pub aims : said_by place ≡ child_target root (signed 64 relative)
 
 pub tile_out_key : {b : List ℕ} {root i key : ℕ} {t u : Tabs} {q v : RootTabs} {st : Progress.State} → key ≡ u64_at b (root + 64 + 32 * i)
-    → key_passes key ≡ false → TileOut b root i t q st u v (Step.TheVariants.Stop 7)
+    → key_passes key ≡ false → TileOut b root i t q st u v (Err KeyBit)
 tile_out_key {b} {root} {i} is fails = record { fit = tt; says = λ p r R h s. tile_key b p root i r (ap key_passes (sym is) ∙ fails) }
 
 module _ {b : List ℕ} {root i key : ℕ} (k : Keyed b root i key) where
@@ -72,7 +74,7 @@ module _ {b : List ℕ} {root i key : ℕ} (k : Keyed b root i key) where
 
   pub tile_out_value : {relative : ℕ} {value : Float} {t : Tabs} {q v : RootTabs} {st : Progress.State} → Fit (length b) t st
       → relative ≡ u64_at b (root + 64 + 32 * i + 8) → relative ≡ 0 → value ≡ f32_at b (root + 64 + 32 * i + 20) → RootPut i key 0 value q v
-      → TileOut b root i t q st t v (Step.TheVariants.Next st)
+      → TileOut b root i t q st t v (Ok st)
   tile_out_value {value = value} f word none is put = record {
     fit = f;
     says = λ p r R h s. (
@@ -84,39 +86,37 @@ module _ {b : List ℕ} {root i key : ℕ} (k : Keyed b root i key) where
     );
   }
 
-module _ {b : List ℕ} {root i key relative : ℕ} {target : Target.Target} (a : Aimed b root i key relative target) where
-  is_some : u64_at b (root + 64 + 32 * i + 8) ≡ 0 → ⊥
-  is_some e = a.some (a.word ∙ e)
+module _ {b : List ℕ} {root i key relative : ℕ} where
+  module _ {place : Answer ℕ Refusal} (a : Aimed b root i key relative place) where
+    is_some : u64_at b (root + 64 + 32 * i + 8) ≡ 0 → ⊥
+    is_some e = a.some (a.word ∙ e)
 
-  aimed : of_target target ≡ child_target root (i64_at b (root + 64 + 32 * i + 8))
-  aimed = a.aims ∙ ap (λ (x : ℕ). child_target root (signed 64 x)) a.word
+    aimed : said_by place ≡ child_target root (i64_at b (root + 64 + 32 * i + 8))
+    aimed = a.aims ∙ ap (λ (x : ℕ). child_target root (signed 64 x)) a.word
 
-  pub tile_out_off : {e : ℕ} {t u : Tabs} {q v : RootTabs} {st : Progress.State} → target ≡ Target.TheVariants.Refused e
-      → TileOut b root i t q st u v (Step.TheVariants.Stop e)
-  tile_out_off {e} is = record {
+  pub tile_out_off : {e : Refusal} {t u : Tabs} {q v : RootTabs} {st : Progress.State} → Aimed b root i key relative (Err e)
+      → TileOut b root i t q st u v (Err e)
+  tile_out_off {e} a = record {
     fit = tt;
-    says = λ p r R h s. tile_off b p root i r (passed a.keyed) is_some e (sym (ap of_target is) ∙ aimed);
+    says = λ p r R h s. tile_off b p root i r (passed a.keyed) (is_some a) (number e) (aimed a);
   }
 
   -- the node at `to` has been read into the tables u
-  module _ {to : ℕ} {t u : Tabs} {st : Progress.State} {x : Placed.Placed} (is : target ≡ Target.TheVariants.At to) (out : NodeOut 2 b to t st u x) where
-    told : {y : Placed.Placed} → x ≡ y → NodeSays 2 b to t st u y
-    told z = subst (NodeSays 2 b to t st u) z out.says
-
-    pub tile_out_refused : {e : ℕ} {q v : RootTabs} → x ≡ Placed.TheVariants.Refused e → TileOut b root i t q st u v (Step.TheVariants.Stop e)
-    tile_out_refused {e} z = record {
+  module _ {to : ℕ} (a : Aimed b root i key relative (Ok to)) {t u : Tabs} {st : Progress.State} where
+    pub tile_out_refused : {e : Refusal} {q v : RootTabs} → NodeOut 2 b to t st u (Err e) → TileOut b root i t q st u v (Err e)
+    tile_out_refused {e} out = record {
       fit = tt;
-      says = λ p r R h s.
-          tile_refused b p root i r (passed a.keyed) is_some to e (sym (ap of_target is) ∙ aimed) (told z p r.state [] [] R);
+      says = λ p r R h s. tile_refused b p root i r (passed a.keyed) (is_some a) to (number e) (aimed a) (out.says p r.state [] [] R);
     }
 
-    pub tile_out_child : {n link : ℕ} {value : Float} {s : Progress.State} {q v : RootTabs} → x ≡ Placed.TheVariants.Node n s → link ≡ n + 1
-        → value ≡ +0 → RootPut i key link value q v → TileOut b root i t q st u v (Step.TheVariants.Next s)
-    tile_out_child {n} z one nil put = record {
-      fit = (subst (NodeFit (length b) u) z out.fit).0;
+    pub tile_out_child : {c : Placed.Placed} {link : ℕ} {value : Float} {q v : RootTabs} → NodeOut 2 b to t st u (Ok c) → link ≡ c.number + 1
+        → value ≡ +0 → RootPut i key link value q v → TileOut b root i t q st u v (Ok c.state)
+    tile_out_child {c} out one nil put = record {
+      fit = out.fit.0;
       says = λ p r R h size.
-          let (e, read, holds) = told z p r.state [] [] R in
-          let child = tile_child b p root i r (passed a.keyed) is_some to (record { number = n; state = e }) (sym (ap of_target is) ∙ aimed) read in (
+          let n = c.number in
+          let (e, read, holds) = out.says p r.state [] [] R in
+          let child = tile_child b p root i r (passed a.keyed) (is_some a) to (record { number = n; state = e }) (aimed a) read in (
             record { roots = r.roots ++ (root_of key (Child n) ∷ []); state = e },
             subst (λ (k : ℕ). tile_read b p root i r ≡ ok (record { roots = r.roots ++ (root_of k (Child n) ∷ []); state = e })) (sym a.keyed.is) child,
             holds,
@@ -183,32 +183,29 @@ module _ {b : List ℕ} {root count : ℕ} {t₀ t : Tabs} {q₀ q : RootTabs} {
       )
 
   -- tile i has been read into the tables u and v
-  module _ {u : Tabs} {v : RootTabs} {x : Step.Step} (out : TileOut b root i t q st u v x) where
-    told_tile : {y : Step.Step} → x ≡ y → TileSays b root i t q st u v y
-    told_tile is = subst (TileSays b root i t q st u v) is out.says
-
-    pub row_more : {s : Progress.State} → i < count → x ≡ Step.TheVariants.Next s → Kept (all_tables t q) (all_tables u v)
+  module _ {u : Tabs} {v : RootTabs} (more : i < count) where
+    pub row_more : {s : Progress.State} → TileOut b root i t q st u v (Ok s) → Kept (all_tables t q) (all_tables u v)
         → Row b root count t₀ q₀ st₀ u v s (i + 1)
-    row_more h is k = record {
+    row_more out k = record {
       turn = omega arith;
       kept = kept_on row.kept k;
-      fit = subst (StepFit (length b) u) is out.fit;
+      fit = out.fit;
       says = λ p d R g.
           let (n, read, reads, roots, size) = handed p d R g in
-          let (m, tile, holds, more) = told_tile is p n reads roots size in
-          (m, run_more (λ (k : ℕ). tiles_read b p root k d) (tile_read b p root) (next b p root d) i n m read tile, holds, more);
+          let (m, tile, holds, left) = out.says p n reads roots size in
+          (m, run_more (λ (k : ℕ). tiles_read b p root k d) (tile_read b p root) (next b p root d) i n m read tile, holds, left);
     }
 
-    pub tiles_stop : {e : ℕ} → i < count → x ≡ Step.TheVariants.Stop e → TilesOut b root count t₀ q₀ st₀ u v (Step.TheVariants.Stop e)
-    tiles_stop {e} h is = record {
+    pub tiles_stop : {e : Refusal} → TileOut b root i t q st u v (Err e) → TilesOut b root count t₀ q₀ st₀ u v (Err e)
+    tiles_stop {e} out = record {
       fit = tt;
       says = λ p d R g.
           let (n, read, reads, roots, size) = handed p d R g in
-          run_stop (λ (k : ℕ). tiles_read b p root k d) (tile_read b p root) (next b p root d) i count e n read
-          (told_tile is p n reads roots size) h;
+          run_stop (λ (k : ℕ). tiles_read b p root k d) (tile_read b p root) (next b p root d) i count (number e) n read
+          (out.says p n reads roots size) more;
     }
 
-  pub tiles_end : count ≤ i → TilesOut b root count t₀ q₀ st₀ t q (Step.TheVariants.Next st)
+  pub tiles_end : count ≤ i → TilesOut b root count t₀ q₀ st₀ t q (Ok st)
   tiles_end h = record {
     fit = row.fit;
     says = λ p d R g.

@@ -1,6 +1,8 @@
 -- The lent tables while nodes are read into them, beside the state of the definition: what the contracts of the node reader say.
-use Rattle.std.specs.Prelude.{ℕ, zero, suc, ◌+◌, ◌*◌, ◌/◌, ◌≤◌, ◌<◌, ◌≡◌, List, [], ◌++◌, map, length, eqb, not, Float}
+use Rattle.std.specs.Prelude.{ℕ, zero, suc, ◌+◌, ◌*◌, ◌/◌, ◌≤◌, ◌<◌, ◌≡◌, List, [], ◌++◌, map, length, eqb, not, Ok, Err, Result as Answer, Float}
 use Rattle.refusals.specs.Results.{Result, ok, refused, bind, need}
+use Rattle.refusals.specs.Numbers as Numbers
+use Rattle.refusals.specs.declared.Refusal.{Refusal}
 use Rattle.float.specs.Zero.{+0}
 use Rattle.lent.specs.Padded.{padded}
 use Rattle.layout.specs.Bytes.{signed}
@@ -12,16 +14,11 @@ use Rattle.decode.specs.Inner.WorkTable.{Rep, nodes, spans}
 use Rattle.decode.specs.Inner.Packed.{Packed}
 use Rattle.decode.specs.declared.spans.Spans.{Spans}
 use Rattle.decode.specs.declared.nodes.State as Progress
-use Rattle.decode.specs.declared.nodes.Target as Target
 use Rattle.decode.specs.declared.nodes.Placed as Placed
 use Rattle.decode.specs.declared.nodes.Opening.{Opening}
 use Rattle.decode.specs.declared.nodes.Opened as Opened
 
 -- ---- numbers and stores that go by the level
-
-abbrev pub of_target : Target.Target → Result ℕ
-of_target (Target.TheVariants.At n) = ok n
-of_target (Target.TheVariants.Refused n) = refused n
 
 -- the place of a child whose slot has these bits, where 0 is no place
 abbrev pub slot_target : ℕ → ℕ → Result ℕ
@@ -134,17 +131,17 @@ pub record Reads (level : ℕ) (b : List ℕ) (t : Tabs) (s : Progress.State) (p
   pub shut : Shut level lower upper
 
 -- what `node` answers is what the definition's `node` does, and the tables then hold its state
-abbrev pub NodeSays : ℕ → List ℕ → ℕ → Tabs → Progress.State → Tabs → Placed.Placed → Type 0
-NodeSays level b source t s u (Placed.TheVariants.Node k v) = (p : Places) (d : State) (lower upper : List Entry) → Reads level b t s p d lower upper
-    → (e : State) × (node level b p source d ≡ ok (record { number = k; state = e })) × Holds u v e lower upper
-NodeSays level b source t s u (Placed.TheVariants.Refused n) = (p : Places) (d : State) (lower upper : List Entry) → Reads level b t s p d lower upper
-    → node level b p source d ≡ refused n
+abbrev pub NodeSays : ℕ → List ℕ → ℕ → Tabs → Progress.State → Tabs → Answer Placed.Placed Refusal → Type 0
+NodeSays level b source t s u (Ok n) = (p : Places) (d : State) (lower upper : List Entry) → Reads level b t s p d lower upper
+    → (e : State) × (node level b p source d ≡ ok (record { number = n.number; state = e })) × Holds u n.state e lower upper
+NodeSays level b source t s u (Err n) = (p : Places) (d : State) (lower upper : List Entry) → Reads level b t s p d lower upper
+    → node level b p source d ≡ refused (Numbers.number n)
 
-abbrev pub NodeFit : ℕ → Tabs → Placed.Placed → Type 0
-NodeFit len u (Placed.TheVariants.Node k v) = Fit len u v × (k < 4294967295)
-NodeFit len u (Placed.TheVariants.Refused n) = Unit {0}
+abbrev pub NodeFit : ℕ → Tabs → Answer Placed.Placed Refusal → Type 0
+NodeFit len u (Ok n) = Fit len u n.state × (n.number < 4294967295)
+NodeFit len u (Err n) = Unit {0}
 
-pub record NodeOut (level : ℕ) (b : List ℕ) (source : ℕ) (t : Tabs) (s : Progress.State) (u : Tabs) (r : Placed.Placed) : Type 0 where
+pub record NodeOut (level : ℕ) (b : List ℕ) (source : ℕ) (t : Tabs) (s : Progress.State) (u : Tabs) (r : Answer Placed.Placed Refusal) : Type 0 where
   pub fit : NodeFit (length b) u r
   pub says : NodeSays level b source t s u r
 
@@ -177,7 +174,7 @@ pub record NewNode (level : ℕ) (b : List ℕ) (source : ℕ) (t : Tabs) (s : P
   pub says : (p : Places) (d : State) (lower upper : List Entry) → Reads level b t s p d lower upper → NewSays level b source u o p d lower upper
 
 -- what `open` answers: a node that has been read, a refusal, or a new node
-abbrev pub OpenOut : ℕ → List ℕ → ℕ → Tabs → Progress.State → Tabs → Opened.Opened → Type 0
-OpenOut level b source t s u (Opened.TheVariants.Again n) = NodeOut level b source t s u (Placed.TheVariants.Node n s)
-OpenOut level b source t s u (Opened.TheVariants.Stop n) = NodeOut level b source t s u (Placed.TheVariants.Refused n)
-OpenOut level b source t s u (Opened.TheVariants.Fresh o) = NewNode level b source t s u o
+abbrev pub OpenOut : ℕ → List ℕ → ℕ → Tabs → Progress.State → Tabs → Answer Opened.Opened Refusal → Type 0
+OpenOut level b source t s u (Ok (Opened.TheVariants.Again n)) = NodeOut level b source t s u (Ok (record { number = n; state = s }))
+OpenOut level b source t s u (Err n) = NodeOut level b source t s u (Err n)
+OpenOut level b source t s u (Ok (Opened.TheVariants.Fresh o)) = NewNode level b source t s u o

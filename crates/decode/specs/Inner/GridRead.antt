@@ -12,7 +12,7 @@ use Rattle.decode.specs.Inner.Filled.{Tabs}
 use Rattle.decode.specs.Inner.Stored.{zero_behind}
 use Rattle.decode.specs.Inner.Rooted.{RootTabs}
 use Rattle.decode.specs.declared.tree.Tree as Tree
-use Rattle.decode.specs.declared.tree.TreeRead as Code
+use Rattle.decode.specs.declared.grid.TreeRead as Code
 
 -- ---- a scalar grid or a density grid
 

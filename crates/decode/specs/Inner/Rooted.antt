@@ -1,6 +1,8 @@
 -- The lent tables of the roots beside the definition's root records: what the contracts of the tile reader say.
-use Rattle.std.specs.Prelude.{ℕ, ◌≡◌, List, [], ◌∷◌, ◌++◌, map, ℤ, pos, length, Float}
+use Rattle.std.specs.Prelude.{ℕ, ◌≡◌, List, [], ◌∷◌, ◌++◌, map, ℤ, pos, length, Ok, Err, Result as Answer, Float}
 use Rattle.refusals.specs.Results.{ok, refused}
+use Rattle.refusals.specs.Numbers.{number}
+use Rattle.refusals.specs.declared.Refusal.{Refusal}
 use Rattle.float.specs.Zero.{+0}
 use Rattle.lent.specs.Padded.{padded}
 use Rattle.sparse_grid.specs.declared.Entry.{Entry}
@@ -9,7 +11,6 @@ use Rattle.nanovdb.specs.Tree.{Root, Roots, root_of, tile_read, tiles_read}
 use Rattle.nanovdb.specs.Decode.{link_of, value_of, blocks_of}
 use Rattle.decode.specs.Inner.Filled.{Tabs, Fit, Holds, Reads}
 use Rattle.decode.specs.declared.nodes.State as Progress
-use Rattle.decode.specs.declared.tiles.Step as Step
 
 pub record RootTabs : Type 0 where
   pub blocks : List ℤ
@@ -33,28 +34,28 @@ pub record RootPut (i key link : ℕ) (value : Float) (t u : RootTabs) : Type 0 
   pub put : (rs : List Root) (e : Entry) → RootsHeld t rs → length rs ≡ i → link_of e ≡ link → value_of e ≡ value → RootsHeld u (rs ++ (root_of key e ∷ []))
 
 -- what one tile answers is what the definition's `tile_read` does, and the tables then hold its roots and its state
-abbrev pub TileSays : List ℕ → ℕ → ℕ → Tabs → RootTabs → Progress.State → Tabs → RootTabs → Step.Step → Type 0
-TileSays b root i t q s u v (Step.TheVariants.Next w) = (p : Places) (r : Roots) → Reads 2 b t s p r.state [] [] → RootsHeld q r.roots
+abbrev pub TileSays : List ℕ → ℕ → ℕ → Tabs → RootTabs → Progress.State → Tabs → RootTabs → Answer Progress.State Refusal → Type 0
+TileSays b root i t q s u v (Ok w) = (p : Places) (r : Roots) → Reads 2 b t s p r.state [] [] → RootsHeld q r.roots
     → length r.roots ≡ i
     → (n : Roots) × (tile_read b p root i r ≡ ok n) × Holds u w n.state [] [] × RootsHeld v n.roots
-TileSays b root i t q s u v (Step.TheVariants.Stop n) = (p : Places) (r : Roots) → Reads 2 b t s p r.state [] [] → RootsHeld q r.roots
-    → length r.roots ≡ i → tile_read b p root i r ≡ refused n
+TileSays b root i t q s u v (Err n) = (p : Places) (r : Roots) → Reads 2 b t s p r.state [] [] → RootsHeld q r.roots
+    → length r.roots ≡ i → tile_read b p root i r ≡ refused (number n)
 
-abbrev pub StepFit : ℕ → Tabs → Step.Step → Type 0
-StepFit len u (Step.TheVariants.Next v) = Fit len u v
-StepFit len u (Step.TheVariants.Stop n) = Unit {0}
+abbrev pub StepFit : ℕ → Tabs → Answer Progress.State Refusal → Type 0
+StepFit len u (Ok v) = Fit len u v
+StepFit len u (Err n) = Unit {0}
 
-pub record TileOut (b : List ℕ) (root i : ℕ) (t : Tabs) (q : RootTabs) (s : Progress.State) (u : Tabs) (v : RootTabs) (r : Step.Step) : Type 0 where
+pub record TileOut (b : List ℕ) (root i : ℕ) (t : Tabs) (q : RootTabs) (s : Progress.State) (u : Tabs) (v : RootTabs) (r : Answer Progress.State Refusal) : Type 0 where
   pub fit : StepFit (length b) u r
   pub says : TileSays b root i t q s u v r
 
 -- the same of the first `count` tiles, from tables that hold no root
-abbrev pub TilesSay : List ℕ → ℕ → ℕ → Tabs → RootTabs → Progress.State → Tabs → RootTabs → Step.Step → Type 0
-TilesSay b root count t q s u v (Step.TheVariants.Next w) = (p : Places) (d : State) → Reads 2 b t s p d [] [] → RootsHeld q []
+abbrev pub TilesSay : List ℕ → ℕ → ℕ → Tabs → RootTabs → Progress.State → Tabs → RootTabs → Answer Progress.State Refusal → Type 0
+TilesSay b root count t q s u v (Ok w) = (p : Places) (d : State) → Reads 2 b t s p d [] [] → RootsHeld q []
     → (n : Roots) × (tiles_read b p root count d ≡ ok n) × Holds u w n.state [] [] × RootsHeld v n.roots
-TilesSay b root count t q s u v (Step.TheVariants.Stop n) = (p : Places) (d : State) → Reads 2 b t s p d [] [] → RootsHeld q []
-    → tiles_read b p root count d ≡ refused n
+TilesSay b root count t q s u v (Err n) = (p : Places) (d : State) → Reads 2 b t s p d [] [] → RootsHeld q []
+    → tiles_read b p root count d ≡ refused (number n)
 
-pub record TilesOut (b : List ℕ) (root count : ℕ) (t : Tabs) (q : RootTabs) (s : Progress.State) (u : Tabs) (v : RootTabs) (r : Step.Step) : Type 0 where
+pub record TilesOut (b : List ℕ) (root count : ℕ) (t : Tabs) (q : RootTabs) (s : Progress.State) (u : Tabs) (v : RootTabs) (r : Answer Progress.State Refusal) : Type 0 where
   pub fit : StepFit (length b) u r
   pub says : TilesSay b root count t q s u v r

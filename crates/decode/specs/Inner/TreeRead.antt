@@ -1,5 +1,5 @@
 -- What the contract of the tree reader says: from tables of zeros, the tree of the definition, held by the tables.
-use Rattle.std.specs.Prelude.{ℕ, ◌+◌, ◌≤◌, ◌≡◌, List, [], pos, length, replicate}
+use Rattle.std.specs.Prelude.{ℕ, ◌+◌, ◌≤◌, ◌≡◌, List, [], pos, length, replicate, Ok, Err, Result as Answer}
 use Rattle.refusals.specs.Results.{ok, refused}
 use Rattle.float.specs.Zero.{+0}
 use Rattle.nanovdb.specs.Nodes.{Places}
@@ -7,7 +7,9 @@ use Rattle.nanovdb.specs.Tree.{Roots, tree}
 use Rattle.nanovdb.specs.Decode.{root_place}
 use Rattle.decode.specs.Inner.Filled.{Tabs, Holds, Lends}
 use Rattle.decode.specs.Inner.Rooted.{RootTabs, RootsHeld}
-use Rattle.decode.specs.declared.tree.TreeRead as Code
+use Rattle.refusals.specs.Numbers.{number}
+use Rattle.refusals.specs.declared.Refusal.{Refusal}
+use Rattle.decode.specs.declared.tree.Tree as Code
 
 -- every table but those of the leaves and the words is of zeros
 pub record Zeroed (t : Tabs) (q : RootTabs) : Type 0 where
@@ -24,8 +26,8 @@ pub record LendsAll (t : Tabs) (q : RootTabs) (p : Places) : Type 0 where
   pub nodes : Lends t p
   pub roots : p.roots ≡ length q.links
 
-abbrev pub TreeOut : List ℕ → Tabs → RootTabs → Tabs → RootTabs → Code.TreeRead → Type 0
-TreeOut b t q u v (Code.TheVariants.Read x) = (p : Places) → LendsAll t q p → Zeroed t q
+abbrev pub TreeOut : List ℕ → Tabs → RootTabs → Tabs → RootTabs → Answer Code.Tree Refusal → Type 0
+TreeOut b t q u v (Ok x) = (p : Places) → LendsAll t q p → Zeroed t q
     → (r : Roots) × (tree b p ≡ ok r) × Holds u x.nodes r.state [] [] × RootsHeld v r.roots
     × (x.root ≡ root_place b) × (x.root + 28 ≤ length b) × (length r.roots ≡ x.roots)
-TreeOut b t q u v (Code.TheVariants.Refused n) = (p : Places) → LendsAll t q p → Zeroed t q → tree b p ≡ refused n
+TreeOut b t q u v (Err n) = (p : Places) → LendsAll t q p → Zeroed t q → tree b p ≡ refused (number n)

@@ -1,15 +1,13 @@
 -- The spans that four words each hold: node i has its start at 4 i, 4 * number + level at 4 i + 1, its link at 4 i + 2; chain h has its head at 4 h + 3.
-use Rattle.std.specs.Prelude.{ℕ, zero, suc, ◌+◌, ◌-◌, ◌*◌, ◌/◌, ◌%◌, ◌<◌, ◌≤◌, ◌≡◌, Bool, true, false, ◌&&◌, List, [], ◌∷◌, ◌++◌, length, get_or, set, ltb, eqb}
+use Rattle.std.specs.Prelude.{ℕ, zero, suc, ◌+◌, ◌-◌, ◌*◌, ◌/◌, ◌%◌, ◌<◌, ◌≤◌, ◌≡◌, Bool, true, false, ◌&&◌, List, [], ◌∷◌, ◌++◌, length, get_or, set, ltb, eqb, Ok, Err, Option, None, Some, Result as Answer}
 use Rattle.nanovdb.specs.Nodes.{size_of, State, Places, claim, with_span}
 use Rattle.nanovdb.specs.Spans.{Span, Seen, at, nowhere, overlaps, seen}
 use Rattle.refusals.specs.Results.{Result, ok, refused}
+use Rattle.refusals.specs.Numbers as Numbers
+use Rattle.refusals.specs.declared.Refusal.{Refusal}
 use Rattle.decode.specs.declared.spans.Spans.{Spans}
-use Rattle.decode.specs.declared.spans.Claimed.{Claimed}
-use Rattle.decode.specs.declared.spans.Claimed.TheVariants.{Done, Refused}
 use Rattle.decode.specs.declared.spans.Entered.{Entered}
-use Rattle.decode.specs.declared.spans.Entered.TheVariants.{Again, Fresh, Stop}
-use Rattle.decode.specs.declared.spans.Found.{Found}
-use Rattle.decode.specs.declared.spans.Found.TheVariants.{At, Nothing}
+use Rattle.decode.specs.declared.spans.Entered.TheVariants.{Again, Fresh}
 
 unfoldable pub node_start : List ℕ → ℕ → ℕ
 node_start w i = get_or w (i * 4) 0
@@ -92,14 +90,14 @@ pub record FoundIn (w : List ℕ) (count start level r : ℕ) : Type 0 where
   pub yes : 0 < r → hits w (r - 1) start level ≡ true
   pub no : r ≡ 0 → (i : ℕ) → i < count → hits w i start level ≡ false
 
-abbrev pub seen_of : Found → Seen
-seen_of (At n) = at n
-seen_of Nothing = nowhere
+abbrev pub seen_of : Option ℕ → Seen
+seen_of (Some n) = at n
+seen_of None = nowhere
 
 -- a number that was found is small enough for a link
-abbrev pub Small : Found → Type 0
-Small (At n) = n < 4294967295
-Small Nothing = Unit {0}
+abbrev pub Small : Option ℕ → Type 0
+Small (Some n) = n < 4294967295
+Small None = Unit {0}
 
 unfoldable pub put_s : List ℕ → ℕ → ℕ → ℕ → ℕ → List ℕ
 put_s w h k start word = set (set (set (set w (k * 4) start) (k * 4 + 1) word) (k * 4 + 2) (get_or w (h * 4 + 3) 0)) (h * 4 + 3) (k + 1)
@@ -120,10 +118,10 @@ abbrev pub Says : ℕ → List ℕ → Spans → Span → (State → Result Stat
 Says len w s n f = (b : List ℕ) (p : Places) (t : State) → length b ≡ len → p.spans ≡ length w / 4
     → t.spans ≡ spans w s.count s.root s.limit → claim b p t n ≡ f t
 
-abbrev pub ClaimOut : ℕ → List ℕ → List ℕ → Spans → Claimed → ℕ → ℕ → ℕ → Type 0
-ClaimOut len w w' s (Done t) start level number = Pushed w w' s t start level number
+abbrev pub ClaimOut : ℕ → List ℕ → List ℕ → Spans → Answer Spans Refusal → ℕ → ℕ → ℕ → Type 0
+ClaimOut len w w' s (Ok t) start level number = Pushed w w' s t start level number
     × Says len w s (node_span start level number) (λ (u : State). ok (with_span u (node_span start level number)))
-ClaimOut len w w' s (Refused e) start level number = (w' ≡ w) × Says len w s (node_span start level number) (λ (u : State). refused e)
+ClaimOut len w w' s (Err e) start level number = (w' ≡ w) × Says len w s (node_span start level number) (λ (u : State). refused (Numbers.number e))
 
 -- what `claim` says of the root, where only the header's span has been claimed
 abbrev pub SaysRoot : ℕ → List ℕ → ℕ → ℕ → (State → Result State) → Type 0
@@ -135,14 +133,14 @@ pub record Begun (w w' : List ℕ) (s : Spans) (root limit : ℕ) : Type 0 where
   pub size_kept : length w' ≡ length w
   pub list : spans w' s.count s.root s.limit ≡ header_span ∷ (root_span root limit ∷ [])
 
-abbrev pub RootOut : ℕ → List ℕ → List ℕ → Claimed → ℕ → ℕ → Type 0
-RootOut len w w' (Done s) root limit = Begun w w' s root limit × SaysRoot len w root limit (λ (u : State). ok (with_span u (root_span root limit)))
-RootOut len w w' (Refused e) root limit = (w' ≡ w) × SaysRoot len w root limit (λ (u : State). refused e)
+abbrev pub RootOut : ℕ → List ℕ → List ℕ → Answer Spans Refusal → ℕ → ℕ → Type 0
+RootOut len w w' (Ok s) root limit = Begun w w' s root limit × SaysRoot len w root limit (λ (u : State). ok (with_span u (root_span root limit)))
+RootOut len w w' (Err e) root limit = (w' ≡ w) × SaysRoot len w root limit (λ (u : State). refused (Numbers.number e))
 
 -- a node that has been read is used again, and any other is claimed
-abbrev pub EnterOut : ℕ → List ℕ → List ℕ → Spans → Entered → ℕ → ℕ → ℕ → Type 0
-EnterOut len w w' s (Again k) start level number = (w' ≡ w) × ((seen (spans w s.count s.root s.limit) start level ≡ at k) × (k < 4294967295))
-EnterOut len w w' s (Fresh t) start level number = (seen (spans w s.count s.root s.limit) start level ≡ nowhere)
-    × ClaimOut len w w' s (Done t) start level number
-EnterOut len w w' s (Stop e) start level number = (seen (spans w s.count s.root s.limit) start level ≡ nowhere)
-    × ClaimOut len w w' s (Refused e) start level number
+abbrev pub EnterOut : ℕ → List ℕ → List ℕ → Spans → Answer Entered Refusal → ℕ → ℕ → ℕ → Type 0
+EnterOut len w w' s (Ok (Again k)) start level number = (w' ≡ w) × ((seen (spans w s.count s.root s.limit) start level ≡ at k) × (k < 4294967295))
+EnterOut len w w' s (Ok (Fresh t)) start level number = (seen (spans w s.count s.root s.limit) start level ≡ nowhere)
+    × ClaimOut len w w' s (Ok t) start level number
+EnterOut len w w' s (Err e) start level number = (seen (spans w s.count s.root s.limit) start level ≡ nowhere)
+    × ClaimOut len w w' s (Err e) start level number
