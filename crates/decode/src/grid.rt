@@ -1,5 +1,6 @@
 // A grid from its bytes: what the lent tables allow, the header, the tree, and the tests of what was read.
 ghost use Rattle.std.specs.Prelude.{◌≡◌, ◌<◌, length};
+ghost use Rattle.refusals.specs.Numbers.{fault_of};
 ghost use Rattle.nanovdb.specs.Lent.{lent_fault, tables};
 ghost use Rattle.decode.specs.Inner.Filled.{tabs};
 ghost use Rattle.decode.specs.Inner.Rooted.{root_tabs};
@@ -8,17 +9,12 @@ ghost use Rattle.decode.specs.Inner.GridRead.{grid_fault, used_in, Used, lent, G
 
 use crate::header;
 use crate::tree::{Tree, read_tree};
-use refusals::first_fault;
-
-// A tree that has passed every test, or the number of the refusal.
-#[derive(Clone, Copy)]
-pub enum TreeRead {
-    Read(Tree),
-    Refused(u32),
-}
+use refusals::Refusal;
+use sparse_grid::{Entries, Grid};
 
 // 18 for paired tables of unequal length, or blocks that are not three a root. By remainder and quotient, so that no product wraps.
-fn lent_fault(
+#[tactic(auto, unfolding(nanovdb::specs::Lent::lent_fault))]
+fn check_lent(
     blocks: usize,
     rl: usize,
     rv: usize,
@@ -26,26 +22,17 @@ fn lent_fault(
     uv: usize,
     ll: usize,
     lv: usize,
-) -> u32
-    ensures { result ≡ lent_fault (lent blocks rl rv ul uv ll lv) }
+) -> Result<(), Refusal>
+    ensures { fault_of result ≡ lent_fault (lent blocks rl rv ul uv ll lv) }
 {
-    if rl != rv {
-        return refusals::TABLES;
+    if rl != rv || blocks % 3 != 0 || blocks / 3 != rl || ul != uv || ll != lv {
+        return Err(Refusal::Tables);
     }
-    if blocks % 3 != 0 {
-        return refusals::TABLES;
-    }
-    if blocks / 3 != rl {
-        return refusals::TABLES;
-    }
-    if ul != uv {
-        return refusals::TABLES;
-    }
-    if ll != lv { refusals::TABLES } else { 0 }
+    Ok(())
 }
 
 // The tests of a tree that was read, on the used parts of the tables: validate, 13, 14, and 15 for a density grid.
-fn grid_fault(
+fn check_grid(
     density: bool,
     bytes: &[u8],
     x: Tree,
@@ -57,49 +44,41 @@ fn grid_fault(
     ll: &[u32],
     lv: &[f32],
     leaves: &[f32],
-) -> u32
+) -> Result<(), Refusal>
     requires { (length bytes.now < 4294967296)
         × Used (length bytes.now) x (length blocks.now) (length rl.now) (length rv.now) (length ul.now) (length uv.now)
         (length ll.now) (length lv.now) (length leaves.now) }
     ensures { let used = used_in bytes.now x blocks.now rl.now rv.now ul.now uv.now
         ll.now lv.now leaves.now in
-        result ≡ grid_fault density used }
+        fault_of result ≡ grid_fault density used }
 {
     let roots = x.roots;
     let nodes = x.nodes;
     let upper = 32768 * nodes.uppers;
     let lower = 4096 * nodes.lowers;
     let leaf = 512 * nodes.leaves;
-    let background = layout::f32_at(bytes, x.root + 28);
+    let grid = Grid {
+        background: layout::f32_at(bytes, x.root + 28),
+        blocks: &blocks[..3 * roots],
+        roots: Entries {
+            links: &rl[..roots],
+            values: &rv[..roots],
+        },
+        upper: Entries {
+            links: &ul[..upper],
+            values: &uv[..upper],
+        },
+        lower: Entries {
+            links: &ll[..lower],
+            values: &lv[..lower],
+        },
+        leaf_values: &leaves[..leaf],
+    };
     let m = header::frame_at(bytes, x.root);
-    let valid = sparse_grid::validate(
-        background,
-        &blocks[..3 * roots],
-        &rl[..roots],
-        &rv[..roots],
-        &ul[..upper],
-        &uv[..upper],
-        &ll[..lower],
-        &lv[..lower],
-        &leaves[..leaf],
-    );
-    let fault = first_fault(
-        valid,
-        first_fault(medium::map_fault(m), medium::index_fault(m)),
-    );
-    if !density {
-        return fault;
-    }
-    first_fault(
-        fault,
-        sparse_grid::density_fault(
-            background,
-            &rv[..roots],
-            &uv[..upper],
-            &lv[..lower],
-            &leaves[..leaf],
-        ),
-    )
+    grid.validate()?;
+    m.check_map()?;
+    m.check_index()?;
+    if density { grid.check_density() } else { Ok(()) }
 }
 
 // Reads a grid into tables of zeros, and a table of leaves that holds anything: the tree, once every test has passed.
@@ -115,7 +94,7 @@ pub(crate) fn read_grid(
     lv: &mut [f32],
     leaves: &mut [f32],
     work: &mut [u64],
-) -> TreeRead
+) -> Result<Tree, Refusal>
     requires { Zeroed (tabs work.old ul.old uv.old ll.old lv.old leaves.old) (root_tabs blocks.old rl.old rv.old) }
     ensures { let before = tables blocks.old rl.old rv.old ul.old uv.old ll.old
         lv.old leaves.old work.old in
@@ -123,7 +102,7 @@ pub(crate) fn read_grid(
         leaves.new work.new in
         GridOut density bytes.now before after result }
 {
-    let lent = lent_fault(
+    check_lent(
         blocks.len(),
         rl.len(),
         rv.len(),
@@ -131,22 +110,9 @@ pub(crate) fn read_grid(
         uv.len(),
         ll.len(),
         lv.len(),
-    );
-    if lent != 0 {
-        return TreeRead::Refused(lent);
-    }
-    let header = header::bytes_fault(bytes);
-    if header != 0 {
-        return TreeRead::Refused(header);
-    }
-    match read_tree(bytes, work, blocks, rl, rv, ul, uv, ll, lv, leaves) {
-        Err(e) => TreeRead::Refused(e.number()),
-        Ok(x) => {
-            let fault = grid_fault(density, bytes, x, blocks, rl, rv, ul, uv, ll, lv, leaves);
-            if fault != 0 {
-                return TreeRead::Refused(fault);
-            }
-            TreeRead::Read(x)
-        }
-    }
+    )?;
+    header::check_bytes(bytes)?;
+    let x = read_tree(bytes, work, blocks, rl, rv, ul, uv, ll, lv, leaves)?;
+    check_grid(density, bytes, x, blocks, rl, rv, ul, uv, ll, lv, leaves)?;
+    Ok(x)
 }

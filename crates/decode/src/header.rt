@@ -1,5 +1,6 @@
 // What the bytes say before the tree is read: length, header, world box; and the medium record.
 ghost use Rattle.std.specs.Prelude.{◌≡◌, ◌||◌, ℕ, ◌<◌, eqb};
+ghost use Rattle.refusals.specs.Numbers.{fault_of};
 ghost use Rattle.float.specs.Fused.{narrow as narrow_s};
 ghost use Rattle.layout.specs.Bytes.{f64_at};
 ghost use Rattle.medium.specs.Record.{as_medium};
@@ -7,37 +8,34 @@ ghost use Rattle.nanovdb.specs.Decode.{mark_passes, header_passes, bound_at, med
 ghost use Rattle.decode.specs.Inner.Halves.{SameWorld, SameFrame};
 
 use medium::Medium;
-use refusals::both;
+use refusals::Refusal;
 
 // "NanoVDB0" or "NanoVDB1".
 fn mark_passes(mark: u64) -> bool
     ensures { result ≡ mark_passes mark }
 {
-    if mark == 0x304244566f6e614e {
-        true
-    } else {
-        mark == 0x314244566f6e614e
-    }
+    mark == 0x304244566f6e614e || mark == 0x314244566f6e614e
 }
 
 // Unknown or fog volume.
 fn class_passes(class: u32) -> bool
     ensures { result ≡ (eqb class 0 || eqb class 2) }
 {
-    if class == 0 { true } else { class == 2 }
+    class == 0 || class == 2
 }
 
+#[tactic(auto, unfolding(nanovdb::specs::Decode::header_passes))]
 fn header_passes(bytes: &[u8]) -> bool
     ensures { result ≡ header_passes bytes.now }
 {
-    let mark = mark_passes(layout::u64_at(bytes, 0));
-    let version = both(mark, layout::u32_at(bytes, 16) / 2097152 == 32);
-    let size = both(version, layout::u64_at(bytes, 32) == bytes.len() as u64);
-    let kind = both(size, layout::u32_at(bytes, 636) == 1);
-    let class = both(kind, class_passes(layout::u32_at(bytes, 632)));
     let count = layout::u32_at(bytes, 28);
-    let index = layout::u32_at(bytes, 24);
-    both(both(class, 0 < count), index < count)
+    mark_passes(layout::u64_at(bytes, 0))
+        && layout::u32_at(bytes, 16) / 2097152 == 32
+        && layout::u64_at(bytes, 32) == bytes.len() as u64
+        && layout::u32_at(bytes, 636) == 1
+        && class_passes(layout::u32_at(bytes, 632))
+        && 0 < count
+        && layout::u32_at(bytes, 24) < count
 }
 
 // An f64 of the world box, rounded to f32.
@@ -134,18 +132,18 @@ pub(crate) fn medium_at(bytes: &[u8], root: usize) -> Medium
 }
 
 // 1, 2, 3, 4. The world box does not depend on where the root stands.
-pub(crate) fn bytes_fault(bytes: &[u8]) -> u32
-    ensures { result ≡ bytes_fault bytes.now }
+pub(crate) fn check_bytes(bytes: &[u8]) -> Result<(), Refusal>
+    ensures { fault_of result ≡ bytes_fault bytes.now }
 {
     let n = bytes.len();
     if n > 4294967295 {
-        return refusals::TOO_LONG;
+        return Err(Refusal::TooLong);
     }
     if n < 672 {
-        return refusals::TOO_SHORT;
+        return Err(Refusal::TooShort);
     }
-    if header_passes(bytes) {
-        return medium::bounds_fault(world_at(bytes));
+    if !header_passes(bytes) {
+        return Err(Refusal::Header);
     }
-    refusals::HEADER
+    world_at(bytes).check_bounds()
 }

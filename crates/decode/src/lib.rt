@@ -3,6 +3,7 @@
 
 ghost use Rattle.std.specs.Prelude.{◌≡◌, []};
 ghost use Rattle.refusals.specs.Results.{refused as refused_s};
+ghost use Rattle.refusals.specs.Numbers.{number};
 ghost use Rattle.nanovdb.specs.Decode.{decode_scalar, decode_density};
 ghost use Rattle.nanovdb.specs.Lent.{tables, lengths, zeros, decode_into, answer_of, left_of};
 ghost use Rattle.decode.specs.Answers.{answer};
@@ -16,8 +17,10 @@ mod tiles;
 mod tree;
 mod values;
 
-use grid::{TreeRead, read_grid};
+use grid::read_grid;
 use medium::Medium;
+use refusals::Refusal;
+use tree::Tree;
 
 // The number of the refusal (0 where there is a grid), how many roots and nodes are used, the background and the medium.
 #[derive(Clone, Copy)]
@@ -32,14 +35,14 @@ pub struct Decoded {
 }
 
 // The answer of a refusal: zeros beside its number.
-fn refused(number: u32) -> Decoded
-    ensures { answer result ≡ answer_of (refused_s number) }
+fn refused(refusal: Refusal) -> Decoded
+    ensures { answer result ≡ answer_of (refused_s (number refusal)) }
 {
     let point = [0.0f32; 3];
     let corner = [0i32; 3];
     let none = medium::make_medium(point, point, corner, corner, [0.0f32; 9], point, [0u32; 3]);
     Decoded {
-        number: number,
+        number: refusal.number(),
         roots: 0,
         upper: 0,
         lower: 0,
@@ -50,13 +53,13 @@ fn refused(number: u32) -> Decoded
 }
 
 // The answer of what was read.
-fn answered(bytes: &[u8], read: TreeRead) -> Decoded
+fn answered(bytes: &[u8], read: Result<Tree, Refusal>) -> Decoded
     requires { RootIn read }
     ensures { answer result ≡ answer_in bytes.now read }
 {
     match read {
-        TreeRead::Refused(number) => refused(number),
-        TreeRead::Read(x) => {
+        Err(refusal) => refused(refusal),
+        Ok(x) => {
             let nodes = x.nodes;
             Decoded {
                 number: 0,
@@ -131,7 +134,7 @@ pub fn clear(
 
 // The work table is emptied, and the leaves' table behind what was read; after a refusal every table.
 fn leave(
-    read: TreeRead,
+    read: Result<Tree, Refusal>,
     blocks: &mut [i32],
     root_links: &mut [u32],
     root_values: &mut [f32],
@@ -149,12 +152,11 @@ fn leave(
         after ≡ left_in before read }
 {
     match read {
-        TreeRead::Read(x) => {
-            let nodes = x.nodes;
-            values::zero_behind(leaf_values, nodes.leaves);
+        Ok(x) => {
+            values::zero_behind(leaf_values, x.nodes.leaves);
             lent::zero_u64(work);
         }
-        TreeRead::Refused(number) => clear(
+        Err(_) => clear(
             blocks,
             root_links,
             root_values,

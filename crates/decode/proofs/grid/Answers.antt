@@ -28,8 +28,7 @@ use Rattle.decode.specs.declared.tree.Tree as Tree
 use Rattle.std.specs.Prelude.{Ok, Err, Result as Outcome}
 use Rattle.refusals.specs.Numbers.{number}
 use Rattle.refusals.specs.declared.Refusal.{Refusal}
-use Rattle.decode.specs.declared.grid.TreeRead as Code
-use Rattle.decode.specs.declared.grid.TreeRead.TheVariants.{Read, Refused}
+use Rattle.refusals.proofs.Exits.{number_some}
 use Rattle.decode.proofs.grid.Ways.{accepted_of, of_bytes, of_tree, of_fault, of_accepted, into_lent, into_places}
 use Rattle.decode.proofs.grid.Parts.{used, parts, left, answers}
 use Rattle.decode.proofs.grid.Zeros.{nodes_of, roots_of}
@@ -93,14 +92,14 @@ answer_with x background medium = record {
   medium = medium;
 }
 
-pub read_answer : (b : List ℕ) {read : Code.TreeRead} {x : Tree.Tree} {background : Float} {medium : Medium} → read ≡ Read x
-    → background ≡ f32_at b (x.root + 28) → medium ≡ medium_at b x.root → answer_with x background medium ≡ answer_in b read
-read_answer b {x = x} is p q = (λ i. answer_with x (p i) (q i)) ∙ ap (answer_in b) (sym is)
+pub read_answer : (b : List ℕ) (x : Tree.Tree) {background : Float} {medium : Medium} → background ≡ f32_at b (x.root + 28)
+    → medium ≡ medium_at b x.root → answer_with x background medium ≡ answer_in b (Ok x)
+read_answer b x p q = λ i. answer_with x (p i) (q i)
 
 -- ---- a refusal leaves what the definition leaves, whatever the tables hold, as long as their lengths stay
-refuses : (density : Bool) (b : List ℕ) (t u : Tables) (n : ℕ) → lengths u ≡ lengths t
-    → decode_into (decode_of density) b (lengths t) ≡ refused n → GridOut density b t u (Refused n)
-refuses density b t u n same e = record {
+refuses : (density : Bool) (b : List ℕ) (t u : Tables) (e : Refusal) → lengths u ≡ lengths t
+    → decode_into (decode_of density) b (lengths t) ≡ refused (number e) → GridOut density b t u (Err e)
+refuses density b t u r same e = record {
   place = tt;
   says = ap answer_of (sym e);
   left = ap zeros same ∙ ap (left_of (lengths t)) (sym e);
@@ -116,8 +115,8 @@ used_of b x u = used_in b x u.blocks u.root_links u.root_values u.upper_links u.
 -- ---- what is known on the way
 
 -- the lengths have passed
-pub paired : (t : Tables) {n : ℕ} → n ≡ lent_fault (seven (lengths t)) → n ≡ 0 → lent_fault (lengths t) ≡ 0
-paired t e z = sym (e ∙ lent-only (lengths t)) ∙ z
+pub paired : (t : Tables) → 0 ≡ lent_fault (seven (lengths t)) → lent_fault (lengths t) ≡ 0
+paired t e = sym (e ∙ lent-only (lengths t))
 
 -- the lengths and the header have passed, and the tables hold zeros
 pub record Begun (b : List ℕ) (t : Tables) : Type 0 where
@@ -139,30 +138,30 @@ tree-asks {b} {t} begun = let two = pairs (lengths t) begun.paired in (short b b
 
 -- ---- the ways out
 
-pub out-lent : {density : Bool} {b : List ℕ} {t : Tables} {n : ℕ} → n ≡ lent_fault (seven (lengths t)) → (n ≡ 0 → ⊥)
-    → GridOut density b t t (Refused n)
-out-lent {density} {b} {t} {n} is h =
-    let e = is ∙ lent-only (lengths t) in
-    refuses density b t t n refl (into_lent (decode_of density) b (lengths t) (λ z. h (e ∙ z)) ∙ ap refused (sym e))
+pub out-lent : {density : Bool} {b : List ℕ} {t : Tables} {e : Refusal} → number e ≡ lent_fault (seven (lengths t)) → GridOut density b t t (Err e)
+out-lent {density} {b} {t} {e} is =
+    let f = is ∙ lent-only (lengths t) in
+    refuses density b t t e refl (into_lent (decode_of density) b (lengths t) (λ z. number_some e (f ∙ z)) ∙ ap refused (sym f))
 
 into : (density : Bool) (b : List ℕ) (t : Tables) → lent_fault (lengths t) ≡ 0 → {r : Result Accepted}
     → decode_of density b (places_of (lengths t)) ≡ r → decode_into (decode_of density) b (lengths t) ≡ r
 into density b t paired e = into_places (decode_of density) b (lengths t) paired ∙ e
 
-pub out-bytes : {density : Bool} {b : List ℕ} {t : Tables} {n : ℕ} → lent_fault (lengths t) ≡ 0 → n ≡ bytes_fault b → (n ≡ 0 → ⊥)
-    → GridOut density b t t (Refused n)
-out-bytes {density} {b} {t} {n} paired e h =
-    refuses density b t t n refl (into density b t paired (of_bytes b (places_of (lengths t)) density (λ z. h (e ∙ z)) ∙ ap refused (sym e)))
+pub out-bytes : {density : Bool} {b : List ℕ} {t : Tables} {e : Refusal} → lent_fault (lengths t) ≡ 0 → number e ≡ bytes_fault b
+    → GridOut density b t t (Err e)
+out-bytes {density} {b} {t} {e} paired is =
+    refuses density b t t e refl
+    (into density b t paired (of_bytes b (places_of (lengths t)) density (λ z. number_some e (is ∙ z)) ∙ ap refused (sym is)))
 
 -- the places of the tables
 lends : (t : Tables) → LendsAll (nodes_of t) (roots_of t) (places_of (lengths t))
 lends t = record { nodes = record { spans = refl; upper = refl; lower = refl; leaf = refl }; roots = refl }
 
-pub out-tree : {density : Bool} {b : List ℕ} {t u : Tables} {e : Refusal} {n : ℕ} → Got b t u (Err e) → n ≡ number e → GridOut density b t u (Refused n)
-out-tree {density} {b} {t} {u} {n = n} got is =
+pub out-tree : {density : Bool} {b : List ℕ} {t u : Tables} {e : Refusal} → Got b t u (Err e) → GridOut density b t u (Err e)
+out-tree {density} {b} {t} {u} {e} got =
     let p = places_of (lengths t) in
-    let refusal = got.says p (lends t) got.begun.zeroed ∙ ap refused (sym is) in
-    refuses density b t u n (same got.kept) (into density b t got.begun.paired (of_tree b p got.begun.passed density n refusal))
+    refuses density b t u e (same got.kept)
+    (into density b t got.begun.paired (of_tree b p got.begun.passed density (number e) (got.says p (lends t) got.begun.zeroed)))
 
 module _ {b : List ℕ} {t u : Tables} {x : Tree.Tree} (got : Got b t u (Ok x)) where
   given : (r : Roots) × (tree b (places_of (lengths t)) ≡ ok r) × Holds (nodes_of u) x.nodes r.state [] []
@@ -174,30 +173,30 @@ module _ {b : List ℕ} {t u : Tables} {x : Tree.Tree} (got : Got b t u (Ok x)) 
       let (r, tree_is, holds, roots, place, inside, size) = given in
       (short b got.begun.passed, used b x (nodes_of u) (roots_of u) r holds roots place inside size (tree_holds b (places_of (lengths t)) r tree_is).keeps)
 
-  module _ {density : Bool} {n : ℕ} (fault : n ≡ grid_fault density (used_of b x u)) where
-    pub out_fault : (n ≡ 0 → ⊥) → GridOut density b t u (Refused n)
-    out_fault h =
-        let (r, tree_is, holds, roots, place, inside, size) = given in
-        let p = places_of (lengths t) in
-        let keeps = (tree_holds b p r tree_is).keeps in
-        let whole = parts b x (nodes_of u) (roots_of u) r holds roots place inside size keeps in
-        let e : n ≡ grid_fault density (accepted_of b r) = fault ∙ ap (grid_fault density) whole in
-        let f = of_fault b p got.begun.passed r tree_is density (λ z. h (e ∙ z)) ∙ ap refused (sym e) in
-        refuses density b t u n (same got.kept) (into density b t got.begun.paired f)
+  -- the tests of the used parts are those of the definition's grid
+  tested : (density : Bool) → grid_fault density (used_of b x u) ≡ grid_fault density (accepted_of b given.0)
+  tested density =
+      let (r, tree_is, holds, roots, place, inside, size) = given in
+      ap (grid_fault density)
+      (parts b x (nodes_of u) (roots_of u) r holds roots place inside size (tree_holds b (places_of (lengths t)) r tree_is).keeps)
 
-    pub out-accepted : n ≡ 0 → GridOut density b t u (Read x)
-    out-accepted z =
-        let (r, tree_is, holds, roots, place, inside, size) = given in
-        let p = places_of (lengths t) in
-        let keeps = (tree_holds b p r tree_is).keeps in
-        let whole = parts b x (nodes_of u) (roots_of u) r holds roots place inside size keeps in
-        let e : n ≡ grid_fault density (accepted_of b r) = fault ∙ ap (grid_fault density) whole in
-        let f = of_accepted b p got.begun.passed r tree_is density (sym e ∙ z) in
-        let d : decode_into (decode_of density) b (lengths t) ≡ ok (accepted_of b r) = into density b t got.begun.paired f in
-        let moved = ap (λ (k : Lent). left_of k (ok (accepted_of b r))) (same got.kept) ∙ ap (left_of (lengths t)) (sym d) in
-        let small = short b got.begun.passed in
-        record {
-          place = omega arith;
-          says = answers b x (nodes_of u) (roots_of u) r holds roots place inside size keeps ∙ ap answer_of (sym d);
-          left = left b x (nodes_of u) (roots_of u) r holds roots place inside size keeps ∙ moved;
-        }
+  pub out_fault : {density : Bool} {e : Refusal} → number e ≡ grid_fault density (used_of b x u) → GridOut density b t u (Err e)
+  out_fault {density} {e} fault =
+      let (r, tree_is, holds, roots, place, inside, size) = given in
+      let f = fault ∙ tested density in
+      refuses density b t u e (same got.kept) (into density b t got.begun.paired
+      (of_fault b (places_of (lengths t)) got.begun.passed r tree_is density (λ z. number_some e (f ∙ z)) ∙ ap refused (sym f)))
+
+  pub out-accepted : {density : Bool} → 0 ≡ grid_fault density (used_of b x u) → GridOut density b t u (Ok x)
+  out-accepted {density} fault =
+      let (r, tree_is, holds, roots, place, inside, size) = given in
+      let p = places_of (lengths t) in
+      let keeps = (tree_holds b p r tree_is).keeps in
+      let f = of_accepted b p got.begun.passed r tree_is density (sym (fault ∙ tested density)) in
+      let d : decode_into (decode_of density) b (lengths t) ≡ ok (accepted_of b r) = into density b t got.begun.paired f in
+      let moved = ap (λ (k : Lent). left_of k (ok (accepted_of b r))) (same got.kept) ∙ ap (left_of (lengths t)) (sym d) in
+      record {
+        place = omega (arith, inside, short b got.begun.passed);
+        says = answers b x (nodes_of u) (roots_of u) r holds roots place inside size keeps ∙ ap answer_of (sym d);
+        left = left b x (nodes_of u) (roots_of u) r holds roots place inside size keeps ∙ moved;
+      }

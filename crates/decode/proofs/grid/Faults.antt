@@ -1,4 +1,4 @@
--- The tests of `grid_fault`, joined, are those of the definition. Assumes nothing.
+-- The tests of `check_grid`, in turn, are those of the definition. Assumes nothing.
 use mathlib.Core.Path.{◌≡◌, refl, sym, ap, ◌∙◌}
 use mathlib.Core.Bool.{Bool, true, false, not}
 use mathlib.Core.List.{List, []}
@@ -13,27 +13,12 @@ use Rattle.layout.specs.Coordinates.{Coord}
 use Rattle.medium.specs.Medium.{Medium, Point, make_medium, each, index_fault, map_fault}
 use Rattle.decode.specs.Inner.Halves.{SameFrame}
 use Rattle.nanovdb.specs.Decode.{Accepted, tree_fault}
-use Rattle.decode.specs.Inner.GridRead.{grid_fault}
+use Rattle.decode.specs.Inner.GridRead.{grid_fault, density_of}
 
-differ : true ≡ false → ⊥
-differ e = let n : ◌≡◌ {A = ℕ} 0 1 = cc in omega arith
-
-then_none : (a : ℕ) → (a then 0) ≡ a
-then_none zero = refl
-then_none (suc a) = then_stop (suc a) 0 (λ e. omega arith)
-
--- the grid of t with this background, and with nothing but values
+-- the grid of t with this background
 abbrev pub over : Accepted → Float → Grid
 over t x = let g = t.grid in
     grid_of x g.blocks g.root_links g.root_values g.upper_links g.upper_values g.lower_links g.lower_values g.leaf_values
-
-abbrev pub values : Accepted → Float → Grid
-values t x = let g = t.grid in grid_of x [] [] g.root_values [] g.upper_values [] g.lower_values g.leaf_values
-
--- blocks and links play no part in 15
-density_values : (t : Accepted) → density_fault t.grid ≡ density_fault (values t t.grid.background)
-unfolding density_fault
-density_values t = refl
 
 -- the tests of the values, the map and the index box, joined
 pub tested : (t : Accepted) {background : Float} {m : Medium} {v k i g f : ℕ} → background ≡ t.grid.background → SameFrame m t.medium
@@ -46,12 +31,29 @@ tested t {m = m} {k = k} {i} is are valid map index later all =
     index ∙ λ j. each (index_fault (framed (are.index_low j) (are.index_high j) m.map m.translation)) in
     all ∙ (λ j. (valid ∙ ap (λ (x : Float). validate (over t x)) is) j then (later ∙ (λ j. mapped j then indexed j)) j)
 
-pub scalar : (density : Bool) (t : Accepted) {f : ℕ} → f ≡ tree_fault t → not density ≡ true → f ≡ grid_fault density t
-scalar false t tree e = tree ∙ sym (then_none (tree_fault t))
-scalar true t tree e = absurd (differ (sym e))
+-- the tests in turn: `background` is read from the bytes, and the medium m beside it
+module _ (density : Bool) (t : Accepted) {background : Float} {m : Medium} (is : background ≡ t.grid.background) (are : SameFrame m t.medium) where
+  tree : {v k i : ℕ} → v ≡ validate (over t background) → k ≡ map_fault m → i ≡ each (index_fault m) → (v then (k then i)) ≡ tree_fault t
+  tree valid map index = tested t is are valid map index refl refl
 
-pub dense : (density : Bool) (t : Accepted) {background : Float} {f d n : ℕ} → f ≡ tree_fault t → not density ≡ false → background ≡ t.grid.background
-    → d ≡ density_fault (values t background) → n ≡ (f then d) → n ≡ grid_fault density t
-dense false t tree e is negative all = absurd (differ e)
-dense true t tree e is negative all =
-    all ∙ (λ j. tree j then (negative ∙ ap (λ (x : Float). density_fault (values t x)) is ∙ sym (density_values t)) j)
+  stops : {n : ℕ} → (n ≡ 0 → ⊥) → n ≡ tree_fault t → n ≡ grid_fault density t
+  stops some e = e ∙ sym (then_stop (tree_fault t) _ (λ z. some (e ∙ z)))
+
+  pub by-validate : {v : ℕ} → v ≡ validate (over t background) → (v ≡ 0 → ⊥) → v ≡ grid_fault density t
+  by-validate {v} valid some = stops some (sym (then_stop v _ some) ∙ tree valid refl refl)
+
+  module _ (valid : 0 ≡ validate (over t background)) where
+    pub by-map : {k : ℕ} → k ≡ map_fault m → (k ≡ 0 → ⊥) → k ≡ grid_fault density t
+    by-map {k} map some = stops some (sym (then_stop k _ some) ∙ tree valid map refl)
+
+    module _ (mapped : 0 ≡ map_fault m) where
+      pub by-index : {i : ℕ} → i ≡ each (index_fault m) → (i ≡ 0 → ⊥) → i ≡ grid_fault density t
+      by-index index some = stops some (tree valid mapped index)
+
+      pub by-density : {d : ℕ} → 0 ≡ each (index_fault m) → density ≡ true → d ≡ density_fault (over t background) → d ≡ grid_fault density t
+      by-density index dense e =
+          e ∙ ap (λ (x : Float). density_fault (over t x)) is
+          ∙ λ i. tree valid mapped index i then density_of (sym dense i) (density_fault t.grid)
+
+      pub by-none : 0 ≡ each (index_fault m) → density ≡ false → 0 ≡ grid_fault density t
+      by-none index scalar = λ i. tree valid mapped index i then density_of (sym scalar i) (density_fault t.grid)

@@ -22,7 +22,7 @@ use Rattle.decode.specs.Inner.Stored.{zero_behind}
 use Rattle.decode.specs.Inner.Rooted.{RootTabs, RootsHeld}
 use Rattle.decode.specs.Inner.GridRead.{used_in, Used, all_tables, tidied, answer_in}
 use Rattle.decode.specs.declared.tree.Tree as Tree
-use Rattle.decode.specs.declared.grid.TreeRead.TheVariants.{Read}
+use Rattle.std.specs.Prelude.{Ok}
 use Rattle.decode.proofs.tiles.Roots.{blocks_length}
 use Rattle.decode.proofs.grid.Ways.{accepted_of}
 
@@ -133,7 +133,7 @@ module _ (b : List ℕ) (x : Tree.Tree) (u : Tabs) (v : RootTabs) (r : Roots) (h
   }
 
   -- and the counts are those of the definition's answer
-  pub answers : answer_in b (Read x) ≡ answer_of (ok (accepted_of b r))
+  pub answers : answer_in b (Ok x) ≡ answer_of (ok (accepted_of b r))
   unfolding tables_of medium_of
   answers = λ i. record {
     number = 0;

@@ -11,7 +11,9 @@ use Rattle.decode.specs.Inner.Filled.{Tabs, tabs}
 use Rattle.decode.specs.Inner.Rooted.{RootTabs, root_tabs}
 use Rattle.decode.specs.Inner.TreeRead.{Zeroed}
 use Rattle.decode.specs.Inner.GridRead.{decode_of, leafless, answer_in, left_in, GridOut}
-use Rattle.decode.specs.declared.grid.TreeRead.{TreeRead}
+use Rattle.std.specs.Prelude.{Result as Outcome}
+use Rattle.refusals.specs.declared.Refusal.{Refusal}
+use Rattle.decode.specs.declared.tree.Tree.{Tree}
 
 -- a table of n zeros is as many zeros as it is long
 own : {A : Type 0} (t : List A) (n : ℕ) (z : A) → t ≡ replicate n z → t ≡ replicate (length t) z
@@ -37,7 +39,7 @@ module _ (t : Tables) (l : Lent) (e : leafless t ≡ zeros l) where
   }
 
 -- a grid read from zeros, once its answer is given and what it leaves is left
-pub decoded : {density : Bool} {b : List ℕ} {t u v : Tables} {l : Lent} {r : TreeRead} {a : Answer} → lengths t ≡ l → GridOut density b t u r
+pub decoded : {density : Bool} {b : List ℕ} {t u v : Tables} {l : Lent} {r : Outcome Tree Refusal} {a : Answer} → lengths t ≡ l → GridOut density b t u r
     → a ≡ answer_in b r → v ≡ left_in u r
     → (a ≡ answer_of (decode_into (decode_of density) b l)) × (v ≡ left_of l (decode_into (decode_of density) b l))
 decoded {density} {b} same out answer left = (

@@ -1,5 +1,5 @@
 -- What the contracts of the reader of a whole grid say: the used parts of the tables are the grid, and its faults are the definition's.
-use Rattle.std.specs.Prelude.{ℕ, ◌+◌, ◌*◌, ◌≤◌, ◌<◌, ◌≡◌, Bool, true, false, List, [], ℤ, length, take, replicate, Float}
+use Rattle.std.specs.Prelude.{ℕ, ◌+◌, ◌*◌, ◌≤◌, ◌<◌, ◌≡◌, Bool, true, false, List, [], ℤ, length, take, replicate, Float, Ok, Err, Result as Outcome}
 use Rattle.refusals.specs.Results.{Result, refused}
 use Rattle.refusals.specs.Faults.{◌then◌}
 use Rattle.layout.specs.Bytes.{f32_at}
@@ -12,7 +12,8 @@ use Rattle.decode.specs.Inner.Filled.{Tabs}
 use Rattle.decode.specs.Inner.Stored.{zero_behind}
 use Rattle.decode.specs.Inner.Rooted.{RootTabs}
 use Rattle.decode.specs.declared.tree.Tree as Tree
-use Rattle.decode.specs.declared.grid.TreeRead as Code
+use Rattle.refusals.specs.Numbers.{number}
+use Rattle.refusals.specs.declared.Refusal.{Refusal}
 
 -- ---- a scalar grid or a density grid
 
@@ -79,8 +80,8 @@ tidied t leaves =
 abbrev pub leafless : Tables → Tables
 leafless t = tables t.blocks t.root_links t.root_values t.upper_links t.upper_values t.lower_links t.lower_values [] t.work
 
-abbrev pub answer_in : List ℕ → Code.TreeRead → Answer
-answer_in b (Code.TheVariants.Read x) = record {
+abbrev pub answer_in : List ℕ → Outcome Tree.Tree Refusal → Answer
+answer_in b (Ok x) = record {
   number = 0;
   roots = x.roots;
   upper = x.nodes.uppers;
@@ -89,18 +90,18 @@ answer_in b (Code.TheVariants.Read x) = record {
   background = f32_at b (x.root + 28);
   medium = medium_at b x.root;
 }
-answer_in b (Code.TheVariants.Refused n) = answer_of (refused n)
+answer_in b (Err e) = answer_of (refused (number e))
 
 -- what is left of a tree that was read, and of a refusal
-abbrev pub left_in : Tables → Code.TreeRead → Tables
-left_in t (Code.TheVariants.Read x) = tidied t x.nodes.leaves
-left_in t (Code.TheVariants.Refused n) = zeros (lengths t)
+abbrev pub left_in : Tables → Outcome Tree.Tree Refusal → Tables
+left_in t (Ok x) = tidied t x.nodes.leaves
+left_in t (Err e) = zeros (lengths t)
 
-abbrev pub RootIn : Code.TreeRead → Type 0
-RootIn (Code.TheVariants.Read x) = x.root < 4294967296
-RootIn (Code.TheVariants.Refused n) = Unit {0}
+abbrev pub RootIn : Outcome Tree.Tree Refusal → Type 0
+RootIn (Ok x) = x.root < 4294967296
+RootIn (Err e) = Unit {0}
 
-pub record GridOut (density : Bool) (b : List ℕ) (t u : Tables) (r : Code.TreeRead) : Type 0 where
+pub record GridOut (density : Bool) (b : List ℕ) (t u : Tables) (r : Outcome Tree.Tree Refusal) : Type 0 where
   pub place : RootIn r
   pub says : answer_in b r ≡ answer_of (decode_into (decode_of density) b (lengths t))
   pub left : left_in u r ≡ left_of (lengths t) (decode_into (decode_of density) b (lengths t))

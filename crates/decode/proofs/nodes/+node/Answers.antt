@@ -6,7 +6,7 @@ use Rattle.refusals.proofs.Exits.{exit_is}
 use Rattle.refusals.specs.declared.Refusal.{Refusal}
 use Rattle.decode.specs.Inner.Filled.{Tabs, tabs, with_work, Kept, NodeOut}
 use Rattle.decode.specs.declared.nodes.Placed.{Placed}
-use Rattle.decode.proofs.nodes.Fits.{count_small, leaf_inside}
+use Rattle.decode.proofs.nodes.Fits.{count_small, leaf_inside, entries_most}
 use Rattle.decode.proofs.nodes.Tables.{with_values}
 use Rattle.decode.proofs.nodes.Turns.{turn_begins}
 use Rattle.decode.proofs.nodes.Answers.{node-number, opened, whole_words, leaf-place, out-leaf, value_room, run-to, out-ends}
@@ -55,7 +55,10 @@ loop-o-init t c =
     record { node = record { new = new; above = pos_of_ne-zero c.if-level-eq0.false; three = c.requires.1 }; turn = turn_begins new.fit }
 
 pub next_child-j-requires : goal.next_child-j-requires
-next_child-j-requires t c = let r = c.loop-o.invariant in let (most, words) = whole_words r.node.new in (r.turn.turn, most, words)
+next_child-j-requires t c =
+    let r = c.loop-o.invariant in
+    let (most, words) = entries_most c.args.level r.node.new.entries in
+    (r.turn.turn, most, words)
 
 pub tiles_between-requires : goal.tiles_between-requires
 tiles_between-requires t c =
