@@ -79,7 +79,8 @@ span-is source level k counted h = ap (node_span source level) (counted ∙ coun
 -- k is the number of the next node, and `enter` has left the words v
 module _ {b : List ℕ} {source level k : ℕ} {st : Progress.State} {w v : List ℕ} (counted : k ≡ count_in st level) (t : Tabs)
     (fit : Fit (length b) (with_work t w) st) where
-  pub out-again : {n : ℕ} → EnterOut (length b) w v st.spans (Ok (Again n)) source level k → NodeOut level b source (with_work t w) st (with_work t v) (Ok (record { number = n; state = st }))
+  pub out-again : {n : ℕ} → EnterOut (length b) w v st.spans (Ok (Again n)) source level k
+      → NodeOut level b source (with_work t w) st (with_work t v) (Ok (record { number = n; state = st }))
   out-again {n} (same, (found, small)) = record {
     fit = (subst (λ (x : List ℕ). Fit (length b) (with_work t x) st) (sym same) fit, small);
     says = λ p d lower upper R. (
@@ -114,7 +115,8 @@ module _ {b : List ℕ} {source level k : ℕ} {st : Progress.State} {w v : List
           (omega (arith, counted, counts level R.holds, rooms level R.lends));
     }
 
-    pub out-new : {mask entries : ℕ} {now : Progress.State} → k < 4294967295 → k < places_of level t → mask ≡ source + mask_of level → entries ≡ entries_of level
+    pub out-new : {mask entries : ℕ} {now : Progress.State} → k < 4294967295 → k < places_of level t → mask ≡ source + mask_of level
+        → entries ≡ entries_of level
         → now ≡ grown_by level st next
         → NewNode level b source (with_work t w) st (with_work t v) (record { number = k; mask = mask; entries = entries; base = k * entries; now = now })
     out-new {now = now} small room mask all grown =

@@ -45,7 +45,8 @@ abbrev pub StepFit : ℕ → Tabs → Answer Progress.State Refusal → Type 0
 StepFit len u (Ok v) = Fit len u v
 StepFit len u (Err n) = Unit {0}
 
-pub record TileOut (b : List ℕ) (root i : ℕ) (t : Tabs) (q : RootTabs) (s : Progress.State) (u : Tabs) (v : RootTabs) (r : Answer Progress.State Refusal) : Type 0 where
+pub record TileOut (b : List ℕ) (root i : ℕ) (t : Tabs) (q : RootTabs) (s : Progress.State) (u : Tabs) (v : RootTabs)
+    (r : Answer Progress.State Refusal) : Type 0 where
   pub fit : StepFit (length b) u r
   pub says : TileSays b root i t q s u v r
 
@@ -56,6 +57,7 @@ TilesSay b root count t q s u v (Ok w) = (p : Places) (d : State) → Reads 2 b 
 TilesSay b root count t q s u v (Err n) = (p : Places) (d : State) → Reads 2 b t s p d [] [] → RootsHeld q []
     → tiles_read b p root count d ≡ refused (number n)
 
-pub record TilesOut (b : List ℕ) (root count : ℕ) (t : Tabs) (q : RootTabs) (s : Progress.State) (u : Tabs) (v : RootTabs) (r : Answer Progress.State Refusal) : Type 0 where
+pub record TilesOut (b : List ℕ) (root count : ℕ) (t : Tabs) (q : RootTabs) (s : Progress.State) (u : Tabs) (v : RootTabs)
+    (r : Answer Progress.State Refusal) : Type 0 where
   pub fit : StepFit (length b) u r
   pub says : TilesSay b root count t q s u v r

@@ -12,13 +12,15 @@ pub returns-in_err-check_lent : goal.returns-in_err-check_lent
 returns-in_err-check_lent c =
     let a = c.args in
     let lent = tables a.blocks.now a.rl.now a.rv.now a.ul.now a.uv.now a.ll.now a.lv.now a.leaves.now a.work.now in
-    subst (GridOut a.density a.bytes.now lent lent) (sym (exit_is c.from_residual.result _ c.from_residual.ensures.1)) (out-lent c.in_err-check_lent.ensures)
+    subst (GridOut a.density a.bytes.now lent lent) (sym (exit_is c.from_residual.result _ c.from_residual.ensures.1))
+    (out-lent c.in_err-check_lent.ensures)
 
 pub returns-in_err-check_bytes : goal.returns-in_err-check_bytes
 returns-in_err-check_bytes c =
     let a = c.args in
     let lent = tables a.blocks.now a.rl.now a.rv.now a.ul.now a.uv.now a.ll.now a.lv.now a.leaves.now a.work.now in
-    subst (GridOut a.density a.bytes.now lent lent) (sym (exit_is c.from_residual-in_err-check_bytes.result _ c.from_residual-in_err-check_bytes.ensures.1)) (out-bytes (paired lent c.in_ok-check_lent.ensures) c.in_err-check_bytes.ensures)
+    subst (GridOut a.density a.bytes.now lent lent) (sym (exit_is c.from_residual-in_err-check_bytes.result _ c.from_residual-in_err-check_bytes.ensures.1))
+    (out-bytes (paired lent c.in_ok-check_lent.ensures) c.in_err-check_bytes.ensures)
 
 pub read_tree-requires : goal.read_tree-requires
 read_tree-requires c =
@@ -49,7 +51,8 @@ returns-in_err-x c =
       work = k.work;
     } in
     let got : Got a.bytes.now lent filled (Err _) = record { begun = begun; kept = kept; says = c.in_err-x.ensures } in
-    subst (GridOut a.density a.bytes.now lent filled) (sym (exit_is c.from_residual-in_err-x.result _ c.from_residual-in_err-x.ensures.1)) (out-tree got)
+    subst (GridOut a.density a.bytes.now lent filled) (sym (exit_is c.from_residual-in_err-x.result _ c.from_residual-in_err-x.ensures.1))
+    (out-tree got)
 
 pub check_grid-requires : goal.check_grid-requires
 check_grid-requires c =
@@ -95,7 +98,8 @@ returns-in_err-check_grid c =
       work = k.work;
     } in
     let got : Got a.bytes.now lent filled (Ok c.in_ok-x.x) = record { begun = begun; kept = kept; says = c.in_ok-x.ensures } in
-    subst (GridOut a.density a.bytes.now lent filled) (sym (exit_is c.from_residual-in_err-check_grid.result _ c.from_residual-in_err-check_grid.ensures.1)) (out_fault got c.in_err-check_grid.ensures)
+    subst (GridOut a.density a.bytes.now lent filled) (sym (exit_is c.from_residual-in_err-check_grid.result _ c.from_residual-in_err-check_grid.ensures.1))
+    (out_fault got c.in_err-check_grid.ensures)
 
 pub returns : goal.returns
 returns c =
