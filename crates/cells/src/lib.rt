@@ -61,7 +61,7 @@ impl Cells {
     }
 }
 
-// The number of `check_table`'s refusal.
+// Bridge: majorant.
 pub fn table_fault(x: u32, y: u32, z: u32, places: usize) -> u32
     ensures { result ≡ table_fault (cells x y z) places }
 {

@@ -33,7 +33,7 @@ pub fn check_figures(figures: &[f32]) -> Result<(), Refusal>
     Ok(())
 }
 
-// b where a is less, and a otherwise.
+// b where a is less, and a otherwise. std's `max` differs: it leaves a NaN in a out, and may give either of two zeros.
 pub fn greater(a: f32, b: f32) -> f32
     ensures { result ≡ greater_of a b }
 {

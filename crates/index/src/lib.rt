@@ -113,6 +113,7 @@ impl Ends {
 // One axis of a medium: the world box, the translation, the place on the map's diagonal, and the index box.
 #[derive(Clone, Copy)]
 pub struct Line {
+    // Whether it is z. A bool, as the specs' Line has it: no more of the axis is asked for.
     pub last: bool,
     pub low: f32,
     pub high: f32,

@@ -10,7 +10,7 @@ ghost use Rattle.layout.specs.Reads.{read_field};
 mod bridge;
 mod coordinate;
 
-pub use bridge::{f32_at, f64_at, i32_at, i64_at, u16_at, u32_at, u64_at};
+pub use bridge::{f32_at, f64_at, i32_at, u16_at, u32_at, u64_at};
 pub use coordinate::Coordinate;
 use refusals::Refusal;
 

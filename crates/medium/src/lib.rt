@@ -20,6 +20,7 @@ pub use bridge::{bounds_fault, index_fault, map_fault, medium_fault};
 use refusals::Refusal;
 
 // Whether there is a temperature grid, and what a value of it is read by: (value - offset) * scale. Its tables stand beside.
+// Not an Option: C hands in the flag and both numbers, and the specs keep the numbers where there is no grid.
 #[derive(Clone, Copy)]
 pub struct Temperature {
     pub present: bool,

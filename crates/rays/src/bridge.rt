@@ -1,4 +1,4 @@
-// The ray by number, for the C interface.
+// The ray by number, as the C interface has it.
 ghost use Rattle.std.specs.Prelude.{◌≡◌, length};
 ghost use Rattle.medium.specs.Record.{as_medium};
 ghost use Rattle.rays.specs.Ray.{next};
@@ -9,14 +9,14 @@ ghost use Rattle.rays.specs.Answers.{beam_of, as_state, as_opened, opened_of, as
 use crate::{Beam, Ray, Track};
 use medium::Medium;
 
-// An opened ray, or the number of a refusal with a zero state.
+// Bridge: smokegrid. An opened ray, or the number of a refusal with a zero state.
 #[derive(Clone, Copy)]
 pub struct Opened {
     pub number: u32,
     pub ray: Ray,
 }
 
-// Whether there is a piece, the piece, and the state to go on from. After a refusal its number, and zeros.
+// Bridge: smokegrid. Whether there is a piece, the piece, and the state to go on from. After a refusal its number, and zeros.
 #[derive(Clone, Copy)]
 pub struct Stepped {
     pub number: u32,
@@ -46,6 +46,7 @@ fn zero_ray() -> Ray
     }
 }
 
+// Bridge: smokegrid.
 pub fn open_ray(
     m: Medium,
     origin: [f32; 3],
@@ -72,6 +73,7 @@ pub fn open_ray(
     }
 }
 
+// Bridge: smokegrid.
 pub fn next_piece(ray: Ray, majorants: &[f32]) -> Stepped
     ensures { as_answer result ≡ answer_of (as_state ray) (next (as_state ray) majorants.now) }
 {

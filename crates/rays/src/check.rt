@@ -17,7 +17,7 @@ fn all_finite(p: [f32; 3]) -> bool
 fn all_zero(p: [f32; 3]) -> bool
     ensures { result ≡ all_zero (point_of p) }
 {
-    (p[0] == 0.0) & (p[1] == 0.0) & (p[2] == 0.0)
+    p == [0.0; 3]
 }
 
 impl Beam {

@@ -19,30 +19,22 @@ fn along(d: f32, width: f32) -> f32
 }
 
 // d without its sign.
+#[tactic(auto, using(crate::proofs::Laws::abs_is))]
 fn magnitude(d: f32) -> f32
     ensures { result ≡ Open.magnitude d }
 {
-    if d < 0.0 {
-        -d
-    } else if d == 0.0 {
-        0.0
-    } else {
-        d
-    }
+    d.abs()
 }
 
 // The cell of n in which the position p lies.
-#[tactic(auto, using(crate::proofs::Laws::clamps), unfolding(crate::specs::Open::cell_at))]
+// 1 ≤ n ≤ 128 is what the check of Cells leaves. Cells comes from C unchecked, so it has no such invariant.
+#[tactic(auto, unfolding(crate::specs::Open::cell_at))]
 fn cell_at(p: f32, n: u32) -> u32
     requires { (1 ≤ n) × (n ≤ 128) }
     ensures { (pos result ≡ cell_at p n) × (result < n) }
 {
-    let z = saturated(p * nearest_u32_to_f32(n));
-    if z < 0 {
-        return 0;
-    }
-    let k = z as u32;
-    if n - 1 < k { n - 1 } else { k }
+    let cell = saturated(p * nearest_u32_to_f32(n)).max(0) as u32;
+    cell.min(n - 1)
 }
 
 // From the position p in the direction d at t.

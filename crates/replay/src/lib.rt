@@ -23,6 +23,7 @@ const MOST: u32 = 4096;
 // ---- words
 
 // Fills lent bytes, and says how many there were: fewer than asked for where the list ends.
+// The clause `retried` stands with each reader: the error is std's type, which says nothing of its kind by itself.
 pub fn read_bytes<R: Read>(list: &mut R, bytes: &mut [u8]) -> io::Result<usize>
     ensures within { IfOk result (λ n. n ≤ length bytes.old) }
     ensures count { IfOk result (λ n. IfSome (R.remaining list.old) (λ all. n ≡ min (length all) (length bytes.old))) }

@@ -17,88 +17,85 @@ ghost use Rattle.std.specs.Prelude.{◌≤◌, IfOk};
 use claim::{Asked, Question};
 use decode::Decoded;
 use medium::Medium;
-use replay::{Placed, fill, first, read_cases, read_placed, read_word, report};
+use replay::{Placed, Word, fill, first, read_cases, read_placed, read_word, report};
 use std::io;
 use std::io::Read;
 
 // ---- what the answer says
 
-fn same<R: Read>(list: &mut R, a: u32) -> io::Result<bool> {
-    let b: u32 = read_word(list)?;
-    Ok(a == b)
+// What a word of the list may be due for. A float is compared by its bits, as a NaN is not equal to itself.
+trait Listed: Copy {
+    fn is(self, word: u32) -> bool;
 }
 
-fn same_float<R: Read>(list: &mut R, a: f32) -> io::Result<bool> {
-    same(list, float::bits_of(a))
+impl Listed for u32 {
+    fn is(self, word: u32) -> bool {
+        self == word
+    }
 }
 
-fn same_count<R: Read>(list: &mut R, a: usize) -> io::Result<bool> {
-    let b: u32 = read_word(list)?;
-    Ok(a == b as usize)
+impl Listed for i32 {
+    fn is(self, word: u32) -> bool {
+        self.cast_unsigned() == word
+    }
 }
 
-fn same_floats<R: Read>(list: &mut R, row: &[f32]) -> io::Result<bool> {
-    let mut same = true;
+impl Listed for usize {
+    fn is(self, word: u32) -> bool {
+        self == word as usize
+    }
+}
+
+impl Listed for f32 {
+    fn is(self, word: u32) -> bool {
+        float::bits_of(self) == word
+    }
+}
+
+fn same<T: Listed, R: Read>(list: &mut R, a: T) -> io::Result<bool> {
+    Ok(a.is(read_word(list)?))
+}
+
+fn same_row<T: Listed, R: Read>(list: &mut R, row: &[T]) -> io::Result<bool> {
+    let mut all = true;
     for x in row {
-        same &= same_float(list, *x)?;
+        all &= same(list, *x)?;
     }
-    Ok(same)
+    Ok(all)
 }
 
-fn same_corner<R: Read>(list: &mut R, corner: &[i32]) -> io::Result<bool> {
-    let mut same = true;
-    for x in corner {
-        let b: i32 = read_word(list)?;
-        same &= *x == b;
-    }
-    Ok(same)
-}
-
+// Each record is compared word by word as it is read: a derived equality would compare floats by value.
 fn same_medium<R: Read>(list: &mut R, m: Medium) -> io::Result<bool> {
-    let world = same_floats(list, &m.low)? & same_floats(list, &m.high)?;
-    let map = same_floats(list, &m.map)? & same_floats(list, &m.translation)?;
-    let index = same_corner(list, &m.index_low)? & same_corner(list, &m.index_high)?;
+    let world = same_row(list, &m.low)? & same_row(list, &m.high)?;
+    let map = same_row(list, &m.map)? & same_row(list, &m.translation)?;
+    let index = same_row(list, &m.index_low)? & same_row(list, &m.index_high)?;
     Ok(world & map & index)
 }
 
 fn same_answer<R: Read>(list: &mut R, d: Decoded) -> io::Result<bool> {
     let number = same(list, d.number)?;
-    let roots = same_count(list, d.roots)?;
-    let upper = same_count(list, d.upper)?;
-    let lower = same_count(list, d.lower)?;
-    let leaf = same_count(list, d.leaf)?;
-    let background = same_float(list, d.background)?;
+    let roots = same(list, d.roots)?;
+    let upper = same(list, d.upper)?;
+    let lower = same(list, d.lower)?;
+    let leaf = same(list, d.leaf)?;
+    let background = same(list, d.background)?;
     let medium = same_medium(list, d.medium)?;
     Ok(number & roots & upper & lower & leaf & background & medium)
 }
 
 // What is left in a table, word for word: the words that are not 0 are listed, each with its place.
-fn same_table<R: Read, T: Copy, F: Fn(T) -> u32>(
-    list: &mut R,
-    table: &[T],
-    word_of: F,
-) -> io::Result<bool>
-    requires { F.IsAlwaysCallable word_of }
-{
+fn same_table<T: Listed, R: Read>(list: &mut R, table: &[T]) -> io::Result<bool> {
     let mut same = true;
     let mut next: Placed<u32> = read_placed(list)?;
     for (i, x) in table.iter().enumerate() {
         if i == next.at {
-            same &= word_of(*x) == next.value;
+            same &= x.is(next.value);
             next = read_placed(list)?;
         } else {
-            same &= word_of(*x) == 0;
+            same &= x.is(0);
         }
     }
     Ok(same)
-}
-
-fn same_links<R: Read>(list: &mut R, table: &[u32]) -> io::Result<bool> {
-    same_table(list, table, |x: u32| x)
-}
-
-fn same_values<R: Read>(list: &mut R, table: &[f32]) -> io::Result<bool> {
-    same_table(list, table, |x: f32| float::bits_of(x))
 }
 
 // The work table is left with zeros.
@@ -115,20 +112,16 @@ fn small(n: usize) -> usize
     if n < 65536 { n } else { 0 }
 }
 
-fn figure_is(majorants: &[f32], cell: usize, bits: u32) -> bool {
-    if cell < majorants.len() {
-        return float::bits_of(majorants[cell]) == bits;
-    }
-    false
-}
-
 // The listed figures.
 fn same_figures<R: Read>(list: &mut R, majorants: &[f32]) -> io::Result<bool> {
     let mut same = true;
     let n: u32 = read_word(list)?;
     for _ in 0..n {
         let figure: Placed<u32> = read_placed(list)?;
-        same &= figure_is(majorants, figure.at, figure.value);
+        same &= match majorants.get(figure.at) {
+            Some(x) => x.is(figure.value),
+            None => false,
+        };
     }
     Ok(same)
 }
@@ -168,14 +161,7 @@ fn same_build<R: Read>(
 
 // ---- the question
 
-fn read_corner<R: Read>(list: &mut R) -> io::Result<[i32; 3]> {
-    let x = read_word(list)?;
-    let y = read_word(list)?;
-    let z = read_word(list)?;
-    Ok([x, y, z])
-}
-
-fn read_point<R: Read>(list: &mut R) -> io::Result<[f32; 3]> {
+fn read_three<T: Word, R: Read>(list: &mut R) -> io::Result<[T; 3]> {
     let x = read_word(list)?;
     let y = read_word(list)?;
     let z = read_word(list)?;
@@ -183,10 +169,10 @@ fn read_point<R: Read>(list: &mut R) -> io::Result<[f32; 3]> {
 }
 
 fn read_question<R: Read>(list: &mut R) -> io::Result<Question> {
-    let coordinate = read_corner(list)?;
-    let low = read_corner(list)?;
-    let high = read_corner(list)?;
-    let point = read_point(list)?;
+    let coordinate = read_three(list)?;
+    let low = read_three(list)?;
+    let high = read_three(list)?;
+    let point = read_three(list)?;
     Ok(Question {
         coordinate,
         low,
@@ -199,10 +185,10 @@ fn same_asked<R: Read>(list: &mut R, a: Asked) -> io::Result<bool> {
     let loaded = a.loaded;
     let number = same(list, loaded.decoded.number)?;
     let build = same(list, loaded.build)?;
-    let value = same_float(list, a.value)?;
-    let maximum = same_float(list, a.maximum)?;
+    let value = same(list, a.value)?;
+    let maximum = same(list, a.maximum)?;
     let cell = same(list, a.cell)?;
-    let figure = same_float(list, a.figure)?;
+    let figure = same(list, a.figure)?;
     Ok(number & build & value & maximum & cell & figure)
 }
 
@@ -281,14 +267,14 @@ fn replay_bytes<R: Read>(list: &mut R, bytes: &[u8]) -> io::Result<bool> {
         &mut work,
     );
     let answer = same_answer(list, d)?;
-    let roots = same_table(list, &blocks, |x: i32| x.cast_unsigned())?;
-    let links = same_links(list, &root_links)?;
-    let values = same_values(list, &root_values)?;
-    let upper = same_links(list, &upper_links)?;
-    let above = same_values(list, &upper_values)?;
-    let lower = same_links(list, &lower_links)?;
-    let below = same_values(list, &lower_values)?;
-    let leaf = same_values(list, &leaf_values)?;
+    let roots = same_table(list, &blocks)?;
+    let links = same_table(list, &root_links)?;
+    let values = same_table(list, &root_values)?;
+    let upper = same_table(list, &upper_links)?;
+    let above = same_table(list, &upper_values)?;
+    let lower = same_table(list, &lower_links)?;
+    let below = same_table(list, &lower_values)?;
+    let leaf = same_table(list, &leaf_values)?;
     let tables = roots & links & values & upper & above & lower & below & leaf;
     let built = same_build(
         list,
@@ -313,12 +299,6 @@ struct Counted {
     unbuilt: u32,
 }
 
-fn count_one(yes: bool) -> u32
-    ensures { result ≤ 1 }
-{
-    if yes { 1 } else { 0 }
-}
-
 // Zeros for the bytes of a case.
 fn empty_bytes() -> [u8; 655360] {
     [0; 655360]
@@ -335,9 +315,9 @@ fn replay<R: Read>(list: &mut R) -> io::Result<Counted>
     let same = replay_bytes(list, grid)?;
     let asked = replay_question(list, grid)?;
     Ok(Counted {
-        differ: 1 - count_one(same && asked.same),
-        smoky: count_one(asked.smoke),
-        unbuilt: count_one(asked.unbuilt),
+        differ: u32::from(!(same && asked.same)),
+        smoky: u32::from(asked.smoke),
+        unbuilt: u32::from(asked.unbuilt),
     })
 }
 

@@ -12,7 +12,7 @@ use std::io::{Read, Write};
 // How many records each function has.
 const RECORDS: u32 = 2048;
 
-// The lower half of a word, and the upper.
+// The lower half of a word, and the upper, for which std has no name.
 fn low(w: u64) -> u32 {
     (w % 0x1_0000_0000) as u32
 }

@@ -147,6 +147,11 @@ module _ (answer₀ memory : List Float) (w held next : ℕ) where
           still = (λ i. raised_by (same i) (ring n w memory (left - 4) (e i))) ∙ ring_four n w memory answer _ left at h L.still;
         }
 
+  -- the same of a number that is spelled otherwise
+  pub left_as : {answer : List Float} {left at : ℕ} → Left answer₀ memory w held next answer left at → (k : ℕ) → left ≡ k
+      → Left answer₀ memory w held next answer k at
+  left_as {answer} {left} {at} L k e = subst (λ (j : ℕ). Left answer₀ memory w held next answer j at) e L
+
   pub left_none : {answer : List Float} {left at : ℕ} → Left answer₀ memory w held next answer left at → left ≡ 0
       → answer ≡ raised_by answer₀ (ring (length answer₀) w memory held next)
   left_none {answer} {left} {at} L z = ring_none _ w memory answer _ left at z L.still

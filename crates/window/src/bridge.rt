@@ -1,4 +1,4 @@
-// The window by number, for the C interface.
+// The window by number, as the C interface has it.
 ghost use Rattle.std.specs.Prelude.{◌≡◌, length};
 ghost use Rattle.cells.specs.Cells.{cells};
 ghost use Rattle.window.specs.Window.{state_of, table_of, push_fault, push as push_of, open_fault, opened};
@@ -7,13 +7,14 @@ use crate::Window;
 use cells::Cells;
 use refusals::fault;
 
-// The number of a refusal, or 0, and the window.
+// Bridge: smokegrid. The number of a refusal, or 0, and the window.
 #[derive(Clone, Copy)]
 pub struct Pushed {
     pub number: u32,
     pub window: Window,
 }
 
+// Bridge: smokegrid.
 pub fn push(
     s: Window,
     x: u32,
@@ -33,7 +34,7 @@ pub fn push(
     Pushed { number, window }
 }
 
-// A refused opening leaves a window of zeros.
+// Bridge: smokegrid. A refused opening leaves a window of zeros.
 pub fn open(w: u32, x: u32, y: u32, z: u32, memory: &mut [f32], answer: &mut [f32]) -> Pushed
     ensures number { result.number ≡ open_fault w (cells x y z) (length memory.old) (length answer.old) }
     ensures state { state_of result.window memory.new answer.new

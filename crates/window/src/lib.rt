@@ -48,6 +48,7 @@ fn after(w: u32, p: u32) -> u32
     if p + 1 == w { 0 } else { p + 1 }
 }
 
+// Not `min`: a caller's `held` may be above w, where it stays as it is, and held + 1 may overflow.
 fn grown(w: u32, held: u32) -> u32
     ensures { result ≡ grown_of w held }
 {
@@ -75,7 +76,8 @@ fn width_in(w: u32) -> bool
 fn fits_window(s: Window, n: Cells) -> bool
     ensures { result ≡ fits_window s (as_cells n) }
 {
-    width_in(s.w) & ((n.x == s.x) & ((n.y == s.y) & (n.z == s.z)))
+    let Window { w, x, y, z, .. } = s;
+    width_in(w) && n == Cells { x, y, z }
 }
 
 // w tables of n figures.
@@ -140,6 +142,7 @@ fn store(memory: &mut [f32], at: usize, table: &[f32])
 }
 
 // For each cell the greater of the two figures.
+// One table and four have a function each, here and below: over N tables a turn would hold a loop of its own.
 fn raise(answer: &mut [f32], table: &[f32])
     requires { length table.now ≡ length answer.old }
     ensures { answer.new ≡ raised answer.old table.now }
@@ -203,16 +206,12 @@ fn raise_ring(answer: &mut [f32], memory: &[f32], w: usize, held: usize, next: u
     requires { (next < w) × (w * length answer.old ≤ length memory.now) }
     ensures { answer.new ≡ raised_by answer.old (ring (length answer.old) w memory.now held next) }
 {
-    let mut left = held;
     let mut at = next;
-    while left > 0 {
-        if left < 4 {
-            at = raise_one_before(answer, memory, w, at);
-            left -= 1;
-        } else {
-            at = raise_four_before(answer, memory, w, at);
-            left -= 4;
-        }
+    for _ in 0..held / 4 {
+        at = raise_four_before(answer, memory, w, at);
+    }
+    for _ in 0..held % 4 {
+        at = raise_one_before(answer, memory, w, at);
     }
 }
 

@@ -216,7 +216,7 @@ impl Refusal {
         self.number
     }
 
-    /// Its name in the proofs.
+    /// Its name: that of its constant.
     pub fn name(self) -> &'static str {
         self.words().map_or("UNKNOWN", |words| words.name)
     }
