@@ -10,14 +10,14 @@ ghost use Rattle.index.specs.Answers.{index_bits, position_of, as_line, ends_of,
 use crate::{Axis, CellEnds, Ends, Line, index_position};
 use medium::Medium;
 
-// Bridge: mix, smokegrid. A point's index position on each axis, as bits; after a refusal its number, and zeros.
+// Bridge: smokegrid. A point's index position on each axis, as bits; after a refusal its number, and zeros.
 #[derive(Clone, Copy)]
 pub struct Position {
     pub number: u32,
     pub bits: [u32; 3],
 }
 
-// Bridge: mix. The ends of a box on one axis, or the fault.
+// Bridge: no crate any more. The ends of a box on one axis, or the fault.
 #[derive(Clone, Copy)]
 pub struct Range {
     pub fault: u32,
@@ -35,7 +35,7 @@ pub struct AxisEnds {
     pub second_hi: i32,
 }
 
-// Bridge: mix, smokegrid.
+// Bridge: smokegrid.
 pub fn world_to_index_f(m: Medium, x: f32, y: f32, z: f32) -> Position
     ensures { result ≡ position_of (index_bits (as_medium m) (record { x = x; y = y; z = z })) }
 {
@@ -48,7 +48,7 @@ pub fn world_to_index_f(m: Medium, x: f32, y: f32, z: f32) -> Position
     }
 }
 
-// Bridge: mix.
+// Bridge: no crate any more.
 pub fn sides(v: f32) -> Range
     ensures { ends_of result ≡ sides_of v }
 {

@@ -16,7 +16,7 @@ ghost use Rattle.medium.specs.Record.{point_of, coord_of, nine_of, cells_of, as_
 
 mod bridge;
 
-pub use bridge::{bounds_fault, index_fault, map_fault, medium_fault};
+pub use bridge::medium_fault;
 use refusals::Refusal;
 
 // Whether there is a temperature grid, and what a value of it is read by: (value - offset) * scale. Its tables stand beside.

@@ -1,23 +1,27 @@
 -- Eight voxels in one cube of 8: what is read from the spot of one of them is what each lookup reads. Assumes nothing.
+use Rattle.std.proofs.Common.{subst, w32, to_z, of_z}
+use Rattle.std.proofs.lemmas.Int.{to_z-of_z}
+use Rattle.std.specs.Int.Signed.{mag}
+use Rattle.std.specs.Prelude.{◌<◌}
 use mathlib.Core.Path.{◌≡◌, refl, sym, ap, ◌∙◌}
-use mathlib.Core.Bool.{Bool, true, false, cond, ◌&&◌}
+use mathlib.Core.Bool.{Bool, true, false, cond}
 use lib.IntN.{ℤ}
 use lib.Signed.{shr_z}
 use lib.Ieee.{Float}
-use Rattle.refusals.specs.Results.{value_or}
-use Rattle.float.specs.Zero.{+0}
 use Rattle.layout.specs.Coordinates.{Coord}
-use Rattle.sparse_grid.specs.declared.Spot.{Spot}
+use Rattle.std.specs.Prelude.{Ok, Err, Result as Answer}
+use Rattle.refusals.specs.declared.Refusal.{Refusal}
+use Rattle.sparse_grid.specs.declared.lookup.Spot.{Spot}
+use Rattle.sparse_grid.specs.declared.lookup.Spot.TheVariants.{Leaf, Value}
 use Rattle.sparse_grid.specs.Tables.{Grid}
-use Rattle.sparse_grid.specs.Lookup as lookup
-use Rattle.sparse_grid.specs.Lookup.{Found, value_in, read_in}
-use Rattle.sparse_grid.specs.Answers.{value_only, at}
-use Rattle.sparse_grid.specs.Spots.{leaves_of, answer_from, read_from, Cube}
-use Rattle.sparse_grid.proofs.SpotLaws.{from_leaves}
+use Rattle.sparse_grid.specs.Lookup.{value_in, read_in, lookup}
+use Rattle.sparse_grid.specs.Answers.{at}
+use Rattle.sparse_grid.specs.Spots.{leaves_of, Cube}
+use Rattle.sparse_grid.specs.Ends.{found_by}
 use Rattle.mix.specs.declared.point.Side.{Side}
 use Rattle.mix.specs.Mix.{lerp}
 use Rattle.mix.specs.Density.{corner_of}
-use Rattle.mix.specs.Inner.{ends_in, on_x}
+use Rattle.mix.specs.Inner.{ends_in, read_from, on_z, on_x}
 
 -- both sides lie in one cube
 abbrev pub Shares : Side → Type 0
@@ -31,14 +35,15 @@ pub corner_cube : (i j k : Side) → Shares i → Shares j → Shares k → (x y
     → Cube (corner_of (ends_in i) (ends_in j) (ends_in k) x y z) (at i.lo j.lo k.lo)
 corner_cube i j k p q r x y z = record { x = on_side i.lo i.hi p x; y = on_side j.lo j.hi q y; z = on_side k.lo k.hi r z }
 
-value_of : (f : Found) → value_or +0 (value_only f) ≡ value_in f
-value_of (lookup.value v l) = refl
-value_of (lookup.refused n) = refl
+-- from where a lookup ended, the leaves alone tell what is read
+from_leaves : (g : Grid) (s : Answer Spot Refusal) (c : Coord) → read_from (leaves_of g.leaf_values) s c ≡ read_from g s c
+from_leaves g (Ok (Leaf k)) c = refl
+from_leaves g (Ok (Value v l)) c = refl
+from_leaves g (Err e) c = refl
 
--- where a spot gives what a lookup gives, the leaves alone tell what is read
-pub as_looked_up : (g : Grid) (s : Spot) (c : Coord) → answer_from g s c ≡ value_only (lookup.lookup g c)
+pub as_looked_up : (g : Grid) (s : Answer Spot Refusal) (c : Coord) → found_by g s c ≡ lookup g c
     → read_from (leaves_of g.leaf_values) s c ≡ read_in g c
-as_looked_up g s c e = ap (value_or +0) (from_leaves g s c ∙ e) ∙ value_of (lookup.lookup g c)
+as_looked_up g s c e = from_leaves g s c ∙ ap value_in e
 
 -- two readers that agree on the eight mix alike
 pub on_same : (read other : Coord → Float) (i j k : Side)
@@ -49,6 +54,20 @@ on_same read other i j k h =
     (lerp (lerp (h true false false t) (h true false true t) k.t) (lerp (h true true false t) (h true true true t) k.t) j.t)
     i.t
 
-pub both_true : (a b : Bool) → (a && b) ≡ true → (a ≡ true) × (b ≡ true)
-both_true true b e = (refl, e)
-both_true false b e = absurd (mathlib.Core.Bool.false≢true e)
+-- a coordinate that locals hold as bits
+abbrev held : ℤ → ℤ
+held z = to_z w32 (of_z w32 z)
+
+seen : (z : ℤ) → mag z < 2147483648 → held z ≡ z
+seen z h = to_z-of_z w32 z (record { sfits = h })
+
+pub held_cube : (d : Coord) (x y z : ℤ) → mag x < 2147483648 → mag y < 2147483648 → mag z < 2147483648
+    → Cube d (at x y z) → Cube d (at (held x) (held y) (held z))
+held_cube d x y z f g h = subst (Cube d) (λ t. at (sym (seen x f) t) (sym (seen y g) t) (sym (seen z h) t))
+
+pub on_held : (read : Coord → Float) (i j k : Side) → mag i.lo < 2147483648 → mag i.hi < 2147483648 → mag j.lo < 2147483648 → mag j.hi < 2147483648
+    → lerp (lerp (on_z read (held i.lo) (held j.lo) k) (on_z read (held i.lo) (held j.hi) k) j.t)
+    (lerp (on_z read (held i.hi) (held j.lo) k) (on_z read (held i.hi) (held j.hi) k) j.t) i.t ≡ on_x read i j k
+on_held read i j k f g h l =
+    λ t. lerp (lerp (on_z read (seen i.lo f t) (seen j.lo h t) k) (on_z read (seen i.lo f t) (seen j.hi l t) k) j.t)
+    (lerp (on_z read (seen i.hi g t) (seen j.lo h t) k) (on_z read (seen i.hi g t) (seen j.hi l t) k) j.t) i.t

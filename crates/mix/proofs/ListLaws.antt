@@ -1,11 +1,11 @@
 -- A list of points: each density is what the single call answers. Assumes nothing.
-use Rattle.std.specs.Prelude.{◌≡◌, refl, List, [], ◌∷◌, ◌++◌, ℕ, zero, suc, ◌+◌, ◌*◌, ◌<◌, eqb, length, get_or, Float}
+use Rattle.std.specs.Prelude.{◌≡◌, List, [], ◌∷◌, ◌++◌, ℕ, zero, suc, ◌+◌, ◌*◌, ◌<◌, eqb, length, get_or, Float}
 use Rattle.std.proofs.Common.{sym, ap, ◌∙◌, subst, inl, inr, eq-or-lt_of_le, le_of_suc-le-suc, not-suc-le-zero, add-one, length-append}
 use Rattle.std.proofs.Math.ListN.{get_or-append}
 use Rattle.std.proofs.Math.Seq.{get_or-append_seam}
 use Rattle.refusals.specs.Results.{Result, ok, bind}
 use Rattle.refusals.specs.ResultLaws.{bind_ok, ok_injective}
-use Rattle.refusals.specs.Faults.{◌then◌, unless, passing}
+use Rattle.refusals.specs.Faults.{◌then◌, unless}
 use Rattle.refusals.specs.FaultLaws.{then_zero, passing_ok}
 use Rattle.refusals.proofs.FaultSteps.{passing_on}
 use Rattle.float.specs.Zero.{+0}

@@ -1,6 +1,6 @@
 -- The numbers of one step (1 - t) * a + t * b in binary32, in units of its smallest value: 1 is L units, an infinity begins at O units,
 -- and a and b are at most M. L and O are variables here, since `omega` stops at numbers of more than 38 digits. Assumes nothing.
-use Rattle.std.specs.Prelude.{◌≡◌, ℕ, ◌+◌, ◌-◌, ◌*◌, ◌/◌, ◌^◌, ◌≤◌, ◌<◌}
+use Rattle.std.specs.Prelude.{ℕ, ◌+◌, ◌-◌, ◌*◌, ◌/◌, ◌^◌, ◌≤◌, ◌<◌}
 use Rattle.std.proofs.Common.{sym, ap, ◌∙◌, le_trans, le_of_eq, mul_comm, mul_right_comm, mul-le-mul_right, mul-le-mul_left, le_of_mul-le-mul_right, lt_of_lt_of_le, add_comm, add-mul, arith, lit<}
 
 -- M * (1 + 2 ^ -22) + 3

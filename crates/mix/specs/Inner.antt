@@ -1,24 +1,37 @@
 -- What only the contracts of private functions cite: the voxels on either side of a position on one axis, and the mix of what is read there.
-use Rattle.std.specs.Prelude.{ℤ, Float}
-use Rattle.refusals.specs.Results.{Result, ok}
-use Rattle.refusals.specs.Faults.{passing}
+use Rattle.std.specs.Prelude.{ℤ, Float, Result as Answer}
+use Rattle.refusals.specs.Results.{Result, ok, bind}
+use Rattle.refusals.specs.declared.Refusal.{Refusal}
 use Rattle.layout.specs.Coordinates.{Coord}
+use Rattle.sparse_grid.specs.declared.lookup.Spot.{Spot}
+use Rattle.sparse_grid.specs.Tables.{Grid}
+use Rattle.sparse_grid.specs.Lookup.{value_in}
 use Rattle.sparse_grid.specs.Answers.{at}
+use Rattle.sparse_grid.specs.Ends.{found_by}
 use Rattle.index.specs.Cells.{Ends}
-use Rattle.mix.specs.declared.point.Blend.{Blend}
+use Rattle.index.specs.Sides.{sides_of}
 use Rattle.mix.specs.declared.point.Side.{Side}
-use Rattle.mix.specs.Mix.{lerp}
+use Rattle.mix.specs.Mix.{lerp, part}
 
--- the ends that the code's record stands for, or its fault
+-- the ends on an axis, and the part of the way between them
+pub record Sided : Type 0 where
+  pub ends : Ends
+  pub t : Float
+
+-- what the code's record stands for
 abbrev pub ends_in : Side → Ends
 ends_in s = record { lo = s.lo; hi = s.hi }
 
-abbrev pub sided : Side → Result Ends
-sided s = passing s.fault (ok (ends_in s))
+abbrev pub as_sided : Side → Sided
+as_sided s = record { ends = ends_in s; t = s.t }
 
--- a density, or its fault
-abbrev pub blended : Blend → Result Float
-blended b = passing b.fault (ok b.value)
+-- the sides of a position; 16 where one lies outside i32
+unfoldable pub sided_at : Float → Result Sided
+sided_at p = bind (sides_of p) (λ (e : Ends). ok (record { ends = e; t = part p }))
+
+-- what is read at a coordinate from where a lookup ended, and +0 where it was refused
+abbrev pub read_from : Grid → Answer Spot Refusal → Coord → Float
+read_from g s c = value_in (found_by g s c)
 
 -- along z at x and y, along y at x, and along x
 abbrev pub on_z : (Coord → Float) → ℤ → ℤ → Side → Float

@@ -1,12 +1,17 @@
-// The mix of eight voxels that lie in one cube of 8: one way down, and eight values from there on.
-ghost use Rattle.std.specs.Prelude.{◌≡◌, true};
+// The mix of voxels, from where their lookups ended: voxels in one cube of 8 share the way down.
+ghost use Rattle.std.specs.Prelude.{◌≡◌, true, get_or};
+ghost use Rattle.std.specs.Float.{nan};
 ghost use Rattle.std.specs.Int.Signed.{shr_z};
+ghost use Rattle.layout.specs.Record.{as_coord};
 ghost use Rattle.sparse_grid.specs.Answers.{at};
-ghost use Rattle.sparse_grid.specs.Spots.{leaves_of, read_from};
-ghost use Rattle.mix.specs.Inner.{on_z, on_y, on_x};
+ghost use Rattle.sparse_grid.specs.Spots.{leaves_of};
+ghost use Rattle.mix.specs.Mix.{lerp as lerp_s};
+ghost use Rattle.mix.specs.Inner.{read_from};
 
 use crate::point::{Side, lerp};
-use sparse_grid::{Answer, Spot, read_spot};
+use layout::Coordinate;
+use refusals::Refusal;
+use sparse_grid::lookup::Spot;
 
 // The number of the cube of 8 that a coordinate lies in.
 fn cube_of(c: i32) -> i32
@@ -22,39 +27,41 @@ pub(crate) fn shares(a: Side) -> bool
     cube_of(a.lo) == cube_of(a.hi)
 }
 
-// What is read at a coordinate from a spot on, and +0.0 where the lookup is refused.
-pub(crate) fn read(leaf_values: &[f32], spot: Spot, x: i32, y: i32, z: i32) -> f32
-    ensures { result ≡ read_from (leaves_of leaf_values.now) spot (at x y z) }
+// What is read at a coordinate from where a lookup ended, and +0.0 where it is refused.
+fn read(leaf_values: &[f32], spot: Result<Spot, Refusal>, c: Coordinate) -> f32
+    ensures { result ≡ read_from (leaves_of leaf_values.now) spot (as_coord c) }
 {
-    match read_spot(leaf_values, spot, x, y, z) {
-        Answer::Value(v) => v,
-        Answer::Refused(_) => 0.0,
+    match spot {
+        Ok(spot) => match spot.read(leaf_values, c) {
+            Ok(reading) => reading.value,
+            Err(_) => 0.0,
+        },
+        Err(_) => 0.0,
     }
 }
 
-// Along z, at x and y.
-pub(crate) fn cube_z(leaf_values: &[f32], spot: Spot, x: i32, y: i32, k: Side) -> f32
-    ensures { result ≡ on_z (read_from (leaves_of leaf_values.now) spot) x y k }
+// The mix along z, at x and y, from where the lookups of its two voxels ended.
+pub(crate) fn along_z(
+    leaf_values: &[f32],
+    low: Result<Spot, Refusal>,
+    high: Result<Spot, Refusal>,
+    x: i32,
+    y: i32,
+    k: Side,
+) -> f32
+    ensures { let g = leaves_of leaf_values.now in
+        result ≡ lerp_s (read_from g low (at x y k.lo)) (read_from g high (at x y k.hi)) k.t }
 {
-    let a = read(leaf_values, spot, x, y, k.lo);
-    let b = read(leaf_values, spot, x, y, k.hi);
+    let a = read(leaf_values, low, Coordinate { x, y, z: k.lo });
+    let b = read(leaf_values, high, Coordinate { x, y, z: k.hi });
     lerp(a, b, k.t)
 }
 
-// Along z and y, at x.
-fn cube_y(leaf_values: &[f32], spot: Spot, x: i32, j: Side, k: Side) -> f32
-    ensures { result ≡ on_y (read_from (leaves_of leaf_values.now) spot) x j k }
+// The mix along y and x of four mixes along z: those at the lower x come first, of each two that at the lower y.
+pub(crate) fn across(along: [f32; 4], i: Side, j: Side) -> f32
+    ensures { result ≡ lerp_s (lerp_s (get_or along 0 nan) (get_or along 1 nan) j.t) (lerp_s (get_or along 2 nan) (get_or along 3 nan) j.t) i.t }
 {
-    let a = cube_z(leaf_values, spot, x, j.lo, k);
-    let b = cube_z(leaf_values, spot, x, j.hi, k);
-    lerp(a, b, j.t)
-}
-
-// Along z, y and x.
-pub(crate) fn cube_x(leaf_values: &[f32], spot: Spot, i: Side, j: Side, k: Side) -> f32
-    ensures { result ≡ on_x (read_from (leaves_of leaf_values.now) spot) i j k }
-{
-    let a = cube_y(leaf_values, spot, i.lo, j, k);
-    let b = cube_y(leaf_values, spot, i.hi, j, k);
+    let a = lerp(along[0], along[1], j.t);
+    let b = lerp(along[2], along[3], j.t);
     lerp(a, b, i.t)
 }

@@ -1,141 +1,56 @@
-// The densities of a list of points, over the lent tables of a grid and a medium that passed their checks.
-ghost use Rattle.std.specs.Prelude.{◌≡◌, ◌+◌, ◌*◌, ◌≤◌, eqb, length};
+// The densities of a list of points, over a grid and a medium that passed their checks.
+ghost use Rattle.std.specs.Prelude.{◌≡◌, ◌*◌, eqb, length};
+ghost use Rattle.refusals.specs.Numbers.{fault_of};
 ghost use Rattle.refusals.specs.Results.{ok};
 ghost use Rattle.refusals.specs.Faults.{◌then◌, unless, passing};
-ghost use Rattle.sparse_grid.specs.Tables.{grid_of};
 ghost use Rattle.sparse_grid.specs.Lookup.{read_in};
+ghost use Rattle.sparse_grid.specs.Record.{as_grid};
 ghost use Rattle.medium.specs.Medium.{map_fault};
 ghost use Rattle.medium.specs.Record.{as_medium};
-ghost use Rattle.mix.specs.Density.{density_by, mix_fault, point_at, densities_of};
-ghost use Rattle.mix.specs.Inner.{blended};
+ghost use Rattle.mix.specs.Density.{density_by, mix_fault, densities_of, densities_into};
 
-use crate::mix_fault;
-use crate::point::{Blend, density};
+use crate::check;
+use crate::point::density;
 use medium::Medium;
+use refusals::Refusal;
+use sparse_grid::Grid;
 
 // 18 for a list that is not three numbers to a place, then the grid and the medium. Three times the places may pass 2^64, so the
 // numbers are divided.
-pub(crate) fn list_fault(
-    background: f32,
-    blocks: &[i32],
-    root_links: &[u32],
-    root_values: &[f32],
-    upper_links: &[u32],
-    upper_values: &[f32],
-    lower_links: &[u32],
-    lower_values: &[f32],
-    leaf_values: &[f32],
-    m: Medium,
-    numbers: usize,
-    places: usize,
-) -> u32
-    ensures { let g = grid_of background blocks.now root_links.now root_values.now
-        upper_links.now upper_values.now lower_links.now lower_values.now
-        leaf_values.now in
-        result ≡ (unless (eqb numbers (3 * places)) 18 then mix_fault g (as_medium m)) }
+fn check_list(grid: &Grid, m: &Medium, numbers: usize, places: usize) -> Result<(), Refusal>
+    ensures { fault_of result ≡ (unless (eqb numbers (3 * places)) 18 then mix_fault (as_grid grid.now) (as_medium m.now)) }
 {
-    if numbers % 3 != 0 {
-        return refusals::TABLES;
+    if numbers % 3 != 0 || numbers / 3 != places {
+        return Err(Refusal::Tables);
     }
-    if numbers / 3 != places {
-        return refusals::TABLES;
-    }
-    mix_fault(
-        background,
-        blocks,
-        root_links,
-        root_values,
-        upper_links,
-        upper_values,
-        lower_links,
-        lower_values,
-        leaf_values,
-        m,
-    )
+    check(grid, m)
 }
 
-// The density at point i.
-fn density_at(
-    background: f32,
-    blocks: &[i32],
-    root_links: &[u32],
-    root_values: &[f32],
-    upper_links: &[u32],
-    upper_values: &[f32],
-    lower_links: &[u32],
-    lower_values: &[f32],
-    leaf_values: &[f32],
-    m: Medium,
-    points: &[f32],
-    i: usize,
-) -> Blend
-    requires { (map_fault (as_medium m) ≡ 0) × (3 * i + 3 ≤ length points.now) }
-    ensures { let g = grid_of background blocks.now root_links.now root_values.now
-        upper_links.now upper_values.now lower_links.now lower_values.now
-        leaf_values.now in
-        blended result ≡ density_by (read_in g) (as_medium m) (point_at points.now i) }
+// Writes the density at each point, or answers the refusal of the first that has one.
+fn densities(grid: &Grid, m: &Medium, points: &[f32], values: &mut [f32]) -> Result<(), Refusal>
+    requires map { map_fault (as_medium m.now) ≡ 0 }
+    requires places { length points.now ≡ 3 * length values.old }
+    ensures { passing (fault_of result) (ok values.new)
+        ≡ densities_of (density_by (read_in (as_grid grid.now)) (as_medium m.now)) points.now (length values.old) }
 {
-    let at = 3 * i;
-    density(
-        background,
-        blocks,
-        root_links,
-        root_values,
-        upper_links,
-        upper_values,
-        lower_links,
-        lower_values,
-        leaf_values,
-        m,
-        points[at],
-        points[at + 1],
-        points[at + 2],
-    )
+    for i in 0..values.len() {
+        let at = 3 * i;
+        values[i] = density(grid, m, [points[at], points[at + 1], points[at + 2]])?;
+    }
+    Ok(())
 }
 
-// Writes the density at each point and answers 0, or answers the number of the first that is refused.
-pub(crate) fn densities(
-    background: f32,
-    blocks: &[i32],
-    root_links: &[u32],
-    root_values: &[f32],
-    upper_links: &[u32],
-    upper_values: &[f32],
-    lower_links: &[u32],
-    lower_values: &[f32],
-    leaf_values: &[f32],
-    m: Medium,
+// The tests of the list, the grid and the medium, and then the densities.
+#[tactic(auto, using(crate::proofs::Laws::list_passed, crate::proofs::Laws::list_stops), unfolding(crate::specs::Density::densities_into))]
+pub(crate) fn fill(
+    grid: &Grid,
+    m: &Medium,
     points: &[f32],
     values: &mut [f32],
-) -> u32
-    requires { (map_fault (as_medium m) ≡ 0) × (length points.now ≡ 3 * length values.old) }
-    ensures { let g = grid_of background blocks.now root_links.now root_values.now
-        upper_links.now upper_values.now lower_links.now lower_values.now
-        leaf_values.now in
-        passing result (ok values.new)
-        ≡ densities_of (density_by (read_in g) (as_medium m)) points.now (length values.old) }
+) -> Result<(), Refusal>
+    ensures { passing (fault_of result) (ok values.new)
+        ≡ densities_into (as_grid grid.now) (as_medium m.now) points.now (length values.old) }
 {
-    let mut i: usize = 0;
-    while i < values.len() {
-        let d = density_at(
-            background,
-            blocks,
-            root_links,
-            root_values,
-            upper_links,
-            upper_values,
-            lower_links,
-            lower_values,
-            leaf_values,
-            m,
-            points,
-            i,
-        );
-        if d.fault != 0 {
-            return d.fault;
-        }
-        values[i] = d.value;
-        i += 1;
-    }
-    0
+    check_list(grid, m, points.len(), values.len())?;
+    densities(grid, m, points, values)
 }

@@ -57,14 +57,14 @@ pub fn fault(test: Result<(), Refusal>) -> u32
     }
 }
 
-// Bridge: majorant, mix, temperature.
+// Bridge: majorant, temperature.
 pub fn first_fault(a: u32, b: u32) -> u32
     ensures { result ≡ (a then b) }
 {
     if a == 0 { b } else { a }
 }
 
-// Bridge: majorant, mix, smokegrid, temperature.
+// Bridge: majorant, smokegrid.
 pub fn both(a: bool, b: bool) -> bool
     ensures { result ≡ (a && b) }
 {
@@ -74,14 +74,8 @@ pub fn both(a: bool, b: bool) -> bool
 // Bridge: majorant.
 pub const SECOND_BOX: u32 = Refusal::SecondBox as u32;
 
-// Bridge: majorant, mix, smokegrid.
+// Bridge: majorant, smokegrid.
 pub const TABLES: u32 = Refusal::Tables as u32;
-
-// Bridge: mix.
-pub const OUTSIDE: u32 = Refusal::Outside as u32;
 
 // Bridge: majorant.
 pub const CLASSES: u32 = Refusal::Classes as u32;
-
-// Bridge: temperature.
-pub const TEMPERATURE: u32 = Refusal::Temperature as u32;

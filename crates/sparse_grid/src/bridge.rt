@@ -60,7 +60,7 @@ fn answer_of(read: Result<f32, Refusal>) -> Answer
     }
 }
 
-// Bridge: decode, majorant, smokegrid.
+// Bridge: majorant, smokegrid.
 pub fn validate(
     background: f32,
     blocks: &[i32],
@@ -91,7 +91,7 @@ pub fn validate(
     refusals::fault(grid.validate())
 }
 
-// Bridge: decode.
+// Bridge: no crate any more.
 pub fn density_fault(
     background: f32,
     root_values: &[f32],
@@ -117,7 +117,7 @@ pub fn density_fault(
     refusals::fault(grid.check_density())
 }
 
-// Bridge: majorant, mix, smokegrid.
+// Bridge: majorant, smokegrid.
 pub fn validate_density(
     background: f32,
     blocks: &[i32],
@@ -185,7 +185,7 @@ pub fn get_reading(
     }
 }
 
-// Bridge: mix, temperature.
+// Bridge: no crate any more.
 pub fn get_spot(
     background: f32,
     blocks: &[i32],
@@ -235,7 +235,7 @@ pub fn get_spot(
     }
 }
 
-// Bridge: mix, temperature.
+// Bridge: no crate any more.
 pub fn read_spot(leaf_values: &[f32], spot: Spot, x: i32, y: i32, z: i32) -> Answer
     ensures { answer result ≡ said +0 (answer_from (leaves_of leaf_values.now) spot (at x y z)) }
 {

@@ -60,7 +60,7 @@ pub fn lifted(block: i32) -> u32
     biased(block).wrapping_add(2148007936)
 }
 
-// Bridge: claim, majorant, mix, smokegrid, temperature. It and the two below stand here, since definitions and proofs above name them by this path.
+// Bridge: claim, majorant, smokegrid, temperature. It and the two below stand here, since definitions and proofs above name them by this path.
 #[derive(Clone, Copy)]
 pub enum Answer {
     Value(f32),
@@ -74,7 +74,7 @@ pub enum Reading {
     Refused(u32),
 }
 
-// Bridge: mix, temperature. The number of a refusal is not 0.
+// Bridge: no crate any more. The number of a refusal is not 0.
 #[derive(Clone, Copy)]
 pub struct Spot {
     pub number: u32,

@@ -7,10 +7,10 @@ use Rattle.float.specs.Zero.{+0}
 use Rattle.float.specs.Fused.{narrow}
 use Rattle.layout.specs.Bytes.{le, signed}
 use Rattle.layout.specs.Coordinates.{Coord}
-use Rattle.layout.proofs.Sample.{field, written, sample, sample_with}
+use Rattle.layout.proofs.Sample.{field, written, sample_with}
 use Rattle.sparse_grid.specs.Tables.{Grid, grid_of}
 use Rattle.sparse_grid.specs.Validate.{validate, density_fault, pair_fault}
-use Rattle.sparse_grid.specs.Lookup.{roots_from, lookup}
+use Rattle.sparse_grid.specs.Lookup.{lookup}
 use Rattle.sparse_grid.specs.Answers.{at}
 use Rattle.medium.specs.Medium.{bounds_fault, index_fault, map_fault}
 use Rattle.nanovdb.specs.Decode.{decode_scalar, decode_density}

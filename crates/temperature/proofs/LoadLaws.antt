@@ -9,8 +9,8 @@ use Rattle.std.specs.Float.Ieee.Scale.{finite}
 use Rattle.refusals.specs.Results.{Result, ok, refused, number_of, bind}
 use Rattle.refusals.specs.Faults.{◌then◌, unless, passing}
 use Rattle.refusals.specs.FaultLaws.{passing_ok}
-use Rattle.refusals.proofs.FaultSteps.{then_next, then_stop, passing_stop, passing_on}
-use Rattle.refusals.specs.ResultLaws.{ok_injective, bind_ok}
+use Rattle.refusals.proofs.FaultSteps.{then_stop, passing_stop, passing_on}
+use Rattle.refusals.specs.ResultLaws.{bind_ok}
 use Rattle.layout.specs.Bytes.{Bytes}
 use Rattle.layout.specs.Coordinates.{Coord, Signed32}
 use Rattle.sparse_grid.specs.Tables.{Grid}
@@ -18,12 +18,12 @@ use Rattle.sparse_grid.specs.Lookup.{Found, lookup}
 use Rattle.sparse_grid.specs.Answers.{value_only}
 use Rattle.medium.specs.Medium.{Temperature}
 use Rattle.nanovdb.specs.Decode.{Accepted, decode_scalar}
-use Rattle.nanovdb.specs.Lent.{Lent, Answer, Tables, places_of, decode_into, answer_of, left_of, filled, used_of}
+use Rattle.nanovdb.specs.Lent.{Lent, places_of, decode_into, answer_of, left_of, filled}
 use Rattle.nanovdb.proofs.Lookups.{scalar_reads}
 use Rattle.nanovdb.proofs.Numbers.{Numbered, scalar_numbered, not_zero, scalar_never_15}
 use Rattle.nanovdb.proofs.UsedLaws.{scalar_accepts, scalar_parts, scalar_room}
 use Rattle.temperature.specs.Temperature.{heated, heat_fault, load_into, read_by, temperature_at}
-use Rattle.temperature.specs.Answers.{Loaded, loaded_of, counts_in, heat_of}
+use Rattle.temperature.specs.Answers.{Loaded, loaded_of, heat_of}
 use Rattle.temperature.specs.ThroughLoad.{heat_in, HandedHeat, ThroughLoad}
 use Rattle.temperature.specs.declared.Heat.{Heat}
 

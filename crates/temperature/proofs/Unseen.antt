@@ -1,23 +1,22 @@
 -- Nothing that comes of the density grid sees the temperature: records that differ in it alone give equal tables, rays, positions and mixes. Assumes nothing.
 use Rattle.std.specs.Prelude.{ℕ, zero, suc, ◌≡◌, refl, List, [], ◌∷◌, ◌++◌, Float}
 use Rattle.std.proofs.Common.{sym, ap, ◌∙◌}
-use Rattle.refusals.specs.Results.{Result, ok, bind}
+use Rattle.refusals.specs.Results.{ok, bind}
 use Rattle.refusals.specs.Faults.{◌then◌, passing}
 use Rattle.sparse_grid.specs.Tables.{Grid}
 use Rattle.sparse_grid.specs.Validate.{validate, density_fault}
 use Rattle.sparse_grid.specs.Lookup.{read_in}
 use Rattle.cells.specs.Cells.{Cells, cell_count, table_fault}
-use Rattle.medium.specs.Medium.{Point, Medium, Axis, make_medium, bounds_fault, index_fault, map_fault, medium_fault}
+use Rattle.medium.specs.Medium.{Point, Medium, Axis, bounds_fault, index_fault, map_fault, medium_fault}
 use Rattle.index.specs.Index.{world_to_index, majorant_index}
-use Rattle.index.specs.Cells.{corner, Ends, first_ends, second_ends}
+use Rattle.index.specs.Cells.{corner, first_ends, second_ends}
 use Rattle.index.specs.Answers.{index_bits}
-use Rattle.rays.specs.Ray.{State}
 use Rattle.rays.specs.Open.{Beam, open_ray}
 use Rattle.mix.specs.Density.{density_at, density_by, mix_between}
 use Rattle.boxes.specs.Boxes.{Box, box_maximum}
-use Rattle.majorant.specs.Figures.{box_of, figure, figures}
+use Rattle.majorant.specs.Figures.{figure, figures}
 use Rattle.majorant.specs.Build.{build, build_into}
-use Rattle.temperature.specs.Unseen.{bare, OfTheRest, ButTemperature}
+use Rattle.temperature.specs.Unseen.{OfTheRest, ButTemperature}
 
 -- such a function does not tell them apart
 pub unseen : {A : Type 0} (f : Medium → A) → OfTheRest f → (m n : Medium) → ButTemperature m n → f m ≡ f n

@@ -1,5 +1,5 @@
 -- A temperature grid beside a density grid: its load, and a reading of it.
-use Rattle.std.specs.Prelude.{ℕ, List, Bool, true, ◌&&◌, cond, Float}
+use Rattle.std.specs.Prelude.{ℕ, List, true, ◌&&◌, cond, Float}
 use Rattle.std.specs.Float.{binary32}
 use Rattle.std.specs.Float.Ieee.{sub, mul, to_bits}
 use Rattle.std.specs.Float.Ieee.Scale.{finite}

@@ -4,19 +4,23 @@
 ghost use Rattle.std.specs.Prelude.{◌≡◌};
 ghost use Rattle.refusals.specs.Results.{refused as refused_s};
 ghost use Rattle.sparse_grid.specs.Tables.{grid_of};
-ghost use Rattle.sparse_grid.specs.Answers.{outcome, at};
+ghost use Rattle.refusals.specs.Numbers.{fault_of, said_by};
+ghost use Rattle.layout.specs.Record.{as_coord};
+ghost use Rattle.sparse_grid.specs.Answers.{at};
+ghost use Rattle.sparse_grid.specs.Record.{as_grid};
 ghost use Rattle.medium.specs.Medium.{no_temperature};
 ghost use Rattle.medium.specs.Record.{as_temperature};
 ghost use Rattle.nanovdb.specs.Lent.{tables, lengths, left_of};
 ghost use Rattle.decode.specs.Answers.{answer};
-ghost use Rattle.temperature.specs.Temperature.{heated, heat_fault, load_into, read_by, temperature_at};
+ghost use Rattle.temperature.specs.Temperature.{heated, heat_fault, load_into, temperature_at};
 ghost use Rattle.temperature.specs.Answers.{as_loaded, loaded_of, loaded_by, heat_of};
 
 use decode::{Decoded, clear, decode_scalar_grid};
 use float::{bits_of, is_finite};
+use layout::Coordinate;
 use medium::Temperature;
-use refusals::{both, first_fault};
-use sparse_grid::{Answer, get_spot, read_spot};
+use refusals::{Refusal, first_fault};
+use sparse_grid::{Entries, Grid};
 
 // The number of the refusal (0 where there is a grid), how many roots and nodes are used, the background, and the temperature
 // that a medium record gains; none after a refusal.
@@ -39,14 +43,21 @@ pub struct Heat {
 }
 
 // 27 where the offset or the scale is not finite.
+fn check_heat(t: Temperature) -> Result<(), Refusal>
+    ensures { fault_of result ≡ heat_fault (as_temperature t) }
+{
+    if is_finite(t.offset) && is_finite(t.scale) {
+        Ok(())
+    } else {
+        Err(Refusal::Temperature)
+    }
+}
+
+// Its number, beside the decode's, which is one still.
 fn heat_fault(t: Temperature) -> u32
     ensures { result ≡ heat_fault (as_temperature t) }
 {
-    if both(is_finite(t.offset), is_finite(t.scale)) {
-        0
-    } else {
-        refusals::TEMPERATURE
-    }
+    refusals::fault(check_heat(t))
 }
 
 // What a refused load answers.
@@ -59,7 +70,7 @@ fn refused(number: u32) -> Loaded
         scale: 0.0,
     };
     Loaded {
-        number: number,
+        number,
         roots: 0,
         upper: 0,
         lower: 0,
@@ -122,8 +133,8 @@ pub fn load_temperature(
     );
     let t = Temperature {
         present: true,
-        offset: offset,
-        scale: scale,
+        offset,
+        scale,
     };
     let fault = first_fault(d.number, heat_fault(t));
     if fault != 0 {
@@ -143,23 +154,21 @@ pub fn load_temperature(
     accepted(d, t)
 }
 
-// What stands at a coordinate, as a temperature.
-fn heat_of(t: Temperature, found: Answer) -> Heat
-    ensures { result ≡ heat_of (read_by (as_temperature t) (outcome found)) }
+// The temperature at a coordinate of the temperature grid, as bits: 0 without one, whatever else is handed over; 27 first, then the
+// lookup's 18 and 11.
+#[tactic(auto, unfolding(crate::specs::Temperature::temperature_at))]
+pub fn heat_at(t: Temperature, grid: &Grid, coordinate: Coordinate) -> Result<u32, Refusal>
+    ensures { said_by result ≡ temperature_at (as_temperature t) (as_grid grid.now) (as_coord coordinate) }
 {
-    match found {
-        Answer::Refused(number) => Heat {
-            number: number,
-            bits: 0,
-        },
-        Answer::Value(v) => Heat {
-            number: 0,
-            bits: bits_of((v - t.offset) * t.scale),
-        },
+    if !t.present {
+        return Ok(0);
     }
+    check_heat(t)?;
+    let v = grid.value(coordinate)?;
+    Ok(bits_of((v - t.offset) * t.scale))
 }
 
-// The temperature at a coordinate of the temperature grid: 0 without one, whatever else is handed over; 27 first, then the lookup's 18 and 11.
+// Bridge: smokegrid.
 pub fn temperature_at(
     t: Temperature,
     background: f32,
@@ -180,28 +189,28 @@ pub fn temperature_at(
         leaf_values.now in
         result ≡ heat_of (temperature_at (as_temperature t) g (at x y z)) }
 {
-    if !t.present {
-        return Heat { number: 0, bits: 0 };
-    }
-    let fault = heat_fault(t);
-    if fault != 0 {
-        return Heat {
-            number: fault,
-            bits: 0,
-        };
-    }
-    let spot = get_spot(
+    let grid = Grid {
         background,
         blocks,
-        root_links,
-        root_values,
-        upper_links,
-        upper_values,
-        lower_links,
-        lower_values,
-        x,
-        y,
-        z,
-    );
-    heat_of(t, read_spot(leaf_values, spot, x, y, z))
+        roots: Entries {
+            links: root_links,
+            values: root_values,
+        },
+        upper: Entries {
+            links: upper_links,
+            values: upper_values,
+        },
+        lower: Entries {
+            links: lower_links,
+            values: lower_values,
+        },
+        leaf_values,
+    };
+    match heat_at(t, &grid, Coordinate { x, y, z }) {
+        Ok(bits) => Heat { number: 0, bits },
+        Err(e) => Heat {
+            number: e.number(),
+            bits: 0,
+        },
+    }
 }

@@ -1,9 +1,8 @@
 -- `temperature::load_temperature` meets its contract: the scalar decode, and zeros again where 27 comes after it. Assumes nothing.
 use mathlib.Core.Path.{◌≡◌, ap, ◌∙◌}
-use lib.Ieee.{Float}
 use borrow.Author.Rules.{rules}
 use Rattle.medium.specs.Medium.{Temperature}
-use Rattle.nanovdb.specs.Lent.{Lent, Tables, tables, lengths, zeros}
+use Rattle.nanovdb.specs.Lent.{Tables, tables, lengths, zeros}
 use Rattle.nanovdb.proofs.Kept.{Kept, kept_on, same}
 use Rattle.temperature.specs.Temperature.{heated}
 use Rattle.temperature.proofs.Answered.{load_refused, left_refused, load_accepted, left_accepted}
