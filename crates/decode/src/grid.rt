@@ -78,7 +78,11 @@ fn check_grid(
     grid.validate()?;
     m.check_map()?;
     m.check_index()?;
-    if density { grid.check_density() } else { Ok(()) }
+    if density {
+        grid.check_density()
+    } else {
+        Ok(())
+    }
 }
 
 // Reads a grid into tables of zeros, and a table of leaves that holds anything: the tree, once every test has passed.

@@ -245,7 +245,14 @@ fn open(
         places ≡ places_of level t → Fit (length bytes.now) before st → OpenOut level bytes.now source before st after result }
 {
     let k = count_of(level, st);
-    match spans::enter(bytes.len() as u64, work, st.spans, source as u64, level, k as u32)? {
+    match spans::enter(
+        bytes.len() as u64,
+        work,
+        st.spans,
+        source as u64,
+        level,
+        k as u32,
+    )? {
         Entered::Again(n) => Ok(Opened::Again(n)),
         Entered::Fresh(next) => {
             if places <= k {

@@ -27,7 +27,7 @@ read_tree-requires c =
     let a = c.args in
     let lent = tables a.blocks.now a.rl.now a.rv.now a.ul.now a.uv.now a.ll.now a.lv.now a.leaves.now a.work.now in
     let begun : Begun a.bytes.now lent =
-            record { paired = paired lent c.in_ok-check_lent.ensures; passed = sym c.in_ok-check_bytes.ensures; zeroed = c.requires } in
+    record { paired = paired lent c.in_ok-check_lent.ensures; passed = sym c.in_ok-check_bytes.ensures; zeroed = c.requires } in
     tree-asks begun
 
 pub returns-in_err-x : goal.returns-in_err-x
@@ -35,7 +35,7 @@ returns-in_err-x c =
     let a = c.args in
     let lent = tables a.blocks.now a.rl.now a.rv.now a.ul.now a.uv.now a.ll.now a.lv.now a.leaves.now a.work.now in
     let begun : Begun a.bytes.now lent =
-            record { paired = paired lent c.in_ok-check_lent.ensures; passed = sym c.in_ok-check_bytes.ensures; zeroed = c.requires } in
+    record { paired = paired lent c.in_ok-check_lent.ensures; passed = sym c.in_ok-check_bytes.ensures; zeroed = c.requires } in
     let n = c.read_tree.new in
     let filled = tables n.blocks n.rl n.rv n.ul n.uv n.ll n.lv n.leaves n.work in
     let k = c.read_tree.auto in
@@ -59,7 +59,7 @@ check_grid-requires c =
     let a = c.args in
     let lent = tables a.blocks.now a.rl.now a.rv.now a.ul.now a.uv.now a.ll.now a.lv.now a.leaves.now a.work.now in
     let begun : Begun a.bytes.now lent =
-            record { paired = paired lent c.in_ok-check_lent.ensures; passed = sym c.in_ok-check_bytes.ensures; zeroed = c.requires } in
+    record { paired = paired lent c.in_ok-check_lent.ensures; passed = sym c.in_ok-check_bytes.ensures; zeroed = c.requires } in
     let n = c.read_tree.new in
     let filled = tables n.blocks n.rl n.rv n.ul n.uv n.ll n.lv n.leaves n.work in
     let k = c.read_tree.auto in
@@ -82,7 +82,7 @@ returns-in_err-check_grid c =
     let a = c.args in
     let lent = tables a.blocks.now a.rl.now a.rv.now a.ul.now a.uv.now a.ll.now a.lv.now a.leaves.now a.work.now in
     let begun : Begun a.bytes.now lent =
-            record { paired = paired lent c.in_ok-check_lent.ensures; passed = sym c.in_ok-check_bytes.ensures; zeroed = c.requires } in
+    record { paired = paired lent c.in_ok-check_lent.ensures; passed = sym c.in_ok-check_bytes.ensures; zeroed = c.requires } in
     let n = c.read_tree.new in
     let filled = tables n.blocks n.rl n.rv n.ul n.uv n.ll n.lv n.leaves n.work in
     let k = c.read_tree.auto in
@@ -106,7 +106,7 @@ returns c =
     let a = c.args in
     let lent = tables a.blocks.now a.rl.now a.rv.now a.ul.now a.uv.now a.ll.now a.lv.now a.leaves.now a.work.now in
     let begun : Begun a.bytes.now lent =
-            record { paired = paired lent c.in_ok-check_lent.ensures; passed = sym c.in_ok-check_bytes.ensures; zeroed = c.requires } in
+    record { paired = paired lent c.in_ok-check_lent.ensures; passed = sym c.in_ok-check_bytes.ensures; zeroed = c.requires } in
     let n = c.read_tree.new in
     let filled = tables n.blocks n.rl n.rv n.ul n.uv n.ll n.lv n.leaves n.work in
     let k = c.read_tree.auto in

@@ -35,7 +35,7 @@ leaf-requires t c =
     let a = c.args in
     let lent = tabs a.work.now a.ul.now a.uv.now a.ll.now a.lv.now a.leaves.now in
     let new = opened a.level a.bytes.now a.source lent a.st (with_work lent c.open.new.work) c.in-Fresh.is
-            (c.in_ok-number.ensures lent c.places_of-places.ensures c.requires.2) in
+    (c.in_ok-number.ensures lent c.places_of-places.ensures c.requires.2) in
     (leaf_inside a.level a.source c.if-level-eq0.true new.whole, leaf-place new c.if-level-eq0.true)
 
 pub returns-then-level-eq0 : goal.returns-then-level-eq0
@@ -43,7 +43,7 @@ returns-then-level-eq0 t c =
     let a = c.args in
     let lent = tabs a.work.now a.ul.now a.uv.now a.ll.now a.lv.now a.leaves.now in
     let new = opened a.level a.bytes.now a.source lent a.st (with_work lent c.open.new.work) c.in-Fresh.is
-            (c.in_ok-number.ensures lent c.places_of-places.ensures c.requires.2) in
+    (c.in_ok-number.ensures lent c.places_of-places.ensures c.requires.2) in
     out-leaf new c.if-level-eq0.true c.leaf.ensures
 
 pub loop-o-init : goal.loop-o-init
@@ -51,7 +51,7 @@ loop-o-init t c =
     let a = c.args in
     let lent = tabs a.work.now a.ul.now a.uv.now a.ll.now a.lv.now a.leaves.now in
     let new = opened a.level a.bytes.now a.source lent a.st (with_work lent c.open.new.work) c.in-Fresh.is
-            (c.in_ok-number.ensures lent c.places_of-places.ensures c.requires.2) in
+    (c.in_ok-number.ensures lent c.places_of-places.ensures c.requires.2) in
     record { node = record { new = new; above = pos_of_ne-zero c.if-level-eq0.false; three = c.requires.1 }; turn = turn_begins new.fit }
 
 pub next_child-j-requires : goal.next_child-j-requires

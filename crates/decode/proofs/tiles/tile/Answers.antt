@@ -10,7 +10,7 @@ use Rattle.decode.proofs.tiles.tile.Goals as goal
 pub returns-then-relative-eq0 : goal.returns-then-relative-eq0
 returns-then-relative-eq0 c =
     let keyed : Keyed c.args.bytes.now c.args.root c.args.i c.u64_at-key.result =
-            record { is = c.u64_at-key.ensures; passes = sym c.key_passes.ensures ∙ c.if-not-key_passes.false } in
+    record { is = c.u64_at-key.ensures; passes = sym c.key_passes.ensures ∙ c.if-not-key_passes.false } in
     tile_out_value keyed c.requires.6 c.u64_at-relative.ensures c.if-relative-eq0.true c.f32_at.ensures c.put_root.ensures
 
 pub returns : goal.returns

@@ -29,7 +29,7 @@ returns-in_err-now c =
     let a = c.args in
     let n = c.tile.new in
     subst (TilesOut a.bytes.now a.root a.count (tabs a.work.now a.ul.now a.uv.now a.ll.now a.lv.now a.leaves.now)
-      (root_tabs a.blocks.now a.rl.now a.rv.now) a.st (tabs n.work n.ul n.uv n.ll n.lv n.leaves) (root_tabs n.blocks n.rl n.rv))
+    (root_tabs a.blocks.now a.rl.now a.rv.now) a.st (tabs n.work n.ul n.uv n.ll n.lv n.leaves) (root_tabs n.blocks n.rl n.rv))
     (sym (exit_is c.from_residual.result _ c.from_residual.ensures.1)) (tiles_stop c.loop-i.invariant c.loop-i-test.true c.in_err-now.ensures)
 
 pub loop-i-preserved : goal.loop-i-preserved

@@ -22,9 +22,9 @@ returns-in_err-spans c =
     let a = c.args in
     let lent = tabs a.work.now a.ul.now a.uv.now a.ll.now a.lv.now a.leaves.now in
     let asked = asks lent c.begin.new.work (Err _) c.if-n-lt736.false c.if-work-lt4.false c.u64_at-offset.ensures c.if-n-offset.false
-            c.u32_at-count.ensures c.in_err-spans.ensures in
+    c.u32_at-count.ensures c.in_err-spans.ensures in
     subst (TreeOut a.bytes.now lent (root_tabs a.blocks.now a.rl.now a.rv.now)
-      (tabs c.begin.new.work a.ul.now a.uv.now a.ll.now a.lv.now a.leaves.now) (root_tabs a.blocks.now a.rl.now a.rv.now))
+    (tabs c.begin.new.work a.ul.now a.uv.now a.ll.now a.lv.now a.leaves.now) (root_tabs a.blocks.now a.rl.now a.rv.now))
     (sym (exit_is c.from_residual.result _ c.from_residual.ensures.1)) (out-root asked)
 
 pub returns-then-rl-count : goal.returns-then-rl-count
@@ -32,7 +32,7 @@ returns-then-rl-count c =
     let a = c.args in
     let lent = tabs a.work.now a.ul.now a.uv.now a.ll.now a.lv.now a.leaves.now in
     let asked = asks lent c.begin.new.work (Ok c.in_ok-spans.spans) c.if-n-lt736.false c.if-work-lt4.false c.u64_at-offset.ensures c.if-n-offset.false
-            c.u32_at-count.ensures c.in_ok-spans.ensures in
+    c.u32_at-count.ensures c.in_ok-spans.ensures in
     out-many asked c.if-rl-count.true
 
 pub tiles-requires : goal.tiles-requires
@@ -41,7 +41,7 @@ tiles-requires c =
     let a = c.args in
     let lent = tabs a.work.now a.ul.now a.uv.now a.ll.now a.lv.now a.leaves.now in
     let asked = asks lent c.begin.new.work (Ok c.in_ok-spans.spans) c.if-n-lt736.false c.if-work-lt4.false c.u64_at-offset.ensures c.if-n-offset.false
-            c.u32_at-count.ensures c.in_ok-spans.ensures in
+    c.u32_at-count.ensures c.in_ok-spans.ensures in
     (short, omega (arith, c.if-n-offset.false, short), omega (arith, c.u32_at-count.type_inv), blocks, c.if-rl-count.false, links, tree-fit asked upper lower)
 
 pub returns-in_err-nodes : goal.returns-in_err-nodes
@@ -49,12 +49,12 @@ returns-in_err-nodes c =
     let a = c.args in
     let lent = tabs a.work.now a.ul.now a.uv.now a.ll.now a.lv.now a.leaves.now in
     let asked = asks lent c.begin.new.work (Ok c.in_ok-spans.spans) c.if-n-lt736.false c.if-work-lt4.false c.u64_at-offset.ensures c.if-n-offset.false
-            c.u32_at-count.ensures c.in_ok-spans.ensures in
+    c.u32_at-count.ensures c.in_ok-spans.ensures in
     let n = c.tiles.new in
     let out = tabs n.work n.ul n.uv n.ll n.lv n.leaves in
     let tiled : Tiled a.bytes.now lent (root_tabs a.blocks.now a.rl.now a.rv.now) c.u64_at-offset.result c.u32_at-count.result
-            out (root_tabs n.blocks n.rl n.rv) (Err _) =
-            record { words = c.begin.new.work; spans = c.in_ok-spans.spans; asked = asked; few = c.if-rl-count.false; out = c.in_err-nodes.ensures } in
+    out (root_tabs n.blocks n.rl n.rv) (Err _) =
+    record { words = c.begin.new.work; spans = c.in_ok-spans.spans; asked = asked; few = c.if-rl-count.false; out = c.in_err-nodes.ensures } in
     subst (TreeOut a.bytes.now lent (root_tabs a.blocks.now a.rl.now a.rv.now) out (root_tabs n.blocks n.rl n.rv))
     (sym (exit_is c.from_residual-in_err-nodes.result _ c.from_residual-in_err-nodes.ensures.1)) (out-tiles tiled)
 
@@ -63,12 +63,12 @@ returns-then-not-counts_pass c =
     let a = c.args in
     let lent = tabs a.work.now a.ul.now a.uv.now a.ll.now a.lv.now a.leaves.now in
     let asked = asks lent c.begin.new.work (Ok c.in_ok-spans.spans) c.if-n-lt736.false c.if-work-lt4.false c.u64_at-offset.ensures c.if-n-offset.false
-            c.u32_at-count.ensures c.in_ok-spans.ensures in
+    c.u32_at-count.ensures c.in_ok-spans.ensures in
     let n = c.tiles.new in
     let out = tabs n.work n.ul n.uv n.ll n.lv n.leaves in
     let tiled : Tiled a.bytes.now lent (root_tabs a.blocks.now a.rl.now a.rv.now) c.u64_at-offset.result c.u32_at-count.result
-            out (root_tabs n.blocks n.rl n.rv) (Ok c.in_ok-nodes.nodes) =
-            record { words = c.begin.new.work; spans = c.in_ok-spans.spans; asked = asked; few = c.if-rl-count.false; out = c.in_ok-nodes.ensures } in
+    out (root_tabs n.blocks n.rl n.rv) (Ok c.in_ok-nodes.nodes) =
+    record { words = c.begin.new.work; spans = c.in_ok-spans.spans; asked = asked; few = c.if-rl-count.false; out = c.in_ok-nodes.ensures } in
     out-counts tiled c.counts_pass.ensures c.if-not-counts_pass.true
 
 pub returns : goal.returns
@@ -76,10 +76,10 @@ returns c =
     let a = c.args in
     let lent = tabs a.work.now a.ul.now a.uv.now a.ll.now a.lv.now a.leaves.now in
     let asked = asks lent c.begin.new.work (Ok c.in_ok-spans.spans) c.if-n-lt736.false c.if-work-lt4.false c.u64_at-offset.ensures c.if-n-offset.false
-            c.u32_at-count.ensures c.in_ok-spans.ensures in
+    c.u32_at-count.ensures c.in_ok-spans.ensures in
     let n = c.tiles.new in
     let out = tabs n.work n.ul n.uv n.ll n.lv n.leaves in
     let tiled : Tiled a.bytes.now lent (root_tabs a.blocks.now a.rl.now a.rv.now) c.u64_at-offset.result c.u32_at-count.result
-            out (root_tabs n.blocks n.rl n.rv) (Ok c.in_ok-nodes.nodes) =
-            record { words = c.begin.new.work; spans = c.in_ok-spans.spans; asked = asked; few = c.if-rl-count.false; out = c.in_ok-nodes.ensures } in
+    out (root_tabs n.blocks n.rl n.rv) (Ok c.in_ok-nodes.nodes) =
+    record { words = c.begin.new.work; spans = c.in_ok-spans.spans; asked = asked; few = c.if-rl-count.false; out = c.in_ok-nodes.ensures } in
     out-read tiled c.counts_pass.ensures c.if-not-counts_pass.false
