@@ -3,6 +3,8 @@ use Rattle.std.specs.Prelude.{ℕ, zero, suc, ◌<◌, ◌≡◌, true, false, c
 use Rattle.std.specs.Float.Ieee.{lt}
 use Rattle.float.specs.Zero.{+0}
 use Rattle.layout.specs.Coordinates.{Coord}
+use Rattle.layout.specs.Record.{as_coord}
+use Rattle.boxes.specs.declared.CoordBox as Code
 
 -- from the low corner to the high one, ends included
 pub record Box : Type 0 where
@@ -12,6 +14,10 @@ pub record Box : Type 0 where
 -- between two corners
 abbrev pub between : ℤ → ℤ → ℤ → ℤ → ℤ → ℤ → Box
 between lx ly lz hx hy hz = record { lo = record { x = lx; y = ly; z = lz }; hi = record { x = hx; y = hy; z = hz } }
+
+-- the box that the code's record is
+abbrev pub as_box : Code.CoordBox → Box
+as_box b = record { lo = as_coord b.lo; hi = as_coord b.hi }
 
 pub record In (b : Box) (c : Coord) : Type 0 where
   pub x_low : b.lo.x ≤ℤ c.x
