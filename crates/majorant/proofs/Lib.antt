@@ -8,6 +8,7 @@ pub mod Gone
 pub mod Classing
 pub mod Refused
 pub mod Listing
+pub mod Left
 pub mod Building
 pub mod Builds
 pub mod Accepted

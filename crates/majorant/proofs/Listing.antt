@@ -1,5 +1,5 @@
 -- What the loop over a list of boxes keeps, and what `box_maxima` answers from the fault before the boxes. Assumes nothing.
-use Rattle.std.proofs.Common.{◌≡◌, ℕ, ◌+◌, ◌*◌, ◌<◌, eqb, List, [], ◌∷◌, ◌++◌, length, take, set, replicate, ℤ, sym, refl, ap, ◌∙◌, le_of_eq, add-one, eqb→eq, take_all, take-suc-set}
+use Rattle.std.proofs.Common.{◌≡◌, ℕ, ◌+◌, ◌*◌, ◌<◌, ◌==◌, List, [], ◌∷◌, ◌++◌, length, take, set, replicate, ℤ, sym, refl, ap, ◌∙◌, le_of_eq, add-one, eqb→eq, take_all, take-suc-set}
 use lib.Ieee.{Float}
 use Rattle.refusals.specs.Results.{Result, ok, refused, bind, value_or}
 use Rattle.refusals.specs.Faults.{◌then◌, unless, passing}
@@ -11,7 +11,7 @@ use Rattle.sparse_grid.specs.Lookup.{read_in}
 use Rattle.boxes.specs.Boxes.{Box, greater, box_maximum}
 use Rattle.majorant.specs.Maxima.{box_at, maxima_of, maxima_into, greatest_from, greatest_of, greatest_into}
 use Rattle.majorant.proofs.MaximaLaws.{greatest_more}
-use Rattle.majorant.proofs.Refused as Refused
+use Rattle.refusals.proofs.FaultSteps.{passing_stop, passing_on}
 
 -- ---- the loop: the first i places hold the maxima of the first i boxes, and m is the greatest of them
 pub record Listed (maximum : Box → Float) (boxes : List ℤ) (t : List Float) (m : Float) (i : ℕ) : Type 0 where
@@ -41,32 +41,40 @@ module _ (maximum : Box → Float) (boxes : List ℤ) where
     h.greatest ∙ ap (λ (k : ℕ). greatest_of (maxima_of maximum boxes k)) q,
   )
 
--- ---- the answer, from the fault before the boxes
-module _ (g : Grid) (boxes : List ℤ) (places : ℕ) {f : ℕ} (e : f ≡ (unless (eqb (length boxes) (6 * places)) 18 then validate g)) where
+-- ---- the answer
+module _ (g : Grid) (boxes : List ℤ) (places : ℕ) where
+  abbrev faults : ℕ
+  faults = unless (length boxes == 6 * places) 18 then validate g
+
   abbrev found : List Float
   found = maxima_of (box_maximum (read_in g)) boxes places
 
-  into_is : maxima_into g boxes places ≡ passing f (ok found)
+  into_is : maxima_into g boxes places ≡ passing faults (ok found)
   unfolding maxima_into
-  into_is = ap (λ (k : ℕ). passing k (ok found)) (sym e)
+  into_is = refl
 
   greatest_is : {r : Result (List Float)} → maxima_into g boxes places ≡ r → greatest_into g boxes places ≡ bind r (λ (l : List Float). ok (greatest_of l))
   unfolding greatest_into
   greatest_is q = ap (λ (r : Result (List Float)). bind r (λ (l : List Float). ok (greatest_of l))) q
 
-  pub stopped : {t : List Float} → (f ≡ 0 → ⊥) → t ≡ replicate places +0
-      → (refused f ≡ greatest_into g boxes places) × (t ≡ value_or (replicate places +0) (maxima_into g boxes places))
-  stopped h z =
-      let s : maxima_into g boxes places ≡ refused f = into_is ∙ sym (Refused.stopped (ok found) refl h) in
-      (sym (greatest_is s), z ∙ sym (ap (value_or (replicate places +0)) s))
+  module _ {f : ℕ} (e : f ≡ faults) (h : f ≡ 0 → ⊥) where
+    stop : maxima_into g boxes places ≡ refused f
+    stop = into_is ∙ ap (λ (k : ℕ). passing k (ok found)) (sym e) ∙ passing_stop f (ok found) h
 
-  pub grid_passed : f ≡ 0 → (validate g ≡ 0) × (length boxes ≡ 6 * places)
-  grid_passed o =
-      let p = then_zero (unless (eqb (length boxes) (6 * places)) 18) (validate g) (sym e ∙ o) in
-      (p.1, eqb→eq (length boxes) (6 * places) (unless_zero (eqb (length boxes) (6 * places)) 17 p.0))
+    pub list_stops : (t : List Float) → passing f (ok t) ≡ maxima_into g boxes places
+    list_stops t = passing_stop f (ok t) h ∙ sym stop
 
-  pub answered : {t : List Float} {m : Float} → f ≡ 0 → (t ≡ found) × (m ≡ greatest_of found)
-      → (ok m ≡ greatest_into g boxes places) × (t ≡ value_or (replicate places +0) (maxima_into g boxes places))
-  answered o h =
-      let s : maxima_into g boxes places ≡ ok found = into_is ∙ ap (λ (k : ℕ). passing k (ok found)) o in
-      (ap ok h.1 ∙ sym (greatest_is s), h.0 ∙ sym (ap (value_or (replicate places +0)) s))
+    pub greatest_stops : refused f ≡ greatest_into g boxes places
+    greatest_stops = sym (greatest_is stop)
+
+  module _ (e : 0 ≡ faults) where
+    pub list_passed : (validate g ≡ 0) × (length boxes ≡ 6 * places)
+    list_passed =
+        let p = then_zero (unless (length boxes == 6 * places) 18) (validate g) (sym e) in
+        (p.1, eqb→eq (length boxes) (6 * places) (unless_zero (length boxes == 6 * places) 17 p.0))
+
+    pub maxima_given : {t : List Float} {m : Float} → (t ≡ found) × (m ≡ greatest_of found)
+        → (ok m ≡ greatest_into g boxes places) × (ok t ≡ maxima_into g boxes places)
+    maxima_given h =
+        let s : maxima_into g boxes places ≡ ok found = into_is ∙ passing_on faults (ok found) (sym e) in
+        (ap ok h.1 ∙ sym (greatest_is s), ap ok h.0 ∙ sym s)

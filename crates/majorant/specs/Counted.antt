@@ -1,6 +1,6 @@
 -- The box maximum with what it read after `validate`, and the most that this can be for a cube.
 use Rattle.std.specs.Prelude.{◌≡◌, ℕ, ◌+◌, ◌*◌, ◌≤◌, Float}
-use Rattle.refusals.specs.Results.{Result, ok, refused, Said, said}
+use Rattle.refusals.specs.Results.{Result, ok}
 use Rattle.refusals.specs.Faults.{passing}
 use Rattle.float.specs.Zero.{+0}
 use Rattle.sparse_grid.specs.Tables.{Grid}
@@ -9,8 +9,6 @@ use Rattle.sparse_grid.specs.Lookup.{read_in}
 use Rattle.boxes.specs.Boxes.{Box, box_maximum}
 use Rattle.walk.specs.Walk.{R, U, L, cubed, most_read, roots_read, uppers_read, lowers_read, leaves_read}
 use Rattle.majorant.specs.declared.Counted as code
-use Rattle.majorant.specs.declared.CountedAnswer.{CountedAnswer}
-use Rattle.majorant.specs.declared.CountedAnswer.TheVariants.{Value, Refused}
 
 -- the maximum of a box, and how many root entries, upper entries, lower entries and leaf values are read for it
 pub record Read : Type 0 where
@@ -46,13 +44,6 @@ as_read c = record {
   lowers = c.lower;
   leaves = c.high * 18446744073709551616 + c.low;
 }
-
-abbrev pub counted_outcome : CountedAnswer → Result Read
-counted_outcome (Value c) = ok (as_read c)
-counted_outcome (Refused n) = refused n
-
-abbrev pub counted_answer : CountedAnswer → Said Read
-counted_answer a = said unread (counted_outcome a)
 
 -- ---- the dearest cube
 

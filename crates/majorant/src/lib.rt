@@ -2,16 +2,17 @@
 #![tactic(auto)]
 
 ghost use Rattle.std.specs.Prelude.{◌≡◌, length, replicate};
-ghost use Rattle.sparse_grid.specs.Tables.{grid_of};
-ghost use Rattle.sparse_grid.specs.Answers.{answer};
-ghost use Rattle.refusals.specs.Results.{number_of, value_or, said};
+ghost use Rattle.refusals.specs.Numbers.{said_by, fault_of};
+ghost use Rattle.refusals.specs.Results.{number_of, value_or};
 ghost use Rattle.float.specs.Zero.{+0};
+ghost use Rattle.sparse_grid.specs.Record.{as_grid};
 ghost use Rattle.medium.specs.Record.{as_medium};
-ghost use Rattle.majorant.specs.Build.{public_maximum, build_into};
-ghost use Rattle.majorant.specs.Maxima.{maxima_into, greatest_into};
-ghost use Rattle.majorant.specs.Counted.{unread, public_counted, counted_answer};
-ghost use Rattle.boxes.specs.Boxes.{between};
+ghost use Rattle.index.specs.Outcomes.{said_as};
+ghost use Rattle.boxes.specs.Boxes.{as_box};
 ghost use Rattle.walk.specs.Classes.{public_counts};
+ghost use Rattle.majorant.specs.Build.{public_maximum, build_into};
+ghost use Rattle.majorant.specs.Counted.{public_counted, as_read};
+ghost use Rattle.majorant.specs.Maxima.{maxima_into, greatest_into};
 
 mod build;
 mod class_walk;
@@ -19,14 +20,14 @@ mod classes;
 mod maxima;
 mod node_max;
 mod range_max;
+mod walks;
 
-use build::{build_fault, cells};
-use classes::{box_classes, classes_fault};
-use lent::zero_f32;
-use maxima::{maxima_each, maxima_fault};
+use boxes::CoordBox;
+use lent::zero;
 use medium::Medium;
-use range_max::range_max;
-use sparse_grid::{Answer, validate};
+use refusals::Refusal;
+use sparse_grid::Grid;
+use walks::{box_classes, check_classes, range_max, range_max_counted};
 
 // The maximum of a box, and how many root entries, upper entries, lower entries and leaf values (in two words) were read for it.
 #[derive(Clone, Copy)]
@@ -39,337 +40,57 @@ pub struct Counted {
     pub low: u64,
 }
 
-// The maximum of a box with its counts, or the number of the refusal.
-#[derive(Clone, Copy)]
-pub enum CountedAnswer {
-    Value(Counted),
-    Refused(u32),
-}
-
-// The greatest of +0.0 and the voxels from the low corner to the high one, ends included. The grid is validated first.
-pub fn box_maximum(
-    background: f32,
-    blocks: &[i32],
-    root_links: &[u32],
-    root_values: &[f32],
-    upper_links: &[u32],
-    upper_values: &[f32],
-    lower_links: &[u32],
-    lower_values: &[f32],
-    leaf_values: &[f32],
-    lx: i32,
-    ly: i32,
-    lz: i32,
-    hx: i32,
-    hy: i32,
-    hz: i32,
-) -> Answer
-    ensures { let g = grid_of background blocks.now root_links.now root_values.now
-        upper_links.now upper_values.now lower_links.now lower_values.now
-        leaf_values.now in
-        answer result ≡ said +0 (public_maximum g (between lx ly lz hx hy hz)) }
+// The greatest of +0.0 and the voxels of a box. The grid is validated first.
+#[tactic(auto, unfolding(crate::specs::Build::public_maximum))]
+pub fn box_maximum(grid: &Grid, of: CoordBox) -> Result<f32, Refusal>
+    ensures { said_by result ≡ public_maximum (as_grid grid.now) (as_box of) }
 {
-    let fault = validate(
-        background,
-        blocks,
-        root_links,
-        root_values,
-        upper_links,
-        upper_values,
-        lower_links,
-        lower_values,
-        leaf_values,
-    );
-    if fault != 0 {
-        return Answer::Refused(fault);
-    }
-    let mut uncounted: [u64; 5] = [0; 5];
-    let maximum = range_max(
-        background,
-        blocks,
-        root_links,
-        root_values,
-        upper_links,
-        upper_values,
-        lower_links,
-        lower_values,
-        leaf_values,
-        lx,
-        ly,
-        lz,
-        hx,
-        hy,
-        hz,
-        false,
-        &mut uncounted,
-    );
-    Answer::Value(maximum)
+    grid.validate()?;
+    Ok(range_max(grid, of))
 }
 
-// The box maximum, by the same walk, and what it read after `validate`: root entries, upper entries, lower entries and leaf values.
-pub fn box_maximum_counted(
-    background: f32,
-    blocks: &[i32],
-    root_links: &[u32],
-    root_values: &[f32],
-    upper_links: &[u32],
-    upper_values: &[f32],
-    lower_links: &[u32],
-    lower_values: &[f32],
-    leaf_values: &[f32],
-    lx: i32,
-    ly: i32,
-    lz: i32,
-    hx: i32,
-    hy: i32,
-    hz: i32,
-) -> CountedAnswer
-    ensures { let g = grid_of background blocks.now root_links.now root_values.now
-        upper_links.now upper_values.now lower_links.now lower_values.now
-        leaf_values.now in
-        counted_answer result ≡ said unread (public_counted g (between lx ly lz hx hy hz)) }
+// The box maximum, by the same walk, and what it read after `validate`.
+#[tactic(auto, unfolding(crate::specs::Counted::public_counted))]
+pub fn box_maximum_counted(grid: &Grid, of: CoordBox) -> Result<Counted, Refusal>
+    ensures { said_as as_read result ≡ public_counted (as_grid grid.now) (as_box of) }
 {
-    let invalid = validate(
-        background,
-        blocks,
-        root_links,
-        root_values,
-        upper_links,
-        upper_values,
-        lower_links,
-        lower_values,
-        leaf_values,
-    );
-    if invalid != 0 {
-        return CountedAnswer::Refused(invalid);
-    }
-    let mut counts: [u64; 5] = [0; 5];
-    let maximum = range_max(
-        background,
-        blocks,
-        root_links,
-        root_values,
-        upper_links,
-        upper_values,
-        lower_links,
-        lower_values,
-        leaf_values,
-        lx,
-        ly,
-        lz,
-        hx,
-        hy,
-        hz,
-        true,
-        &mut counts,
-    );
-    CountedAnswer::Value(Counted {
-        maximum: maximum,
-        roots: counts[0],
-        upper: counts[1],
-        lower: counts[2],
-        high: counts[3],
-        low: counts[4],
-    })
+    grid.validate()?;
+    Ok(range_max_counted(grid, of))
 }
 
-// A maximum for each box of a list, six numbers a box, minima first, and the greatest of them. The grid is validated once. After a refusal its number,
-// and the maxima are zero.
-pub fn box_maxima(
-    background: f32,
-    blocks: &[i32],
-    root_links: &[u32],
-    root_values: &[f32],
-    upper_links: &[u32],
-    upper_values: &[f32],
-    lower_links: &[u32],
-    lower_values: &[f32],
-    leaf_values: &[f32],
-    boxes: &[i32],
-    maxima: &mut [f32],
-) -> Answer
-    ensures greatest { let g = grid_of background blocks.now root_links.now root_values.now
-        upper_links.now upper_values.now lower_links.now lower_values.now
-        leaf_values.now in
-        answer result ≡ said +0 (greatest_into g boxes.now (length maxima.old)) }
-    ensures table { let g = grid_of background blocks.now root_links.now root_values.now
-        upper_links.now upper_values.now lower_links.now lower_values.now
-        leaf_values.now in
-        let n = length maxima.old in
-        maxima.new ≡ value_or (replicate n +0) (maxima_into g boxes.now n) }
+// A maximum for each box of a list, six numbers a box, minima first, and the greatest of them. The grid is validated once. After a refusal the
+// maxima are zero.
+pub fn box_maxima(grid: &Grid, boxes: &[i32], maxima: &mut [f32]) -> Result<f32, Refusal>
+    ensures greatest { said_by result ≡ greatest_into (as_grid grid.now) boxes.now (length maxima.old) }
+    ensures table { let n = length maxima.old in
+        maxima.new ≡ value_or (replicate n +0) (maxima_into (as_grid grid.now) boxes.now n) }
 {
-    let list = maxima_fault(
-        background,
-        blocks,
-        root_links,
-        root_values,
-        upper_links,
-        upper_values,
-        lower_links,
-        lower_values,
-        leaf_values,
-        boxes.len(),
-        maxima.len(),
-    );
-    if list != 0 {
-        zero_f32(maxima);
-        return Answer::Refused(list);
+    let answer = maxima::fill(grid, boxes, maxima);
+    if answer.is_err() {
+        zero(maxima);
     }
-    let greatest = maxima_each(
-        background,
-        blocks,
-        root_links,
-        root_values,
-        upper_links,
-        upper_values,
-        lower_links,
-        lower_values,
-        leaf_values,
-        boxes,
-        maxima,
-    );
-    Answer::Value(greatest)
+    answer
 }
 
-// The table of majorants, one figure for each cell of the record's X, Y and Z: cell x + X (y + Y z). After a refusal its number, and the table is zero.
-pub fn build_majorant(
-    background: f32,
-    blocks: &[i32],
-    root_links: &[u32],
-    root_values: &[f32],
-    upper_links: &[u32],
-    upper_values: &[f32],
-    lower_links: &[u32],
-    lower_values: &[f32],
-    leaf_values: &[f32],
-    m: Medium,
-    majorants: &mut [f32],
-) -> u32
-    ensures number { let g = grid_of background blocks.now root_links.now root_values.now
-        upper_links.now upper_values.now lower_links.now lower_values.now
-        leaf_values.now in
-        result ≡ number_of (build_into g (as_medium m) (length majorants.old)) }
-    ensures table { let g = grid_of background blocks.now root_links.now root_values.now
-        upper_links.now upper_values.now lower_links.now lower_values.now
-        leaf_values.now in
-        let n = length majorants.old in
-        majorants.new ≡ value_or (replicate n +0) (build_into g (as_medium m) n) }
+// The table of majorants, one figure for each cell of the record's X, Y and Z: cell x + X (y + Y z). After a refusal the table is zero.
+pub fn build_majorant(grid: &Grid, m: &Medium, majorants: &mut [f32]) -> Result<(), Refusal>
+    ensures number { fault_of result ≡ number_of (build_into (as_grid grid.now) (as_medium m.now) (length majorants.old)) }
+    ensures table { let n = length majorants.old in
+        majorants.new ≡ value_or (replicate n +0) (build_into (as_grid grid.now) (as_medium m.now) n) }
 {
-    let before = build_fault(
-        background,
-        blocks,
-        root_links,
-        root_values,
-        upper_links,
-        upper_values,
-        lower_links,
-        lower_values,
-        leaf_values,
-        m,
-        majorants.len(),
-    );
-    if before != 0 {
-        zero_f32(majorants);
-        return before;
+    let answer = build::fill(grid, m, majorants);
+    if answer.is_err() {
+        zero(majorants);
     }
-    let n = m.cells;
-    let number = cells(
-        background,
-        blocks,
-        root_links,
-        root_values,
-        upper_links,
-        upper_values,
-        lower_links,
-        lower_values,
-        leaf_values,
-        m,
-        n[0],
-        n[1],
-        n[2],
-        majorants,
-    );
-    if number != 0 {
-        zero_f32(majorants);
-    }
-    number
+    answer
 }
 
-// How many coordinates of a box lie in each class, or the number of a refusal and zeros.
-#[derive(Clone, Copy)]
-pub struct ClassCounts {
-    pub number: u32,
-    pub counts: [u64; 17],
-}
-
-// How many coordinates from the low corner to the high one, ends included, hold a density below the first limit, between each pair (lower end
-// included), and at or above the last; zero past the last class. The grid is validated first.
-pub fn count_classes(
-    background: f32,
-    blocks: &[i32],
-    root_links: &[u32],
-    root_values: &[f32],
-    upper_links: &[u32],
-    upper_values: &[f32],
-    lower_links: &[u32],
-    lower_values: &[f32],
-    leaf_values: &[f32],
-    limits: &[f32],
-    lx: i32,
-    ly: i32,
-    lz: i32,
-    hx: i32,
-    hy: i32,
-    hz: i32,
-) -> ClassCounts
-    ensures { let g = grid_of background blocks.now root_links.now root_values.now
-        upper_links.now upper_values.now lower_links.now lower_values.now
-        leaf_values.now in
-        let c = public_counts g limits.now (between lx ly lz hx hy hz) in
-        (result.number ≡ number_of c) × (result.counts ≡ value_or (replicate 17 0) c) }
+// How many coordinates of a box hold a density below the first limit, between each pair (lower end included), and at or above the last; zero past
+// the last class. The grid is validated first.
+#[tactic(auto, unfolding(crate::specs::Classes::public_counts))]
+pub fn count_classes(grid: &Grid, limits: &[f32], of: CoordBox) -> Result<[u64; 17], Refusal>
+    ensures { said_by result ≡ public_counts (as_grid grid.now) limits.now (as_box of) }
 {
-    let mut counts: [u64; 17] = [0; 17];
-    let number = classes_fault(
-        limits,
-        background,
-        blocks,
-        root_links,
-        root_values,
-        upper_links,
-        upper_values,
-        lower_links,
-        lower_values,
-        leaf_values,
-        lx,
-        ly,
-        lz,
-        hx,
-        hy,
-        hz,
-    );
-    if number == 0 {
-        box_classes(
-            limits,
-            background,
-            blocks,
-            root_links,
-            root_values,
-            upper_links,
-            upper_values,
-            lower_links,
-            lower_values,
-            leaf_values,
-            lx,
-            ly,
-            lz,
-            hx,
-            hy,
-            hz,
-            &mut counts,
-        );
-    }
-    ClassCounts {
-        number: number,
-        counts: counts,
-    }
+    check_classes(grid, limits, of)?;
+    Ok(box_classes(grid, limits, of))
 }

@@ -1,141 +1,71 @@
-// The maxima of a list of boxes, over the lent tables of a grid that passed validate.
+// The maxima of a list of boxes.
 ghost use Rattle.std.specs.Prelude.{◌≡◌, ◌+◌, ◌*◌, ◌≤◌, length, ◌==◌};
-ghost use Rattle.refusals.specs.Faults.{◌then◌, unless};
-ghost use Rattle.sparse_grid.specs.Tables.{grid_of};
+ghost use Rattle.refusals.specs.Numbers.{fault_of, said_by};
+ghost use Rattle.refusals.specs.Results.{ok};
+ghost use Rattle.refusals.specs.Faults.{◌then◌, unless, passing};
+ghost use Rattle.sparse_grid.specs.Record.{as_grid};
 ghost use Rattle.sparse_grid.specs.Validate.{validate};
 ghost use Rattle.sparse_grid.specs.Lookup.{read_in};
-ghost use Rattle.boxes.specs.Boxes.{box_maximum};
-ghost use Rattle.majorant.specs.Maxima.{box_at, maxima_of, greatest_of};
+ghost use Rattle.boxes.specs.Boxes.{box_maximum, as_box};
+ghost use Rattle.majorant.specs.Maxima.{box_at, maxima_of, greatest_of, maxima_into, greatest_into};
 
 use crate::node_max::greater;
-use crate::range_max::range_max;
-use sparse_grid::validate;
+use crate::walks::range_max;
+use boxes::CoordBox;
+use layout::Coordinate;
+use refusals::Refusal;
+use sparse_grid::Grid;
 
 // 18 for a list that is not six numbers to a place, then validate. Six times the places may pass 2^64, so the numbers are divided.
-pub(crate) fn maxima_fault(
-    background: f32,
-    blocks: &[i32],
-    root_links: &[u32],
-    root_values: &[f32],
-    upper_links: &[u32],
-    upper_values: &[f32],
-    lower_links: &[u32],
-    lower_values: &[f32],
-    leaf_values: &[f32],
-    numbers: usize,
-    places: usize,
-) -> u32
-    ensures { let g = grid_of background blocks.now root_links.now root_values.now
-        upper_links.now upper_values.now lower_links.now lower_values.now
-        leaf_values.now in
-        result ≡ (unless (numbers == 6 * places) 18 then validate g) }
+fn check(grid: &Grid, numbers: usize, places: usize) -> Result<(), Refusal>
+    ensures { fault_of result ≡ (unless (numbers == 6 * places) 18 then validate (as_grid grid.now)) }
 {
-    if numbers % 6 != 0 {
-        return refusals::TABLES;
+    if numbers % 6 != 0 || numbers / 6 != places {
+        return Err(Refusal::Tables);
     }
-    if numbers / 6 != places {
-        return refusals::TABLES;
-    }
-    validate(
-        background,
-        blocks,
-        root_links,
-        root_values,
-        upper_links,
-        upper_values,
-        lower_links,
-        lower_values,
-        leaf_values,
-    )
+    grid.validate()
 }
 
-// The maximum of box i.
-fn maximum_at(
-    background: f32,
-    blocks: &[i32],
-    root_links: &[u32],
-    root_values: &[f32],
-    upper_links: &[u32],
-    upper_values: &[f32],
-    lower_links: &[u32],
-    lower_values: &[f32],
-    leaf_values: &[f32],
-    boxes: &[i32],
-    i: usize,
-) -> f32
-    requires { let g = grid_of background blocks.now root_links.now root_values.now upper_links.now upper_values.now
-        lower_links.now lower_values.now leaf_values.now in
-        (validate g ≡ 0) × (6 * i + 6 ≤ length boxes.now) }
-    ensures { let g = grid_of background blocks.now root_links.now root_values.now
-        upper_links.now upper_values.now lower_links.now lower_values.now
-        leaf_values.now in
-        result ≡ box_maximum (read_in g) (box_at boxes.now i) }
+// Box i of a list. C hands in six numbers a box, and without a heap they are not made a list of boxes first.
+fn box_at(boxes: &[i32], i: usize) -> CoordBox
+    requires { 6 * i + 6 ≤ length boxes.now }
+    ensures { as_box result ≡ box_at boxes.now i }
 {
     let at = 6 * i;
-    let mut uncounted: [u64; 5] = [0; 5];
-    range_max(
-        background,
-        blocks,
-        root_links,
-        root_values,
-        upper_links,
-        upper_values,
-        lower_links,
-        lower_values,
-        leaf_values,
-        boxes[at],
-        boxes[at + 1],
-        boxes[at + 2],
-        boxes[at + 3],
-        boxes[at + 4],
-        boxes[at + 5],
-        false,
-        &mut uncounted,
-    )
+    CoordBox {
+        lo: Coordinate {
+            x: boxes[at],
+            y: boxes[at + 1],
+            z: boxes[at + 2],
+        },
+        hi: Coordinate {
+            x: boxes[at + 3],
+            y: boxes[at + 4],
+            z: boxes[at + 5],
+        },
+    }
 }
 
 // Writes the maximum of each box and answers the greatest.
-pub(crate) fn maxima_each(
-    background: f32,
-    blocks: &[i32],
-    root_links: &[u32],
-    root_values: &[f32],
-    upper_links: &[u32],
-    upper_values: &[f32],
-    lower_links: &[u32],
-    lower_values: &[f32],
-    leaf_values: &[f32],
-    boxes: &[i32],
-    maxima: &mut [f32],
-) -> f32
-    requires { let g = grid_of background blocks.now root_links.now root_values.now upper_links.now upper_values.now
-        lower_links.now lower_values.now leaf_values.now in
-        (validate g ≡ 0) × (length boxes.now ≡ 6 * length maxima.old) }
-    ensures { let g = grid_of background blocks.now root_links.now root_values.now
-        upper_links.now upper_values.now lower_links.now lower_values.now
-        leaf_values.now in
-        let l = maxima_of (box_maximum (read_in g)) boxes.now (length maxima.old) in
+fn maxima(grid: &Grid, boxes: &[i32], maxima: &mut [f32]) -> f32
+    requires { (validate (as_grid grid.now) ≡ 0) × (length boxes.now ≡ 6 * length maxima.old) }
+    ensures { let l = maxima_of (box_maximum (read_in (as_grid grid.now))) boxes.now (length maxima.old) in
         (maxima.new ≡ l) × (result ≡ greatest_of l) }
 {
     let mut greatest = 0.0f32;
-    let mut i: usize = 0;
-    while i < maxima.len() {
-        let maximum = maximum_at(
-            background,
-            blocks,
-            root_links,
-            root_values,
-            upper_links,
-            upper_values,
-            lower_links,
-            lower_values,
-            leaf_values,
-            boxes,
-            i,
-        );
+    for i in 0..maxima.len() {
+        let maximum = range_max(grid, box_at(boxes, i));
         maxima[i] = maximum;
         greatest = greater(greatest, maximum);
-        i += 1;
     }
     greatest
+}
+
+// The tests, and then the maxima.
+pub(crate) fn fill(grid: &Grid, boxes: &[i32], maxima: &mut [f32]) -> Result<f32, Refusal>
+    ensures greatest { said_by result ≡ greatest_into (as_grid grid.now) boxes.now (length maxima.old) }
+    ensures table { passing (fault_of result) (ok maxima.new) ≡ maxima_into (as_grid grid.now) boxes.now (length maxima.old) }
+{
+    check(grid, boxes.len(), maxima.len())?;
+    Ok(self::maxima(grid, boxes, maxima))
 }
