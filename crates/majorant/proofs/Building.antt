@@ -1,34 +1,12 @@
 -- What the build's loops keep. Assumes nothing.
-use Rattle.std.specs.Prelude.{◌≡◌, ℕ, zero, suc, ◌+◌, ◌*◌, ◌<◌, ◌≤◌, List, length, take, set, Result as Answer}
-use Rattle.std.proofs.Common.{sym, refl, ap, ◌∙◌, le_trans, le_of_eq, mul-le-mul_right, suc-mul, add-one, arith, get_or-set_other, get_or-set_same}
-use Rattle.std.proofs.Common.{take-suc-set, below_more}
+use Rattle.std.specs.Prelude.{◌≡◌, ℕ, zero, suc, ◌+◌, ◌*◌, ◌<◌, ◌≤◌, List, length, take, set}
+use Rattle.std.proofs.Common.{sym, refl, ap, ◌∙◌, le_trans, le_of_eq, mul-le-mul_right, suc-mul, add-one, arith, take-suc-set}
 use lib.Ieee.{Float}
 use Rattle.refusals.specs.Results.{Result, ok, refused, bind}
 use Rattle.refusals.specs.ResultLaws.{run_more, run_stop}
 use Rattle.refusals.specs.Faults.{passing}
-use Rattle.refusals.specs.declared.Refusal.{Refusal}
 use Rattle.refusals.proofs.FaultSteps.{passing_stop}
-use Rattle.index.specs.Axes.{Both}
-use Rattle.index.specs.Outcomes.{as_both, said_as}
-use Rattle.index.specs.declared.CellEnds.{CellEnds}
-use Rattle.majorant.specs.Rows.{none, ends_in, chain, push}
-
--- the ends of a cell's boxes on an axis, or why there are none
-abbrev Sides : Type 0
-Sides = Answer CellEnds Refusal
-
--- ---- the table of an axis
-pub table_more : (t : List Sides) (k : ℕ) (v : Sides) (f : ℕ → Result Both) → k < length t → ((j : ℕ) → j < k → ends_in t j ≡ f j)
-    → said_as as_both v ≡ f k → (j : ℕ) → j < k + 1 → ends_in (set t k v) j ≡ f j
-table_more t k v f l h e =
-    below_more (λ (j : ℕ). ends_in (set t k v) j ≡ f j) k (λ j J. ap said (get_or-set_other t k j v none (apart j k J)) ∙ h j J)
-    (ap said (get_or-set_same t k v none l) ∙ e)
-  where
-    said : Sides → Result Both
-    said a = said_as as_both a
-
-    apart : (j k : ℕ) → j < k → j ≡ k → ⊥
-    apart j k h e = omega arith
+use Rattle.majorant.specs.Rows.{chain, push}
 
 -- ---- steps that fill the front of a table
 

@@ -8,7 +8,6 @@ pub mod Gone
 pub mod Classing
 pub mod Refused
 pub mod Listing
-pub mod Left
 pub mod Building
 pub mod Builds
 pub mod Accepted

@@ -1,5 +1,5 @@
 -- The tables of the three axes give the figures in order.
-use Rattle.std.proofs.Common.{◌∙◌, ◌*◌, sym, ap, length, take, take_all, le_of_eq, arith}
+use Rattle.std.proofs.Common.{◌∙◌, sym, ap, take_all, le_of_eq, arith}
 use Rattle.refusals.specs.Results.{ok}
 use Rattle.refusals.specs.Numbers.{fault_of}
 use Rattle.refusals.specs.Faults.{passing}
