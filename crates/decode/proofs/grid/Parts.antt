@@ -1,28 +1,23 @@
 -- The used parts of the tables are the tables of the tree that was read. Assumes nothing.
-use mathlib.Core.Path.{◌≡◌, sym, ap, ◌∙◌, subst}
-use mathlib.Core.List.{List, [], ◌++◌, map, append-nil}
-use Prim.Native.Nat.{ℕ, ◌+◌, ◌-◌, ◌*◌, ◌/◌, ◌≤◌}
-use native.Mathlib.Omega.{arith}
-use lib.IntN.{pos}
-use lib.ListN.{length, take, replicate, length-append, length-map}
+use Rattle.std.specs.Prelude.{◌≡◌, List, [], ◌++◌, map, ℕ, ◌+◌, ◌-◌, ◌*◌, ◌/◌, pos, length, take, replicate, Float}
+use Rattle.std.proofs.Common.{sym, ap, ◌∙◌, arith, append-nil}
+use lib.ListN.{length-map}
 use lib.Seq.{take-append_seam}
-use lib.Ieee.{Float}
 use Rattle.refusals.specs.Results.{ok}
 use Rattle.float.specs.Zero.{+0}
 use Rattle.lent.specs.Padded.{padded}
-use Rattle.lent.proofs.PaddedLaws.{padded_take, padded_fits}
+use Rattle.lent.proofs.PaddedLaws.{padded_take}
 use Rattle.layout.specs.Bytes.{f32_at}
 use Rattle.sparse_grid.specs.declared.Entry.{Entry}
 use Rattle.nanovdb.specs.Tree.{Root, Roots}
-use Rattle.nanovdb.specs.Decode.{link_of, value_of, blocks_of, tables_of, medium_at, medium_of, root_place}
-use Rattle.nanovdb.specs.Lent.{lengths, answer_of, left_of}
+use Rattle.nanovdb.specs.Decode.{Accepted, link_of, value_of, blocks_of, tables_of, medium_at, medium_of, root_place}
+use Rattle.nanovdb.specs.Lent.{Answer, Tables, lengths, answer_of, filled, used_of}
 use Rattle.nanovdb.proofs.HeldNodes.{Inv2}
-use Rattle.decode.specs.Inner.Filled.{Tabs, Starts, Holds}
+use Rattle.decode.specs.Inner.Filled.{Starts, Holds}
 use Rattle.decode.specs.Inner.Stored.{zero_behind}
-use Rattle.decode.specs.Inner.Rooted.{RootTabs, RootsHeld}
-use Rattle.decode.specs.Inner.GridRead.{used_in, Used, all_tables, tidied, answer_in}
-use Rattle.decode.specs.declared.tree.Tree as Tree
-use Rattle.std.specs.Prelude.{Ok}
+use Rattle.decode.specs.Inner.Rooted.{RootsHeld}
+use Rattle.decode.specs.Inner.GridRead.{nodes_of, roots_of, tidied, counts_of}
+use Rattle.decode.specs.declared.tree.Tree.{Tree}
 use Rattle.decode.proofs.tiles.Roots.{blocks_length}
 use Rattle.decode.proofs.grid.Ways.{accepted_of}
 
@@ -30,15 +25,9 @@ use Rattle.decode.proofs.grid.Ways.{accepted_of}
 part : {A : Type 0} (t : List A) (z : A) (l : List A) (n : ℕ) → t ≡ padded (length t) z l → length l ≡ n → take n t ≡ l
 part t z l n e h = ap (take n) e ∙ ap (λ (k : ℕ). take k (padded (length t) z l)) (sym h) ∙ padded_take (length t) z l
 
-fits : {A : Type 0} (t : List A) (z : A) (l : List A) (n : ℕ) → t ≡ padded (length t) z l → length l ≡ n → n ≤ length t
-fits t z l n e h = subst (λ (k : ℕ). k ≤ length t) h (padded_fits t z l e)
-
 -- the same of a table that begins with them, and with zeros put behind them
 starts_part : {A : Type 0} (t l : List A) (n : ℕ) → Starts t l → length l ≡ n → take n t ≡ l
 starts_part t l n (rest, e) h = ap (take n) e ∙ ap (λ (k : ℕ). take k (l ++ rest)) (sym h) ∙ take-append_seam l rest
-
-starts_fits : {A : Type 0} (t l : List A) (n : ℕ) → Starts t l → length l ≡ n → n ≤ length t
-starts_fits t l n (rest, e) h = omega (arith, ap length e ∙ length-append l rest)
 
 starts_zeroed : (t l : List Float) (leaves : ℕ) → Starts t l → length l ≡ 512 * leaves → zero_behind leaves t ≡ padded (length t) +0 l
 unfolding padded
@@ -56,8 +45,12 @@ link_in r = link_of r.entry
 abbrev value_in : Root → Float
 value_in r = value_of r.entry
 
-module _ (b : List ℕ) (x : Tree.Tree) (u : Tabs) (v : RootTabs) (r : Roots) (holds : Holds u x.nodes r.state [] []) (roots : RootsHeld v r.roots)
-    (place : x.root ≡ root_place b) (inside : x.root + 28 ≤ length b) (size : length r.roots ≡ x.roots) (full : Inv2 b r.state) where
+-- the grid of the used parts, beside the answer's medium
+abbrev pub accepted_by : Answer → Tables → Accepted
+accepted_by a t = record { grid = used_of a t; medium = a.medium }
+
+module _ (b : List ℕ) (x : Tree) (t : Tables) (r : Roots) (holds : Holds (nodes_of t) x.nodes r.state [] []) (roots : RootsHeld (roots_of t) r.roots)
+    (place : x.root ≡ root_place b) (size : length r.roots ≡ x.roots) (full : Inv2 b r.state) where
   blocks_size : length (blocks_of r.roots) ≡ 3 * x.roots
   blocks_size = omega (arith, blocks_length r.roots, size)
 
@@ -73,52 +66,38 @@ module _ (b : List ℕ) (x : Tree.Tree) (u : Tabs) (v : RootTabs) (r : Roots) (h
   leaf_size : length r.state.leaf ≡ 512 * x.nodes.leaves
   leaf_size = full.below.below.full ∙ ap (λ (k : ℕ). 512 * k) holds.leaves
 
-  upper_links : u.upper_links ≡ padded (length u.upper_links) 0 (map link_of r.state.upper)
-  upper_links = shut u.upper_links 0 link_of r.state.upper holds.upper_links
+  upper_links : t.upper_links ≡ padded (length t.upper_links) 0 (map link_of r.state.upper)
+  upper_links = shut t.upper_links 0 link_of r.state.upper holds.upper_links
 
-  upper_values : u.upper_values ≡ padded (length u.upper_values) +0 (map value_of r.state.upper)
-  upper_values = shut u.upper_values +0 value_of r.state.upper holds.upper_values
+  upper_values : t.upper_values ≡ padded (length t.upper_values) +0 (map value_of r.state.upper)
+  upper_values = shut t.upper_values +0 value_of r.state.upper holds.upper_values
 
-  lower_links : u.lower_links ≡ padded (length u.lower_links) 0 (map link_of r.state.lower)
-  lower_links = shut u.lower_links 0 link_of r.state.lower holds.lower_links
+  lower_links : t.lower_links ≡ padded (length t.lower_links) 0 (map link_of r.state.lower)
+  lower_links = shut t.lower_links 0 link_of r.state.lower holds.lower_links
 
-  lower_values : u.lower_values ≡ padded (length u.lower_values) +0 (map value_of r.state.lower)
-  lower_values = shut u.lower_values +0 value_of r.state.lower holds.lower_values
-
-  pub used : Used (length b) x (length v.blocks) (length v.links) (length v.values) (length u.upper_links) (length u.upper_values)
-      (length u.lower_links) (length u.lower_values) (length u.leaf_values)
-  used = record {
-    place = inside;
-    blocks_in = fits v.blocks (pos 0) (blocks_of r.roots) (3 * x.roots) roots.blocks blocks_size;
-    root_links_in = fits v.links 0 (map link_in r.roots) x.roots roots.links (root_size link_in);
-    root_values_in = fits v.values +0 (map value_in r.roots) x.roots roots.values (root_size value_in);
-    upper_links_in = fits u.upper_links 0 (map link_of r.state.upper) (32768 * x.nodes.uppers) upper_links (upper_size link_of);
-    upper_values_in = fits u.upper_values +0 (map value_of r.state.upper) (32768 * x.nodes.uppers) upper_values (upper_size value_of);
-    lower_links_in = fits u.lower_links 0 (map link_of r.state.lower) (4096 * x.nodes.lowers) lower_links (lower_size link_of);
-    lower_values_in = fits u.lower_values +0 (map value_of r.state.lower) (4096 * x.nodes.lowers) lower_values (lower_size value_of);
-    leaf_values_in = starts_fits u.leaf_values r.state.leaf (512 * x.nodes.leaves) holds.leaf_values leaf_size;
-  }
+  lower_values : t.lower_values ≡ padded (length t.lower_values) +0 (map value_of r.state.lower)
+  lower_values = shut t.lower_values +0 value_of r.state.lower holds.lower_values
 
   -- the accepted grid is the used parts
-  pub parts : used_in b x v.blocks v.links v.values u.upper_links u.upper_values u.lower_links u.lower_values u.leaf_values ≡ accepted_of b r
+  pub parts : accepted_by (counts_of b x) t ≡ accepted_of b r
   unfolding tables_of medium_of
   parts = λ i. record {
     grid = record {
       background = f32_at b (place i + 28);
-      blocks = part v.blocks (pos 0) (blocks_of r.roots) (3 * x.roots) roots.blocks blocks_size i;
-      root_links = part v.links 0 (map link_in r.roots) x.roots roots.links (root_size link_in) i;
-      root_values = part v.values +0 (map value_in r.roots) x.roots roots.values (root_size value_in) i;
-      upper_links = part u.upper_links 0 (map link_of r.state.upper) (32768 * x.nodes.uppers) upper_links (upper_size link_of) i;
-      upper_values = part u.upper_values +0 (map value_of r.state.upper) (32768 * x.nodes.uppers) upper_values (upper_size value_of) i;
-      lower_links = part u.lower_links 0 (map link_of r.state.lower) (4096 * x.nodes.lowers) lower_links (lower_size link_of) i;
-      lower_values = part u.lower_values +0 (map value_of r.state.lower) (4096 * x.nodes.lowers) lower_values (lower_size value_of) i;
-      leaf_values = starts_part u.leaf_values r.state.leaf (512 * x.nodes.leaves) holds.leaf_values leaf_size i;
+      blocks = part t.blocks (pos 0) (blocks_of r.roots) (3 * x.roots) roots.blocks blocks_size i;
+      root_links = part t.root_links 0 (map link_in r.roots) x.roots roots.links (root_size link_in) i;
+      root_values = part t.root_values +0 (map value_in r.roots) x.roots roots.values (root_size value_in) i;
+      upper_links = part t.upper_links 0 (map link_of r.state.upper) (32768 * x.nodes.uppers) upper_links (upper_size link_of) i;
+      upper_values = part t.upper_values +0 (map value_of r.state.upper) (32768 * x.nodes.uppers) upper_values (upper_size value_of) i;
+      lower_links = part t.lower_links 0 (map link_of r.state.lower) (4096 * x.nodes.lowers) lower_links (lower_size link_of) i;
+      lower_values = part t.lower_values +0 (map value_of r.state.lower) (4096 * x.nodes.lowers) lower_values (lower_size value_of) i;
+      leaf_values = starts_part t.leaf_values r.state.leaf (512 * x.nodes.leaves) holds.leaf_values leaf_size i;
     };
     medium = medium_at b (place i);
   }
 
   -- what stands in the tables is what the definition leaves there
-  pub left : tidied (all_tables u v) x.nodes.leaves ≡ left_of (lengths (all_tables u v)) (ok (accepted_of b r))
+  pub left : tidied t x.nodes.leaves ≡ filled (lengths t) (tables_of b r)
   unfolding tables_of
   left = λ i. record {
     blocks = roots.blocks i;
@@ -128,12 +107,12 @@ module _ (b : List ℕ) (x : Tree.Tree) (u : Tabs) (v : RootTabs) (r : Roots) (h
     upper_values = upper_values i;
     lower_links = lower_links i;
     lower_values = lower_values i;
-    leaf_values = starts_zeroed u.leaf_values r.state.leaf x.nodes.leaves holds.leaf_values leaf_size i;
-    work = (tidied (all_tables u v) 0).work;
+    leaf_values = starts_zeroed t.leaf_values r.state.leaf x.nodes.leaves holds.leaf_values leaf_size i;
+    work = (tidied t 0).work;
   }
 
   -- and the counts are those of the definition's answer
-  pub answers : answer_in b (Ok x) ≡ answer_of (ok (accepted_of b r))
+  pub answers : counts_of b x ≡ answer_of (ok (accepted_of b r))
   unfolding tables_of medium_of
   answers = λ i. record {
     number = 0;

@@ -11,7 +11,7 @@ use Rattle.sparse_grid.specs.declared.Entry.{Entry}
 use Rattle.nanovdb.specs.Spans.{Span, nowhere, seen}
 use Rattle.nanovdb.specs.Nodes.{Places, State, claim, with_span, size_of, entries_of, mask_of, table_of, nodes_at, places_at, leaf_placed, placed, slots_read, node}
 use Rattle.nanovdb.proofs.HeldNodes.{span_of, opening}
-use Rattle.decode.specs.Inner.WorkTable.{size, node_span, Pushed, EnterOut, ClaimOut}
+use Rattle.decode.specs.Inner.WorkTable.{size, node_span, Pushed, EnterOut}
 use Rattle.decode.specs.Inner.Filled.{slot_target, count_in, places_of, room_in, grown_by, Tabs, Kept, Fit, Holds, Lends, Reads, NodeOut, OpenOut}
 use Rattle.decode.specs.Inner.Filled.{filling, numbered, with_work, NewNode}
 use Rattle.decode.specs.Inner.Stored.{at_upper, at_lower, leaf_value, slot_value, Stored, TilesStored, NextChild}

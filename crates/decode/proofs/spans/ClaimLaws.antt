@@ -1,5 +1,5 @@
 -- The four answers of `claim`, and how many spans the words hold. Assumes nothing.
-use mathlib.Core.Path.{◌≡◌, refl, sym, ap, subst, ◌∙◌}
+use mathlib.Core.Path.{◌≡◌, refl, ap, ◌∙◌}
 use mathlib.Core.Bool.{true, false}
 use mathlib.Core.List.{List, [], ◌∷◌}
 use Prim.Native.Nat.{ℕ, zero, suc, ◌+◌, ◌/◌, ◌<◌, ◌≤◌}
@@ -8,11 +8,10 @@ use lib.ListN.{length, length-append}
 use lib.Dec.{ltb}
 use borrow.Author.Tests.{lt-ltb, le-ltb, le-leb, lt-leb}
 use Rattle.nanovdb.specs.Nodes.{State, claim, with_span}
-use Rattle.nanovdb.specs.Spans.{Span, overlaps, Seen, at, nowhere}
+use Rattle.nanovdb.specs.Spans.{Span, overlaps}
 use Rattle.refusals.specs.Results.{Result, ok, refused}
 use Rattle.decode.specs.declared.spans.Spans.{Spans}
-use Rattle.decode.specs.Inner.WorkTable.{Small, size, span_at, nodes, spans, node_span, Says, header_span, root_span, SaysRoot, Begun, Rep}
-use Rattle.decode.specs.Inner.WorkTable.{seen_of, ClaimOut}
+use Rattle.decode.specs.Inner.WorkTable.{size, span_at, nodes, spans, node_span, Says, header_span, root_span, SaysRoot, Begun, Rep}
 use Rattle.decode.proofs.spans.Laws.{and_no}
 
 pub length_nodes : (w : List ℕ) (k : ℕ) → length (nodes w k) ≡ k

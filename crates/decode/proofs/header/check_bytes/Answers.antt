@@ -1,5 +1,4 @@
 -- The ways out of `check_bytes`: 1, 2, 3, and the world box. Assumes nothing.
-use Rattle.std.proofs.Common.{sym, ◌∙◌}
 use Rattle.decode.proofs.header.Faults.{fault_long, fault_short, fault_header, fault_bounds}
 use Rattle.decode.proofs.header.check_bytes.Goals as goal
 

@@ -1,11 +1,9 @@
 -- `node`, which calls itself on the level below: what its calls ask, and its ways out. Assumes nothing.
-use Rattle.std.proofs.Common.{◌≡◌, ℕ, ◌<◌, List, length, sym, subst, arith}
-use Rattle.std.specs.Prelude.{Ok, Result as Answer}
+use Rattle.std.proofs.Common.{sym, subst, arith}
+use Rattle.std.specs.Prelude.{Ok}
 use native.Mathlib.Nat.{pos_of_ne-zero}
 use Rattle.refusals.proofs.Exits.{exit_is}
-use Rattle.refusals.specs.declared.Refusal.{Refusal}
-use Rattle.decode.specs.Inner.Filled.{Tabs, tabs, with_work, Kept, NodeOut}
-use Rattle.decode.specs.declared.nodes.Placed.{Placed}
+use Rattle.decode.specs.Inner.Filled.{tabs, with_work, Kept, NodeOut}
 use Rattle.decode.proofs.nodes.Fits.{count_small, leaf_inside, entries_most}
 use Rattle.decode.proofs.nodes.Tables.{with_values}
 use Rattle.decode.proofs.nodes.Turns.{turn_begins}

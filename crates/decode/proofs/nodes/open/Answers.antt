@@ -1,13 +1,8 @@
 -- The ways out of `open`: a node that was read before, the refusal of `enter`, no place, and a new node. Assumes nothing.
-use Rattle.std.proofs.Common.{sym, subst, ◌≡◌, ℕ, ◌<◌, List, length, arith}
-use Rattle.std.specs.Prelude.{Ok, Result as Answer}
+use Rattle.std.proofs.Common.{sym, subst, length, arith}
 use Rattle.refusals.proofs.Exits.{exit_is}
-use Rattle.refusals.specs.declared.Refusal.{Refusal}
-use Rattle.decode.specs.declared.spans.Entered.{Entered}
-use Rattle.decode.specs.declared.nodes.Opened.{Opened}
-use Rattle.decode.specs.Inner.WorkTable.{EnterOut}
 use Rattle.decode.specs.Inner.Filled.{with_work, OpenOut}
-use Rattle.decode.proofs.nodes.Fits.{number_small, base_fits}
+use Rattle.decode.proofs.nodes.Fits.{number_small}
 use Rattle.decode.proofs.nodes.Answers.{entered, fresh-whole, out-again, out-stop, out-full, out-new}
 use Rattle.decode.proofs.nodes.open.Goals as goal
 

@@ -1,5 +1,5 @@
 -- One answer of the definition's `claim` for each way out: past the end, an overlap, no room, and a span more.
-use Rattle.std.proofs.Common.{◌≡◌, ◌+◌, ◌≤◌, ◌<◌, refl, sym, ◌∙◌, arith}
+use Rattle.std.proofs.Common.{◌+◌, ◌≤◌, ◌<◌, refl, sym, ◌∙◌, arith}
 use Rattle.decode.specs.Inner.WorkTable.{size}
 use Rattle.decode.proofs.spans.ClaimLaws.{Node, says_5, says_6, says_9, says_ok}
 use Rattle.decode.proofs.spans.claim.Goals as goal

@@ -1,6 +1,5 @@
 -- The stretches from the first that can reach the bytes to the last, each by its chain.
-use Rattle.std.proofs.Common.{◌+◌, ◌-◌, ◌/◌, ◌<◌, ◌≤◌, arith}
-use Rattle.decode.specs.Inner.WorkTable.{size}
+use Rattle.std.proofs.Common.{◌-◌, ◌/◌, ◌<◌, arith}
 use Rattle.decode.proofs.spans.Laws.{from_start, from_next, from_end, size_pos}
 use Rattle.decode.proofs.spans.meets_at.Goals as goal
 

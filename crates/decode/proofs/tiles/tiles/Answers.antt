@@ -4,7 +4,6 @@ use Rattle.refusals.proofs.Exits.{exit_is}
 use Rattle.nanovdb.proofs.Kept.{Kept}
 use Rattle.decode.specs.Inner.Filled.{tabs}
 use Rattle.decode.specs.Inner.Rooted.{root_tabs, TilesOut}
-use Rattle.decode.specs.Inner.GridRead.{all_tables}
 use Rattle.decode.proofs.tiles.Turns.{row_begins, row_more, tiles_stop, tiles_end}
 use Rattle.decode.proofs.tiles.tiles.Goals as goal
 

@@ -1,6 +1,6 @@
 -- The ways out of `read_tree`: three tests, the root, the places of its tiles, the tiles, the counts, and the tree. Assumes nothing.
-use Rattle.std.proofs.Common.{sym, subst, ◌∙◌, arith}
-use Rattle.std.specs.Prelude.{Ok, Err, false, true}
+use Rattle.std.proofs.Common.{sym, subst, arith}
+use Rattle.std.specs.Prelude.{Ok, Err}
 use Rattle.refusals.proofs.Exits.{exit_is}
 use Rattle.decode.specs.Inner.Filled.{tabs}
 use Rattle.decode.specs.Inner.Rooted.{root_tabs}
