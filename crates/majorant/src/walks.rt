@@ -7,9 +7,7 @@ ghost use Rattle.sparse_grid.specs.Validate.{validate};
 ghost use Rattle.sparse_grid.specs.Lookup.{read_in};
 ghost use Rattle.boxes.specs.Boxes.{box_maximum, as_box};
 ghost use Rattle.walk.specs.Classes.{class_count, limits_fault, sides_fault};
-ghost use Rattle.majorant.specs.Counted.{as_read, read_for};
 
-use crate::Counted;
 use boxes::CoordBox;
 use refusals::Refusal;
 use sparse_grid::Grid;
@@ -40,49 +38,3 @@ pub(crate) fn range_max(grid: &Grid, of: CoordBox) -> f32
     )
 }
 
-pub(crate) fn range_max_counted(grid: &Grid, of: CoordBox) -> Counted
-    requires { validate (as_grid grid.now) ≡ 0 }
-    ensures { as_read result ≡ read_for (as_grid grid.now) (as_box of) }
-{
-    let mut counts: [u64; 5] = [0; 5];
-    let maximum = crate::range_max::range_max(
-        grid.background,
-        grid.blocks,
-        grid.roots.links,
-        grid.roots.values,
-        grid.upper.links,
-        grid.upper.values,
-        grid.lower.links,
-        grid.lower.values,
-        grid.leaf_values,
-        of.lo.x,
-        of.lo.y,
-        of.lo.z,
-        of.hi.x,
-        of.hi.y,
-        of.hi.z,
-        true,
-        &mut counts,
-    );
-    Counted {
-        maximum: maximum,
-        roots: counts[0],
-        upper: counts[1],
-        lower: counts[2],
-        high: counts[3],
-        low: counts[4],
-    }
-}
-
-pub(crate) fn check_classes(grid: &Grid, limits: &[f32], of: CoordBox) -> Result<(), Refusal>
-    ensures { fault_of result ≡ (validate (as_grid grid.now) then limits_fault limits.now then sides_fault (as_box of)) }
-{
-    loop {}
-}
-
-pub(crate) fn box_classes(grid: &Grid, limits: &[f32], of: CoordBox) -> [u64; 17]
-    requires { (validate (as_grid grid.now) ≡ 0) × (sides_fault (as_box of) ≡ 0) × (length limits.now ≤ 16) }
-    ensures { (k : ℕ) → k < 17 → slice_index result k ≡ class_count (read_in (as_grid grid.now)) limits.now (as_box of) k }
-{
-    loop {}
-}
