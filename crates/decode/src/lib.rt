@@ -35,6 +35,7 @@ pub struct Decoded {
 pub fn decode_scalar_grid(bytes: &[u8], tables: &mut Tables<'_>) -> Result<Decoded, Refusal>
     ensures answer { let l = lengths (as_tables tables.old) in answer result ≡ answer_of (decode_into decode_scalar bytes.now l) }
     ensures tables { let l = lengths (as_tables tables.old) in as_tables tables.new ≡ left_of l (decode_into decode_scalar bytes.now l) }
+    ensures lengths { lengths (as_tables tables.new) ≡ lengths (as_tables tables.old) }
     ensures same { SameSlices tables.old tables.new }
 {
     tables.clear_nodes();
@@ -48,6 +49,7 @@ pub fn decode_scalar_grid(bytes: &[u8], tables: &mut Tables<'_>) -> Result<Decod
 pub fn decode_density_grid(bytes: &[u8], tables: &mut Tables<'_>) -> Result<Decoded, Refusal>
     ensures answer { let l = lengths (as_tables tables.old) in answer result ≡ answer_of (decode_into decode_density bytes.now l) }
     ensures tables { let l = lengths (as_tables tables.old) in as_tables tables.new ≡ left_of l (decode_into decode_density bytes.now l) }
+    ensures lengths { lengths (as_tables tables.new) ≡ lengths (as_tables tables.old) }
     ensures same { SameSlices tables.old tables.new }
 {
     tables.clear_nodes();

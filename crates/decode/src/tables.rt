@@ -70,6 +70,7 @@ impl Tables<'_> {
     // Every table is set to zeros.
     pub fn clear(&mut self)
         ensures tables { as_tables self.new ≡ zeros (lengths (as_tables self.old)) }
+        ensures lengths { lengths (as_tables self.new) ≡ lengths (as_tables self.old) }
         ensures same { SameSlices self.old self.new }
     {
         self.clear_nodes();
@@ -102,6 +103,7 @@ impl Tables<'_> {
     // After a decode the work table is emptied, and the leaves' table behind what was read; after a refusal every table.
     pub(crate) fn leave(&mut self, read: Result<Decoded, Refusal>)
         ensures tables { as_tables self.new ≡ left_in (as_tables self.old) read }
+        ensures lengths { lengths (as_tables self.new) ≡ lengths (as_tables self.old) }
         ensures same { SameSlices self.old self.new }
     {
         match read {

@@ -23,9 +23,8 @@ use Rattle.nanovdb.proofs.Lookups.{scalar_reads}
 use Rattle.nanovdb.proofs.Numbers.{Numbered, scalar_numbered, not_zero, scalar_never_15}
 use Rattle.nanovdb.proofs.UsedLaws.{scalar_accepts, scalar_parts, scalar_room}
 use Rattle.temperature.specs.Temperature.{heated, heat_fault, load_into, read_by, temperature_at}
-use Rattle.temperature.specs.Answers.{Loaded, loaded_of, heat_of}
+use Rattle.temperature.specs.Answers.{Loaded, loaded_of}
 use Rattle.temperature.specs.ThroughLoad.{heat_in, HandedHeat, ThroughLoad}
-use Rattle.temperature.specs.declared.Heat.{Heat}
 
 -- ---- a load is a decode, and then 27
 
@@ -123,9 +122,7 @@ module _ (b : List ℕ) (bytes : Bytes b) (offset scale : Float) (l : Lent) (a :
             };
         tables = ap (filled l) (sym u);
         temperature = refl;
-        readings = λ c small h is.
-            let q = is ∙ ap (λ (g : Grid). heat_of (temperature_at (heated offset scale) g c)) u ∙ ap heat_of (temperature_read c small) in
-            (ap (λ (x : Heat). x.number) q, ap (λ (x : Heat). x.bits) q);
+        readings = λ c small h is. is ∙ ap (λ (g : Grid). temperature_at (heated offset scale) g c) u ∙ temperature_read c small;
       }
 
 -- over the contracts of `load_temperature` and `temperature_at`

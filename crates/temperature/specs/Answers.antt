@@ -1,12 +1,13 @@
 -- What the answers of a load and of a reading say.
-use Rattle.std.specs.Prelude.{ℕ, Float}
-use Rattle.refusals.specs.Results.{Result, ok, refused, number_of, value_or}
+use Rattle.std.specs.Prelude.{ℕ, Float, Ok, Err, Result as Said}
+use Rattle.refusals.specs.Results.{Result, ok, refused}
+use Rattle.refusals.specs.Numbers.{number}
+use Rattle.refusals.specs.declared.Refusal.{Refusal}
 use Rattle.medium.specs.Medium.{Temperature, no_temperature}
 use Rattle.medium.specs.Record.{as_temperature}
 use Rattle.nanovdb.specs.Decode.{Accepted}
 use Rattle.nanovdb.specs.Lent.{Answer, no_medium, answer_of}
 use Rattle.temperature.specs.declared.Loaded as Code
-use Rattle.temperature.specs.declared.Heat.{Heat}
 
 -- the number (0 where there is a grid), how many roots and nodes are used, the background, and how the grid is read
 pub record Loaded : Type 0 where
@@ -48,7 +49,7 @@ loaded_by t a = record {
 
 abbrev pub as_loaded : Code.Loaded → Loaded
 as_loaded a = record {
-  number = a.number;
+  number = 0;
   roots = a.roots;
   upper = a.upper;
   lower = a.lower;
@@ -56,6 +57,11 @@ as_loaded a = record {
   background = a.background;
   temperature = as_temperature a.temperature;
 }
+
+-- what the code's answer says: after a refusal its number, and nothing loaded
+abbrev pub loaded : Said Code.Loaded Refusal → Loaded
+loaded (Ok a) = as_loaded a
+loaded (Err e) = loaded_of no_temperature (refused (number e))
 
 -- the counts and the background of a load as those of a decode
 abbrev pub counts_in : Loaded → Answer
@@ -68,7 +74,3 @@ counts_in a = record {
   background = a.background;
   medium = no_medium;
 }
-
--- the number, and the bits, or 0 after a refusal
-abbrev pub heat_of : Result ℕ → Heat
-heat_of r = record { number = number_of r; bits = value_or 0 r }

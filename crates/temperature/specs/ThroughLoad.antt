@@ -1,14 +1,16 @@
 -- What is claimed of a temperature grid that has loaded: on the left what the functions answered and left, on the right the bytes.
-use Rattle.std.specs.Prelude.{ℕ, ◌≡◌, List, Float}
+use Rattle.std.specs.Prelude.{ℕ, ◌≡◌, List, Float, Result as Answer}
 use Rattle.std.specs.Float.{binary32}
 use Rattle.std.specs.Float.Ieee.{to_bits}
+use Rattle.refusals.specs.Results.{ok}
+use Rattle.refusals.specs.Numbers.{said_by}
+use Rattle.refusals.specs.declared.Refusal.{Refusal}
 use Rattle.layout.specs.Bytes.{Bytes}
 use Rattle.layout.specs.Coordinates.{Coord, Signed32}
 use Rattle.layout.specs.Walk.{voxel}
 use Rattle.nanovdb.specs.Lent.{Lent, Tables, left_of, filled, Used, used_of}
 use Rattle.temperature.specs.Temperature.{heated, load_into, degrees, temperature_at}
-use Rattle.temperature.specs.Answers.{Loaded, loaded_of, counts_in, heat_of}
-use Rattle.temperature.specs.declared.Heat.{Heat}
+use Rattle.temperature.specs.Answers.{Loaded, loaded_of, counts_in}
 
 -- the bits of the temperature that the walk of the bytes reads: its value, less the offset, times the scale
 abbrev pub heat_in : List ℕ → Float → Float → Coord → ℕ
@@ -20,8 +22,8 @@ pub record HandedHeat (b : List ℕ) (offset scale : Float) (l : Lent) (a : Load
   pub room : Used (counts_in a) left
   pub tables : left ≡ filled l (used_of (counts_in a) left)
   pub temperature : a.temperature ≡ heated offset scale
-  pub readings : (c : Coord) → Signed32 c → (h : Heat) → h ≡ heat_of (temperature_at a.temperature (used_of (counts_in a) left) c)
-      → (h.number ≡ 0) × (h.bits ≡ heat_in b offset scale c)
+  pub readings : (c : Coord) → Signed32 c → (h : Answer ℕ Refusal) → said_by h ≡ temperature_at a.temperature (used_of (counts_in a) left) c
+      → said_by h ≡ ok (heat_in b offset scale c)
 
 -- of every load: a is what it answered, and left what it left in the lent tables
 abbrev pub ThroughLoad : Type 0
