@@ -1,5 +1,5 @@
 -- The one claim over what the contracts say, proved. Assumes nothing.
-use Rattle.std.specs.Prelude.{◌≡◌, refl, List, true, ℕ, replicate, Float}
+use Rattle.std.specs.Prelude.{◌≡◌, refl, List, ℕ, replicate, Float}
 use Rattle.std.proofs.Common.{sym, ◌∙◌, subst}
 use Rattle.std.proofs.Math.Path.{ap}
 use Rattle.std.specs.Float.{binary32}
@@ -14,17 +14,17 @@ use Rattle.sparse_grid.specs.Tables.{Grid}
 use Rattle.sparse_grid.specs.Lookup.{lookup}
 use Rattle.sparse_grid.specs.Answers.{value_only, Spoken, unspoken, spoken}
 use Rattle.cells.specs.Cells.{cell_count}
-use Rattle.medium.specs.Medium.{Point, Medium, map_fault}
+use Rattle.medium.specs.Medium.{Point, Medium}
 use Rattle.medium.specs.Alike.{Alike}
 use Rattle.nanovdb.specs.Decode.{Accepted, decode_density, medium_of}
-use Rattle.nanovdb.specs.Lent.{Lent, Answer, Tables, places_of, decode_into, answer_of, left_of, filled, used_of}
+use Rattle.nanovdb.specs.Lent.{Lent, Answer, places_of, decode_into, answer_of, left_of, filled}
 use Rattle.nanovdb.specs.Agreement.{ReadsAs}
 use Rattle.nanovdb.specs.Passed.{density_passed}
 use Rattle.nanovdb.proofs.Numbers.{Numbered, numbered, not_zero}
 use Rattle.nanovdb.proofs.Lookups.{reads}
 use Rattle.nanovdb.proofs.UsedLaws.{accepts, used_parts, used_room}
 use Rattle.index.specs.Answers.{index_bits}
-use Rattle.boxes.specs.Boxes.{Box, InSome, GreatestOver, Greatest, box_maximum}
+use Rattle.boxes.specs.Boxes.{InSome, GreatestOver, Greatest, box_maximum}
 use Rattle.majorant.specs.Build.{public_maximum, build_into}
 use Rattle.majorant.specs.Maxima.{box_at, maxima_of, greatest_of, greatest_into}
 use Rattle.majorant.proofs.MaximaLaws.{maxima_greatest}

@@ -1,26 +1,31 @@
 -- What `load` and `ask` answer and leave, from what the functions that they call answer and leave. Assumes nothing.
 use mathlib.Core.Path.{◌≡◌, refl, sym, ap, ◌∙◌, subst}
-use mathlib.Core.List.{List, []}
+use mathlib.Core.List.{List}
 use Prim.Native.Nat.{ℕ, zero, suc, ◌<◌}
 use lib.ListN.{get_or, replicate}
 use lib.Ieee.{Float}
 use Rattle.refusals.specs.Results.{Result, ok, refused, number_of, value_or, bind}
 use Rattle.refusals.specs.ResultLaws.{stopped}
 use Rattle.refusals.specs.Faults.{passing}
+use Rattle.refusals.specs.Numbers.{number, fault_of}
+use Rattle.refusals.specs.declared.Refusal.{Refusal}
+use Rattle.refusals.proofs.Exits.{number_some}
+use Rattle.refusals.proofs.FaultSteps.{passing_stop}
+use Rattle.std.specs.Prelude.{Ok, Err, None, Option, Result as Outcome}
 use Rattle.float.specs.Zero.{+0}
 use Rattle.layout.specs.Bytes.{Bytes}
 use Rattle.layout.specs.Walk.{voxel}
 use Rattle.sparse_grid.specs.Tables.{Grid}
 use Rattle.cells.specs.Cells.{cell_count}
-use Rattle.cells.specs.Counted.{Counted}
+use Rattle.cells.specs.Counted.{Counted, Tabled}
 use Rattle.medium.specs.Medium.{Medium, Point, Axis, bounds_fault}
 use Rattle.medium.specs.Alike.{alike_same}
 use Rattle.nanovdb.specs.Decode.{Accepted, decode_density, medium_of}
 use Rattle.nanovdb.specs.Lent as Lent
-use Rattle.nanovdb.specs.Lent.{Lent, Tables, tables, places_of, decode_into, answer_of, left_of, Used, used_of}
+use Rattle.nanovdb.specs.Lent.{Lent, Tables, places_of, decode_into, answer_of, left_of, used_of, no_medium}
 use Rattle.nanovdb.proofs.Numbers as Numbers
 use Rattle.nanovdb.proofs.Numbers.{Numbered, numbered, not_zero}
-use Rattle.nanovdb.proofs.UsedLaws.{accepts, used_parts, used_room}
+use Rattle.nanovdb.proofs.UsedLaws.{accepts, used_parts}
 use Rattle.index.specs.Found.{cell_at}
 use Rattle.index.proofs.Enclosed as Cells
 use Rattle.index.proofs.Enclosed.{cell_found, cell_encloses}
@@ -36,28 +41,30 @@ use Rattle.claim.specs.Load.{with_build, load, load_answer, Claimed, Loads}
 use Rattle.claim.specs.Ask.{Question, Answer, answer}
 use Rattle.claim.specs.Answered.{Figured, Answered, Asks}
 use Rattle.claim.proofs.ContractLaws.{looked, same_medium, through_contracts}
+use Rattle.claim.specs.Asked.{as_found}
 use Rattle.claim.specs.Inner.{Small, build_in, seen_in, found_in}
 use Rattle.claim.specs.declared.Seen.{Seen}
 use Rattle.claim.specs.declared.Found.{Found}
 
--- ---- what the private functions answer after a refusal, and where there is none
+-- ---- what the private functions answer after a build
 
-pub seen_stop : (n : ℕ) (g : Grid) (q : Question) → (n ≡ 0 → ⊥) → ◌≡◌ {A = Seen} (record { value = +0; maximum = +0 }) (seen_in n g q)
-seen_stop zero g q h = absurd (h refl)
-seen_stop (suc n) g q h = refl
+-- the build passed, and the code found what the definition finds
+pub found_passed : (m : Medium) (table : List Float) (p : Point) (none : ℕ) {build : Outcome (Unit {0}) Refusal} {u : Unit {0}} (f : Option Found)
+    → build ≡ Ok u → as_found 0 none f ≡ found_in 0 m table p → as_found (fault_of build) none f ≡ found_in (fault_of build) m table p
+found_passed m table p none f e h =
+    ap (λ (r : Outcome (Unit {0}) Refusal). as_found (fault_of r) none f) e ∙ h
+    ∙ ap (λ (r : Outcome (Unit {0}) Refusal). found_in (fault_of r) m table p) (sym e)
 
-pub seen_on : (n : ℕ) (g : Grid) (q : Question) → n ≡ 0 → seen_in 0 g q ≡ seen_in n g q
-seen_on n g q e = ap (λ (k : ℕ). seen_in k g q) (sym e)
-
-pub found_stop : (n : ℕ) (m : Medium) (table : List Float) (p : Point) → (n ≡ 0 → ⊥) → ◌≡◌ {A = Found} (record { cell = 0; figure = +0 }) (found_in n m table p)
-found_stop zero m table p h = absurd (h refl)
-found_stop (suc n) m table p h = refl
-
-pub found_on : (n : ℕ) (m : Medium) (table : List Float) (p : Point) → n ≡ 0 → {c : ℕ} {f : Float} → c ≡ cell_at m m.cells p → f ≡ get_or table c +0
-    → ◌≡◌ {A = Found} (record { cell = c; figure = f }) (found_in n m table p)
-found_on n m table p e c-is f-is =
-    (λ i. record { cell = c-is i; figure = (f-is ∙ ap (λ (k : ℕ). get_or table k +0) c-is) i })
-    ∙ ap (λ (k : ℕ). found_in k m table p) (sym e)
+-- the build was refused
+pub found_refused : (m : Medium) (table : List Float) (p : Point) (none : ℕ) {build : Outcome (Unit {0}) Refusal} {e : Refusal}
+    → build ≡ Err e → as_found (fault_of build) none None ≡ found_in (fault_of build) m table p
+found_refused m table p none {e = e} is =
+    ap (λ (r : Outcome (Unit {0}) Refusal). as_found (fault_of r) none None) is ∙ zeros (number e) (number_some e)
+    ∙ ap (λ (r : Outcome (Unit {0}) Refusal). found_in (fault_of r) m table p) (sym is)
+  where
+    zeros : (n : ℕ) → (n ≡ 0 → ⊥) → as_found n none None ≡ found_in n m table p
+    zeros zero h = absurd (h refl)
+    zeros (suc n) h = refl
 
 -- a build into a table is refused by a number above 0
 build_number : (g : Grid) (m : Medium) (places n : ℕ) → build_into g m places ≡ refused n → n ≡ 0 → ⊥
@@ -80,26 +87,6 @@ accepted {b = b} {l = l} {a = a} d z = go (decode_into decode_density b l) refl 
     go : (r : Result Accepted) → decode_into decode_density b l ≡ r → Numbered r → a ≡ answer_of r → (t : Accepted) × (decode_into decode_density b l ≡ ok t)
     go (ok t) e n p = (t, e)
     go (refused k) e n p = absurd (not_zero n (sym (ap (λ (x : Lent.Answer). x.number) p) ∙ z))
-
--- the used parts have their places where the decode answered 0
-pub used_in_lem : {b : List ℕ} {l : Lent} {a : Lent.Answer} {left : Tables} → Decode b l a left → a.number ≡ 0 → Used a left
-used_in_lem {b = b} {l = l} d z =
-    let (t, e) = accepted d z in
-    subst (λ (X : Type 0). X) (sym (λ i. Used ((d.answer_is ∙ ap answer_of e) i) ((d.tables_are ∙ ap (left_of l) e) i))) (used_room b l t e)
-
--- the work table has no used part
-pub workless : {a : Lent.Answer} {t : Tables} → Used a t
-    → Used a (tables t.blocks t.root_links t.root_values t.upper_links t.upper_values t.lower_links t.lower_values t.leaf_values [])
-workless u = record {
-  blocks = u.blocks;
-  root_links = u.root_links;
-  root_values = u.root_values;
-  upper_links = u.upper_links;
-  upper_values = u.upper_values;
-  lower_links = u.lower_links;
-  lower_values = u.lower_values;
-  leaf_values = u.leaf_values;
-}
 
 module _ (b : List ℕ) (l : Lent) (places : ℕ) where
   -- ---- load
@@ -139,17 +126,27 @@ module _ (b : List ℕ) (l : Lent) (places : ℕ) where
       claim = claimed;
     }
 
-  -- a build that answered 0 took numbers of cells that pass
-  counted_of : (r : Result Accepted) → Numbered r → number_of (with_build places r).built ≡ 0 → Counted (answer_of r).medium.cells
-  counted_of (ok t) n z = (Built.accepted t.grid t.medium places z).size.count
-  counted_of (refused k) n z = absurd (not_zero n z)
+  -- a refused decode leaves zeros in both
+  pub loads_none : {left : Tables} {table : List Float} → Bytes b → (e : Refusal) → answer_of (refused (number e)) ≡ answer_of (decode_into decode_density b l)
+      → left ≡ left_of l (decode_into decode_density b l) → table ≡ replicate places +0
+      → Loads b l places (record { decode = answer_of (refused (number e)); build = number e }) left table
+  loads_none {left} {table} bytes e a-is left-is z =
+      let d : Decode b l (answer_of (refused (number e))) left = record { answer_is = a-is; tables_are = left-is } in
+      let stop = passing_stop (number e) (build_into (used_of (answer_of (refused (number e))) left) no_medium places) (number_some e) in
+      loads bytes d (sym (ap number_of stop)) (z ∙ sym (ap (value_or (replicate places +0)) stop))
 
-  pub counted_in : {a : Load.Answer} {left : Tables} {table : List Float} → Loads b l places a left table → a.build ≡ 0
-      → Counted a.decode.medium.cells
+  -- a build that answered 0 has a figure for each cell
+  tabled_of : (r : Result Accepted) → Numbered r → number_of (with_build places r).built ≡ 0 → Tabled (answer_of r).medium.cells places
+  tabled_of (ok t) n z = (Built.accepted t.grid t.medium places z).size
+  tabled_of (refused k) n z = absurd (not_zero n z)
+
+  pub tabled_in : {a : Load.Answer} {left : Tables} {table : List Float} {n : ℕ} → Loads b l places a left table → a.build ≡ 0 → n ≡ places
+      → Tabled a.decode.medium.cells n
   unfolding load
-  counted_in L z =
-      subst (λ (y : Load.Answer). Counted y.decode.medium.cells) (sym L.answer_is)
-      (counted_of (decode_into decode_density b l) (numbered b l) (sym (ap (λ (y : Load.Answer). y.build) L.answer_is) ∙ z))
+  tabled_in {a = a} L z same =
+      subst (λ (k : ℕ). Tabled a.decode.medium.cells k) (sym same)
+      (subst (λ (y : Load.Answer). Tabled y.decode.medium.cells places) (sym L.answer_is)
+      (tabled_of (decode_into decode_density b l) (numbered b l) (sym (ap (λ (y : Load.Answer). y.build) L.answer_is) ∙ z)))
 
   -- ---- ask
 

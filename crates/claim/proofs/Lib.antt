@@ -5,3 +5,4 @@ pub mod Lists
 pub mod MixTheorem
 pub mod Points
 pub mod Theorem
+pub mod Cell

@@ -1,5 +1,5 @@
 -- The claim of the density between voxels, proved. Assumes nothing.
-use Rattle.std.specs.Prelude.{◌≡◌, refl, ◌⊎◌, List, Bool, true, false, not, ◌&&◌, cond, ℕ, ◌<◌, ℤ, T, get_or, Float}
+use Rattle.std.specs.Prelude.{◌≡◌, refl, ◌⊎◌, List, Bool, true, false, not, ◌&&◌, cond, ℕ, ◌<◌, T, get_or, Float}
 use Rattle.std.proofs.Common.{sym, ap, ◌∙◌, subst, inl, inr}
 use Rattle.std.proofs.Math.IntN.{suc_ℤ}
 use Rattle.std.specs.Float.{nan, inf, fin, binary32}
@@ -23,7 +23,7 @@ use Rattle.sparse_grid.specs.Lookup.{value_in, read_in}
 use Rattle.sparse_grid.proofs.Values.{read_kept}
 use Rattle.cells.specs.Cells.{Cells, cell_count}
 use Rattle.medium.specs.Medium.{Point, Medium, Axis, x_axis, y_axis, z_axis, on_coord, bounds_fault, index_fault, map_fault, medium_fault, each}
-use Rattle.medium.specs.Alike.{Alike, alike_same, alike_but_box}
+use Rattle.medium.specs.Alike.{Alike, alike_but_box}
 use Rattle.nanovdb.specs.Decode.{medium_of}
 use Rattle.nanovdb.specs.Passed.{density_passed}
 use Rattle.nanovdb.proofs.Lookups.{reads}
@@ -40,10 +40,9 @@ use Rattle.mix.specs.Mix.{mix, part}
 use Rattle.mix.specs.Density.{outside_fault, corner_of, mix_between, density_by, mix_fault, density_at}
 use Rattle.mix.specs.Bounded.{ceiling, Mixed}
 use Rattle.mix.proofs.MixLaws.{Part, Under, mixed, part_of}
-use Rattle.claim.specs.Claim.{Inside}
 use Rattle.claim.proofs.Theorem.{demand3}
 use Rattle.claim.proofs.Points.{encloses_alike}
-use Rattle.claim.specs.Mixed.{Shaded, DemandA7}
+use Rattle.claim.specs.Mixed.{DemandA7}
 
 -- ---- a cell with a figure has ends of its second box on each axis
 boxed : (f : Axis → Result Ends) (s : Box) → box_of f ≡ ok s → (a : Axis) → (r : Ends) × (f a ≡ ok r)

@@ -2,7 +2,7 @@
 use Rattle.std.specs.Prelude.{◌≡◌, List, ℕ, ◌+◌, ◌^◌, false, T, get_or, Float}
 use Rattle.std.proofs.Common.{sym, ap, ◌∙◌, subst}
 use Rattle.std.specs.Float.{binary32, binary64}
-use Rattle.std.specs.Float.Ieee.{of_bits, lt, le, fits}
+use Rattle.std.specs.Float.Ieee.{of_bits, lt, fits}
 use Rattle.float.specs.Integer.{floor_z}
 use Rattle.nanovdb.specs.Passed.{density_passed}
 use Rattle.sparse_grid.specs.Lookup.{lookup}

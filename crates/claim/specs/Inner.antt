@@ -1,18 +1,15 @@
 -- What the private functions answer, of any grid, any answer of a load and any table of figures.
-use Rattle.std.specs.Prelude.{ℕ, List, cond, ◌&&◌, ltb, get_or, Float}
+use Rattle.std.specs.Prelude.{ℕ, List, get_or, Float}
 use Rattle.refusals.specs.Results.{Result, ok, value_or}
 use Rattle.refusals.specs.Faults.{passing}
 use Rattle.float.specs.Zero.{+0}
-use Rattle.layout.specs.Coordinates.{Coord, Signed32}
+use Rattle.layout.specs.Coordinates.{Signed32}
 use Rattle.sparse_grid.specs.Tables.{Grid}
 use Rattle.sparse_grid.specs.Lookup.{lookup}
 use Rattle.sparse_grid.specs.Answers.{value_only}
 use Rattle.medium.specs.Medium.{Medium, Point}
 use Rattle.nanovdb.specs.Lent as Lent
-use Rattle.cells.specs.Cells.{Cells, cell_count}
-use Rattle.index.specs.Cells.{cell_of}
 use Rattle.index.specs.Found.{cell_at}
-use Rattle.boxes.specs.Boxes.{Box}
 use Rattle.majorant.specs.Build.{public_maximum, build_into}
 use Rattle.claim.specs.Ask.{Question}
 use Rattle.claim.specs.declared.Seen.{Seen}
@@ -34,10 +31,6 @@ seen_in n g q = record {
   value = value_or +0 (passing n (value_only (lookup g q.coordinate)));
   maximum = value_or +0 (passing n (public_maximum g q.box));
 }
-
--- the cell that stands there on each axis, and the number of cells where it stands past the last on one
-unfoldable pub cell_in : Cells → ℕ → ℕ → ℕ → ℕ
-cell_in n x y z = cond (ltb x n.x && ltb y n.y && ltb z n.z) (cell_of n x y z) (cell_count n)
 
 -- the cell of a point and its figure, zeros where the build answered the number n of a refusal
 abbrev pub found_in : ℕ → Medium → List Float → Point → Found

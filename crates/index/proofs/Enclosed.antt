@@ -58,7 +58,7 @@ module _ (n : Cells) (x y z : ℕ) (X : x < n.x) (Y : y < n.y) (Z : z < n.z) whe
   pub cell_z : cell_axis n (cell_of n x y z) z_axis ≡ z
   cell_z = sym (div-div-eq-div-mul (cell_of n x y z) n.x n.y) ∙ ap (λ (k : ℕ). k / n.y) (digits_div (z * n.y + y) X) ∙ digits_div z Y
 
-  cell_lt : cell_of n x y z < n.x * n.y * n.z
+  pub cell_lt : cell_of n x y z < n.x * n.y * n.z
   cell_lt = le_trans (digits_lt (digits_lt Z Y) X) (le_of_eq (turn n.x n.y n.z))
     where
       turn : (x y z : ℕ) → z * y * x ≡ x * y * z
