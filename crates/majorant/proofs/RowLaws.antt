@@ -1,5 +1,5 @@
 -- The cells row after row are the figures in order; a second box within the first needs no search. Assumes nothing.
-use Rattle.std.specs.Prelude.{◌≤◌, length, take, Result as Answer, ◌≡◌, ℕ, zero, suc, ◌+◌, ◌*◌, ◌/◌, ◌%◌, ◌<◌, Bool, true, not, T, List, [], int_le, Float}
+use Rattle.std.specs.Prelude.{◌≤◌, length, take, Result as Answer, ◌≡◌, ℕ, zero, suc, ◌+◌, ◌*◌, ◌/◌, ◌%◌, ◌<◌, Bool, true, false, not, ◌&&◌, T, List, [], int_le, Float}
 use Rattle.std.proofs.Math.Path.{refl, sym, ap}
 use Rattle.std.proofs.Common.{◌∙◌, get_or-take, length-take-le}
 use native.Mathlib.Nat.{div-add-mod', div-lt_iff_lt-mul, mod-lt, mul_assoc, mul_comm, mul_left_comm, add-zero, zero-mul}
@@ -26,27 +26,37 @@ use Rattle.majorant.specs.Figures.{figure, figures}
 use Rattle.boxes.proofs.Offsets.{le_z_through}
 use Rattle.boxes.proofs.Maximum.{greatest}
 use Rattle.boxes.proofs.Greatest.{greatest_within}
-use Rattle.majorant.specs.Rows.{none, ends_in, box_made, first_box, second_box, first_holds, box_figure, cell_figure, chain, push, row_of, rows_of}
+use Rattle.majorant.specs.Rows.{none, ends_in, box_made, first_box, second_box, first_holds, box_figure, cell_figure, chain, push, row_of, plane_of, volume_of, rows_of}
 
 -- ---- a second box within the first
-pub held : (read : Coord → Float) (x y z : Both) → first_holds x ≡ true → first_holds y ≡ true → first_holds z ≡ true
-    → box_figure (box_maximum read) (first_box x y z) (second_box x y z) ≡ ok (box_maximum read (first_box x y z))
-held read x y z X Y Z =
-    ap (λ (t : Bool). need (not t) 17 (ok (box_maximum read (first_box x y z))))
-    (greatest_within read (first_box x y z) (second_box x y z) (λ c i. record {
+pub held : (read : Coord → Float) (x y z : Both) → (first_holds x && first_holds y && first_holds z) ≡ true
+    → lt (box_maximum read (first_box x y z)) (box_maximum read (second_box x y z)) ≡ false
+held read x y z e =
+    let t : T (first_holds x && first_holds y && first_holds z) = yes e in
+    let xy = and_l (first_holds x && first_holds y) (first_holds z) t in
+    let X = and_l (first_holds x) (first_holds y) xy in
+    let Y = and_r (first_holds x) (first_holds y) xy in
+    let Z = and_r (first_holds x && first_holds y) (first_holds z) t in
+    greatest_within read (first_box x y z) (second_box x y z) (λ c i. record {
       x_low = le_z_yes (le_z_through x.first.lo x.second.lo c.x (low x X) i.x_low.le);
       x_high = le_z_yes (le_z_through c.x x.second.hi x.first.hi i.x_high.le (high x X));
       y_low = le_z_yes (le_z_through y.first.lo y.second.lo c.y (low y Y) i.y_low.le);
       y_high = le_z_yes (le_z_through c.y y.second.hi y.first.hi i.y_high.le (high y Y));
       z_low = le_z_yes (le_z_through z.first.lo z.second.lo c.z (low z Z) i.z_low.le);
       z_high = le_z_yes (le_z_through c.z z.second.hi z.first.hi i.z_high.le (high z Z));
-    }) (greatest read (first_box x y z)) (greatest read (second_box x y z)))
+    }) (greatest read (first_box x y z)) (greatest read (second_box x y z))
   where
-    low : (a : Both) → first_holds a ≡ true → T (int_le a.first.lo a.second.lo)
-    low a h = and_l (int_le a.first.lo a.second.lo) (int_le a.second.hi a.first.hi) (yes h)
+    low : (a : Both) → T (first_holds a) → T (int_le a.first.lo a.second.lo)
+    low a h = and_l (int_le a.first.lo a.second.lo) (int_le a.second.hi a.first.hi) h
 
-    high : (a : Both) → first_holds a ≡ true → T (int_le a.second.hi a.first.hi)
-    high a h = and_r (int_le a.first.lo a.second.lo) (int_le a.second.hi a.first.hi) (yes h)
+    high : (a : Both) → T (first_holds a) → T (int_le a.second.hi a.first.hi)
+    high a h = and_r (int_le a.first.lo a.second.lo) (int_le a.second.hi a.first.hi) h
+
+-- so it needs no search
+pub held_figure : (read : Coord → Float) (x y z : Both) → first_holds x ≡ true → first_holds y ≡ true → first_holds z ≡ true
+    → box_figure (box_maximum read) (first_box x y z) (second_box x y z) ≡ ok (box_maximum read (first_box x y z))
+held_figure read x y z X Y Z =
+    ap (λ (t : Bool). need (not t) 17 (ok (box_maximum read (first_box x y z)))) (held read x y z (λ i. X i && Y i && Z i))
 
 -- ---- a cell by its axes
 cell_alone : (maximum : Box → Float) (m : Medium) → map_fault m ≡ 0 → (n : Cells) (k : ℕ)
@@ -119,6 +129,34 @@ module _ (maximum : Box → Float) (m : Medium) (M : map_fault m ≡ 0) (n : Cel
 
       sum : (a i : ℕ) → suc (a + i * 1) ≡ a + suc i * 1
       sum a i = omega arith
+
+  plane_is : (z : ℕ) → z < n.z
+      → bind (figures maximum m n (z * (n.y * n.x))) (plane_of maximum xs ys (zs z) n.x n.y) ≡ figures maximum m n (z * (n.y * n.x) + n.y * n.x)
+  unfolding plane_of
+  plane_is z Z = run_is maximum m n (z * (n.y * n.x)) n.x (λ j. row_of maximum xs (ys j) (zs z) n.x) n.y (λ j J.
+      ap (λ (c : ℕ). bind (figures maximum m n c) (row_of maximum xs (ys j) (zs z) n.x)) (from z n.y n.x j)
+      ∙ row_is j z J Z ∙ ap (figures maximum m n) (to z n.y n.x j))
+    where
+      from : (z b a j : ℕ) → z * (b * a) + j * a ≡ (z * b + j) * a
+      from z b a j = ap (λ (x : ℕ). x + j * a) (sym (mul_assoc z b a)) ∙ sym (native.Mathlib.Nat.add-mul (z * b) j a)
+
+      to : (z b a j : ℕ) → (z * b + j) * a + a ≡ z * (b * a) + suc j * a
+      to z b a j =
+          ap (λ (x : ℕ). x + a) (sym (from z b a j)) ∙ native.Mathlib.Nat.add_assoc (z * (b * a)) (j * a) a
+          ∙ ap (λ (x : ℕ). z * (b * a) + x) (sym (native.Mathlib.Nat.suc-mul j a))
+
+  pub volume_is : volume_of maximum xs ys zs n.x n.y n.z [] ≡ figures maximum m n (n.x * n.y * n.z)
+  unfolding volume_of figures
+  volume_is = run_is maximum m n 0 (n.y * n.x) (λ k. plane_of maximum xs ys (zs k) n.x n.y) n.z (λ k K.
+      ap (λ (c : ℕ). bind (figures maximum m n c) (plane_of maximum xs ys (zs k) n.x n.y)) (native.Mathlib.Nat.zero-add (k * (n.y * n.x)))
+      ∙ plane_is k K ∙ ap (figures maximum m n) (to k (n.y * n.x)))
+      ∙ ap (figures maximum m n) (native.Mathlib.Nat.zero-add (n.z * (n.y * n.x)) ∙ turn n.x n.y n.z)
+    where
+      to : (k a : ℕ) → k * a + a ≡ 0 + suc k * a
+      to k a = sym (native.Mathlib.Nat.suc-mul k a) ∙ sym (native.Mathlib.Nat.zero-add (suc k * a))
+
+      turn : (x y z : ℕ) → z * (y * x) ≡ x * y * z
+      turn x y z = simp (mul_assoc, mul_comm, mul_left_comm)
 
   -- the first r rows are the figures of their cells
   pub rows_are : 0 < n.y → rows_of maximum xs ys zs n.x n.y (n.z * n.y) [] ≡ figures maximum m n (n.x * n.y * n.z)

@@ -55,6 +55,12 @@ push r l = bind r (λ (v : Float). ok (l ++ (v ∷ [])))
 unfoldable pub row_of : (Box → Float) → (ℕ → Result Both) → Result Both → Result Both → ℕ → List Float → Result (List Float)
 row_of maximum xs y z n l = chain (λ i. push (cell_figure maximum (xs i) y z)) n l
 
+unfoldable pub plane_of : (Box → Float) → (ℕ → Result Both) → (ℕ → Result Both) → Result Both → ℕ → ℕ → List Float → Result (List Float)
+plane_of maximum xs ys z nx ny l = chain (λ j. row_of maximum xs (ys j) z nx) ny l
+
+unfoldable pub volume_of : (Box → Float) → (ℕ → Result Both) → (ℕ → Result Both) → (ℕ → Result Both) → ℕ → ℕ → ℕ → List Float → Result (List Float)
+volume_of maximum xs ys zs nx ny nz l = chain (λ k. plane_of maximum xs ys (zs k) nx ny) nz l
+
 -- n rows, row r on y's place r mod ny and z's place r / ny
 unfoldable pub rows_of : (Box → Float) → (ℕ → Result Both) → (ℕ → Result Both) → (ℕ → Result Both) → ℕ → ℕ → ℕ → List Float → Result (List Float)
 rows_of maximum xs ys zs nx ny n l = chain (λ r. row_of maximum xs (ys (r % ny)) (zs (r / ny)) nx) n l

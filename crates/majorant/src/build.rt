@@ -57,7 +57,6 @@ fn box_made(x: Ends, y: Ends, z: Ends) -> CoordBox
 
 // The maximum of the first box, or 17 where that of the second is greater. A second box within the first is not searched: its maximum is not
 // greater.
-#[tactic(auto, using(crate::proofs::RowLaws::held))]
 fn box_figure(grid: &Grid, x: CellEnds, y: CellEnds, z: CellEnds) -> Result<f32, Refusal>
     requires { validate (as_grid grid.now) ≡ 0 }
     ensures { said_by result ≡ box_figure (box_maximum (read_in (as_grid grid.now)))
