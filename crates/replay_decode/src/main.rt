@@ -14,9 +14,15 @@
 
 ghost use Rattle.std.specs.Prelude.{◌≤◌, IfOk};
 
+use boxes::CoordBox;
+use cells::Cells;
 use claim::{Asked, Question};
-use decode::Decoded;
+use decode::{Decoded, Tables, decode_density_grid};
+use layout::Coordinate;
+use majorant::build_majorant;
 use medium::Medium;
+use refusals::{Refusal, fault};
+use sparse_grid::Grid;
 use replay::{Placed, Word, fill, first, read_cases, read_placed, read_word, report};
 use std::io;
 use std::io::Read;
@@ -72,8 +78,22 @@ fn same_medium<R: Read>(list: &mut R, m: Medium) -> io::Result<bool> {
     Ok(world & map & index)
 }
 
-fn same_answer<R: Read>(list: &mut R, d: Decoded) -> io::Result<bool> {
-    let number = same(list, d.number)?;
+// What a refused decode is listed with: no roots, no nodes, and a medium of zeros.
+fn nothing() -> Decoded {
+    let point = [0.0f32; 3];
+    let corner = [0i32; 3];
+    Decoded {
+        roots: 0,
+        upper: 0,
+        lower: 0,
+        leaf: 0,
+        background: 0.0,
+        medium: medium::make_medium(point, point, corner, corner, [0.0f32; 9], point, [0u32; 3]),
+    }
+}
+
+fn same_answer<R: Read>(list: &mut R, number: u32, d: Decoded) -> io::Result<bool> {
+    let number = same(list, number)?;
     let roots = same(list, d.roots)?;
     let upper = same(list, d.upper)?;
     let lower = same(list, d.lower)?;
@@ -105,13 +125,6 @@ fn cleared(work: &[u64]) -> bool {
 
 // ---- the build
 
-// A count that leaves room for the entries of its nodes.
-fn small(n: usize) -> usize
-    ensures { result ≤ 65536 }
-{
-    if n < 65536 { n } else { 0 }
-}
-
 // The listed figures.
 fn same_figures<R: Read>(list: &mut R, majorants: &[f32]) -> io::Result<bool> {
     let mut same = true;
@@ -127,69 +140,62 @@ fn same_figures<R: Read>(list: &mut R, majorants: &[f32]) -> io::Result<bool> {
 }
 
 // Builds the used parts, and says whether the number and the listed figures are the Rust's.
-fn same_build<R: Read>(
-    list: &mut R,
-    d: Decoded,
-    blocks: &[i32],
-    root_links: &[u32],
-    root_values: &[f32],
-    upper_links: &[u32],
-    upper_values: &[f32],
-    lower_links: &[u32],
-    lower_values: &[f32],
-    leaf_values: &[f32],
-) -> io::Result<bool> {
-    let upper = small(d.upper) * 32768;
-    let lower = small(d.lower) * 4096;
+fn same_build<R: Read>(list: &mut R, grid: &Grid, m: &Medium) -> io::Result<bool> {
     let mut majorants = [0.0f32; 262144];
-    let number = majorant::build_majorant(
-        d.background,
-        first(blocks, small(d.roots) * 3),
-        first(root_links, d.roots),
-        first(root_values, d.roots),
-        first(upper_links, upper),
-        first(upper_values, upper),
-        first(lower_links, lower),
-        first(lower_values, lower),
-        first(leaf_values, small(d.leaf) * 512),
-        d.medium,
-        &mut majorants,
-    );
+    let number = fault(build_majorant(grid, m, &mut majorants));
     let answer = same(list, number)?;
     Ok(answer & same_figures(list, &majorants)?)
 }
 
 // ---- the question
 
-fn read_three<T: Word, R: Read>(list: &mut R) -> io::Result<[T; 3]> {
+fn read_coordinate<R: Read>(list: &mut R) -> io::Result<Coordinate> {
     let x = read_word(list)?;
     let y = read_word(list)?;
     let z = read_word(list)?;
-    Ok([x, y, z])
+    Ok(Coordinate { x, y, z })
 }
 
 fn read_question<R: Read>(list: &mut R) -> io::Result<Question> {
-    let coordinate = read_three(list)?;
-    let low = read_three(list)?;
-    let high = read_three(list)?;
-    let point = read_three(list)?;
+    let coordinate = read_coordinate(list)?;
+    let lo = read_coordinate(list)?;
+    let hi = read_coordinate(list)?;
+    let x = read_word(list)?;
+    let y = read_word(list)?;
+    let z = read_word(list)?;
     Ok(Question {
         coordinate,
-        low,
-        high,
-        point,
+        of: CoordBox { lo, hi },
+        point: [x, y, z],
     })
 }
 
+// The cell and the figure that are listed: the number of cells and 0 where no cell encloses the point, zeros after a refused build.
+fn listed_cell(a: Asked) -> (usize, f32) {
+    match (a.found, a.loaded.build) {
+        (Some(found), _) => (found.cell as usize, found.figure),
+        (None, Ok(())) => {
+            let [x, y, z] = a.loaded.decoded.medium.cells;
+            (Cells { x, y, z }.table_length(), 0.0)
+        }
+        (None, Err(_)) => (0, 0.0),
+    }
+}
+
 fn same_asked<R: Read>(list: &mut R, a: Asked) -> io::Result<bool> {
-    let loaded = a.loaded;
-    let number = same(list, loaded.decoded.number)?;
-    let build = same(list, loaded.build)?;
+    let number = same(list, 0u32)?;
+    let build = same(list, fault(a.loaded.build))?;
     let value = same(list, a.value)?;
     let maximum = same(list, a.maximum)?;
-    let cell = same(list, a.cell)?;
-    let figure = same(list, a.figure)?;
+    let (cell, figure) = listed_cell(a);
+    let cell = same(list, cell)?;
+    let figure = same(list, figure)?;
     Ok(number & build & value & maximum & cell & figure)
+}
+
+// After a refused decode its number, as that of the build too, and zeros.
+fn same_refusal<R: Read>(list: &mut R, number: u32) -> io::Result<bool> {
+    same_row(list, &[number, number, 0, 0, 0, 0])
 }
 
 // Whether the answer is as listed, and whether it tells of smoke beside a build that was accepted, and beside one that was refused.
@@ -200,15 +206,23 @@ struct Told {
     unbuilt: bool,
 }
 
-fn compare<R: Read>(list: &mut R, a: Asked) -> io::Result<Told> {
-    let loaded = a.loaded;
-    let given = loaded.build == 0;
-    let smoke = a.maximum > 0.0;
-    Ok(Told {
-        same: same_asked(list, a)?,
-        smoke: given && smoke,
-        unbuilt: !given && smoke,
-    })
+fn compare<R: Read>(list: &mut R, answer: Result<Asked, Refusal>) -> io::Result<Told> {
+    match answer {
+        Ok(a) => {
+            let given = a.loaded.build.is_ok();
+            let smoke = a.maximum > 0.0;
+            Ok(Told {
+                same: same_asked(list, a)?,
+                smoke: given && smoke,
+                unbuilt: !given && smoke,
+            })
+        }
+        Err(refusal) => Ok(Told {
+            same: same_refusal(list, refusal.number())?,
+            smoke: false,
+            unbuilt: false,
+        }),
+    }
 }
 
 // Decodes and builds once more, into fresh tables, for the answer.
@@ -224,26 +238,48 @@ fn replay_question<R: Read>(list: &mut R, bytes: &[u8]) -> io::Result<Told> {
     let mut work = [0u64; 64];
     let mut majorants = [0.0f32; 262144];
     let question = read_question(list)?;
-    let answer = claim::ask(
-        bytes,
-        &mut blocks,
-        &mut root_links,
-        &mut root_values,
-        &mut upper_links,
-        &mut upper_values,
-        &mut lower_links,
-        &mut lower_values,
-        &mut leaf_values,
-        &mut work,
-        &mut majorants,
-        question,
-    );
+    let mut tables = Tables {
+        blocks: &mut blocks,
+        root_links: &mut root_links,
+        root_values: &mut root_values,
+        upper_links: &mut upper_links,
+        upper_values: &mut upper_values,
+        lower_links: &mut lower_links,
+        lower_values: &mut lower_values,
+        leaf_values: &mut leaf_values,
+        work: &mut work,
+    };
+    let answer = claim::ask(bytes, &mut tables, &mut majorants, question);
     compare(list, answer)
 }
 
 // ---- a case
 
+// Whether every table is left as listed, and the work table empty.
+fn same_tables<R: Read>(list: &mut R, t: &Tables<'_>) -> io::Result<bool> {
+    let roots = same_table(list, t.blocks)?;
+    let links = same_table(list, t.root_links)?;
+    let values = same_table(list, t.root_values)?;
+    let upper = same_table(list, t.upper_links)?;
+    let above = same_table(list, t.upper_values)?;
+    let lower = same_table(list, t.lower_links)?;
+    let below = same_table(list, t.lower_values)?;
+    let leaf = same_table(list, t.leaf_values)?;
+    Ok(roots & links & values & upper & above & lower & below & leaf & cleared(t.work))
+}
+
 // Decodes the bytes and builds the grid, and says whether the answers, every table and the figures are as listed.
+fn same_grid<R: Read>(list: &mut R, bytes: &[u8], tables: &mut Tables<'_>) -> io::Result<bool> {
+    let (number, d) = match decode_density_grid(bytes, tables) {
+        Ok(d) => (0, d),
+        Err(refusal) => (refusal.number(), nothing()),
+    };
+    let answer = same_answer(list, number, d)?;
+    let left = same_tables(list, tables)?;
+    Ok(answer & left & same_build(list, &tables.used(&d), &d.medium)?)
+}
+
+// The same into fresh tables.
 fn replay_bytes<R: Read>(list: &mut R, bytes: &[u8]) -> io::Result<bool> {
     let mut blocks = [0i32; 24];
     let mut root_links = [0u32; 8];
@@ -254,41 +290,18 @@ fn replay_bytes<R: Read>(list: &mut R, bytes: &[u8]) -> io::Result<bool> {
     let mut lower_values = [0.0f32; 8192];
     let mut leaf_values = [0.0f32; 4096];
     let mut work = [0u64; 64];
-    let d = decode::decode_density_grid(
-        bytes,
-        &mut blocks,
-        &mut root_links,
-        &mut root_values,
-        &mut upper_links,
-        &mut upper_values,
-        &mut lower_links,
-        &mut lower_values,
-        &mut leaf_values,
-        &mut work,
-    );
-    let answer = same_answer(list, d)?;
-    let roots = same_table(list, &blocks)?;
-    let links = same_table(list, &root_links)?;
-    let values = same_table(list, &root_values)?;
-    let upper = same_table(list, &upper_links)?;
-    let above = same_table(list, &upper_values)?;
-    let lower = same_table(list, &lower_links)?;
-    let below = same_table(list, &lower_values)?;
-    let leaf = same_table(list, &leaf_values)?;
-    let tables = roots & links & values & upper & above & lower & below & leaf;
-    let built = same_build(
-        list,
-        d,
-        &blocks,
-        &root_links,
-        &root_values,
-        &upper_links,
-        &upper_values,
-        &lower_links,
-        &lower_values,
-        &leaf_values,
-    )?;
-    Ok(answer & tables & built & cleared(&work))
+    let mut tables = Tables {
+        blocks: &mut blocks,
+        root_links: &mut root_links,
+        root_values: &mut root_values,
+        upper_links: &mut upper_links,
+        upper_values: &mut upper_values,
+        lower_links: &mut lower_links,
+        lower_values: &mut lower_values,
+        leaf_values: &mut leaf_values,
+        work: &mut work,
+    };
+    same_grid(list, bytes, &mut tables)
 }
 
 // 1 where a case differs, 1 where smoke was found, and 1 where it was found beside a refused build.
