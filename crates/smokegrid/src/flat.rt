@@ -1,79 +1,115 @@
-// Flat arrays of the C interface: what a decode answers, stored in arrays of zeros.
-ghost use Rattle.std.specs.Prelude.{◌≡◌, [], ◌∷◌, ◌+◌, ◌≤◌, pos, length, set, get_or, replicate};
-ghost use Rattle.float.specs.Zero.{+0};
+// What C hands over in numbers and flat arrays, and what it takes back in them.
+ghost use Rattle.std.specs.Prelude.{◌≡◌, [], ◌∷◌, length};
+ghost use Rattle.refusals.specs.Numbers.{fault_of};
+ghost use Rattle.sparse_grid.specs.Tables.{grid_of};
+ghost use Rattle.sparse_grid.specs.Record.{as_grid};
 ghost use Rattle.medium.specs.Record.{as_medium};
-ghost use Rattle.decode.specs.Answers.{answer};
-ghost use Rattle.smokegrid.specs.Flat.{counts_of, floats_of, corners_of, flat_fault, medium_from};
+ghost use Rattle.boxes.specs.Boxes.{between, as_box};
+ghost use Rattle.smokegrid.specs.Flat.{floats_of, corners_of, flat_fault, medium_from};
 
-use decode::Decoded;
+use boxes::CoordBox;
+use layout::Coordinate;
 use medium::Medium;
+use refusals::Refusal;
+use sparse_grid::{Entries, Grid};
+
+// The grid of a background and eight tables.
+pub(crate) fn grid<'a>(
+    background: f32,
+    blocks: &'a [i32],
+    root_links: &'a [u32],
+    root_values: &'a [f32],
+    upper_links: &'a [u32],
+    upper_values: &'a [f32],
+    lower_links: &'a [u32],
+    lower_values: &'a [f32],
+    leaf_values: &'a [f32],
+) -> Grid<'a>
+    ensures { as_grid result ≡ grid_of background blocks.now root_links.now root_values.now
+        upper_links.now upper_values.now lower_links.now lower_values.now
+        leaf_values.now }
+{
+    Grid {
+        background,
+        blocks,
+        roots: Entries {
+            links: root_links,
+            values: root_values,
+        },
+        upper: Entries {
+            links: upper_links,
+            values: upper_values,
+        },
+        lower: Entries {
+            links: lower_links,
+            values: lower_values,
+        },
+        leaf_values,
+    }
+}
+
+// The box between two corners.
+pub(crate) fn corners(lx: i32, ly: i32, lz: i32, hx: i32, hy: i32, hz: i32) -> CoordBox
+    ensures { as_box result ≡ between lx ly lz hx hy hz }
+{
+    CoordBox {
+        lo: Coordinate {
+            x: lx,
+            y: ly,
+            z: lz,
+        },
+        hi: Coordinate {
+            x: hx,
+            y: hy,
+            z: hz,
+        },
+    }
+}
 
 // 18 for an array of another length.
-pub(crate) fn flat_fault(counts: usize, medium: usize, corners: usize, cells: usize) -> u32
-    ensures { result ≡ flat_fault (record { counts = counts; medium = medium; corners = corners; cells = cells }) }
+pub(crate) fn check_flat(
+    counts: usize,
+    medium: usize,
+    corners: usize,
+    cells: usize,
+) -> Result<(), Refusal>
+    ensures { fault_of result ≡ flat_fault (record { counts = counts; medium = medium; corners = corners; cells = cells }) }
 {
-    if counts != 4 {
-        return refusals::TABLES;
+    if counts == 4 && medium == 18 && corners == 6 && cells == 3 {
+        Ok(())
+    } else {
+        Err(Refusal::Tables)
     }
-    if medium != 18 {
-        return refusals::TABLES;
-    }
-    if corners != 6 {
-        return refusals::TABLES;
-    }
-    if cells != 3 { refusals::TABLES } else { 0 }
 }
 
 // Roots, upper, lower and leaf nodes used.
-pub(crate) fn put_four(counts: &mut [u64], roots: usize, upper: usize, lower: usize, leaf: usize)
-    requires { counts.old ≡ replicate 4 0 }
+pub(crate) fn put_counts(counts: &mut [u64], roots: usize, upper: usize, lower: usize, leaf: usize)
+    requires { length counts.old ≡ 4 }
     ensures { counts.new ≡ (roots ∷ upper ∷ lower ∷ leaf ∷ []) }
 {
-    counts[0] = roots as u64;
-    counts[1] = upper as u64;
-    counts[2] = lower as u64;
-    counts[3] = leaf as u64;
-}
-
-pub(crate) fn put_counts(counts: &mut [u64], d: Decoded)
-    requires { counts.old ≡ replicate 4 0 }
-    ensures { counts.new ≡ counts_of (answer d) }
-{
-    put_four(counts, d.roots, d.upper, d.lower, d.leaf);
-}
-
-// Three numbers from `at` on.
-fn put_floats(to: &mut [f32], at: usize, x: f32, y: f32, z: f32)
-    requires { at + 3 ≤ length to.old }
-    ensures { to.new ≡ set (set (set to.old at x) (at + 1) y) (at + 2) z }
-{
-    to[at] = x;
-    to[at + 1] = y;
-    to[at + 2] = z;
+    counts.copy_from_slice(&[roots as u64, upper as u64, lower as u64, leaf as u64]);
 }
 
 pub(crate) fn put_medium(to: &mut [f32], m: Medium)
-    requires { to.old ≡ replicate 18 +0 }
+    requires { length to.old ≡ 18 }
     ensures { to.new ≡ floats_of (as_medium m) }
 {
-    put_floats(to, 0, m.low[0], m.low[1], m.low[2]);
-    put_floats(to, 3, m.high[0], m.high[1], m.high[2]);
-    put_floats(to, 6, m.map[0], m.map[1], m.map[2]);
-    put_floats(to, 9, m.map[3], m.map[4], m.map[5]);
-    put_floats(to, 12, m.map[6], m.map[7], m.map[8]);
-    put_floats(to, 15, m.translation[0], m.translation[1], m.translation[2]);
+    let [lx, ly, lz] = m.low;
+    let [hx, hy, hz] = m.high;
+    let [xx, xy, xz, yx, yy, yz, zx, zy, zz] = m.map;
+    let [tx, ty, tz] = m.translation;
+    to.copy_from_slice(&[
+        lx, ly, lz, hx, hy, hz, xx, xy, xz, yx, yy, yz, zx, zy, zz, tx, ty, tz,
+    ]);
 }
 
 pub(crate) fn put_corners(to: &mut [i32], m: Medium)
-    requires { to.old ≡ replicate 6 (pos 0) }
+    requires { length to.old ≡ 6 }
     ensures { to.new ≡ corners_of (as_medium m) }
 {
-    to[0] = m.index_low[0];
-    to[1] = m.index_low[1];
-    to[2] = m.index_low[2];
-    to[3] = m.index_high[0];
-    to[4] = m.index_high[1];
-    to[5] = m.index_high[2];
+    let [lx, ly, lz] = m.index_low;
+    let [hx, hy, hz] = m.index_high;
+    to.copy_from_slice(&[lx, ly, lz, hx, hy, hz]);
 }
 
 // The medium of 18 numbers, 6 corners and 3 numbers of cells.
@@ -89,14 +125,4 @@ pub(crate) fn medium_from(m: &[f32], c: &[i32], n: &[u32]) -> Medium
     let translation = [m[15], m[16], m[17]];
     let cells = [n[0], n[1], n[2]];
     medium::make_medium(low, high, index_low, index_high, map, translation, cells)
-}
-
-// Three words: the bits of a position, the numbers of cells.
-pub(crate) fn put_three(to: &mut [u32], words: [u32; 3])
-    requires { to.old ≡ replicate 3 0 }
-    ensures { to.new ≡ (get_or words 0 0 ∷ get_or words 1 0 ∷ get_or words 2 0 ∷ []) }
-{
-    to[0] = words[0];
-    to[1] = words[1];
-    to[2] = words[2];
 }

@@ -6,7 +6,10 @@ ghost use Rattle.refusals.specs.Results.{number_of, value_or};
 ghost use Rattle.float.specs.Zero.{+0};
 ghost use Rattle.sparse_grid.specs.Tables.{grid_of};
 ghost use Rattle.sparse_grid.specs.Validate.{validate as validate_s, validate_density};
-ghost use Rattle.sparse_grid.specs.Answers.{outcome, heard, unspoken, level_of, level_number, at};
+ghost use Rattle.refusals.specs.Numbers.{said_by};
+ghost use Rattle.sparse_grid.specs.Answers.{unspoken, level_of, level_number, at};
+ghost use Rattle.sparse_grid.specs.Readings.{spoken_by};
+ghost use Rattle.contents.specs.Spans.{span_said};
 ghost use Rattle.nanovdb.specs.Lent.{tables, lengths};
 ghost use Rattle.boxes.specs.Boxes.{between};
 ghost use Rattle.contents.specs.Contents.{pick, pick_name};
@@ -17,94 +20,85 @@ ghost use Rattle.smokegrid.specs.Promises.{Decodes, GetsValue, GetsReading, BoxM
 ghost use Rattle.smokegrid.specs.Promises.{CountsBox, CountsClasses, LoadsTemperature, GetsTemperature};
 ghost use Rattle.smokegrid.specs.Promises.{OpensRay, NextPiece, PrintsLayer, OpensWindow, PushesTable};
 
-mod classes;
-mod counted;
 mod flat;
 mod ray;
 mod tables;
 
-use classes::put_classes;
-use contents::Picked;
-use counted::put_read;
-use flat::{flat_fault, medium_from, put_corners, put_counts, put_four, put_medium, put_three};
-use index::world_to_index_f;
-use lent::zero_u64;
-use majorant::{
-    CountedAnswer, box_maxima, box_maximum, box_maximum_counted, build_majorant, count_classes,
-};
+use boxes::CoordBox;
+use contents::{Span, grid_span, name_span};
+use decode::{Tables, decode_density_grid};
+use flat::{check_flat, corners, grid, medium_from, put_corners, put_counts, put_medium};
+use index::index_position;
+use layout::Coordinate;
+use lent::zero;
+use majorant::{box_maxima, box_maximum, box_maximum_counted, build_majorant, count_classes};
 use medium::Temperature;
-use mix::mix;
-use ray::{one_if, put_numbers, put_times, ray_fault, ray_from};
-use rays::{next_piece, open_ray};
-use refusals::both;
-use sheet::print_layer;
-use sparse_grid::{Answer, Level, Reading, get_reading, get_value, validate, validate_density};
-use tables::{put_window, window_from};
-use temperature::{load_temperature, temperature_at};
-use window::{open, push};
+use mix::density_at;
+use ray::{is_ray, put_numbers, put_times, ray_from};
+use rays::{Beam, Ray};
+use refusals::{Refusal, fault};
+use sheet::write_layer;
+use sparse_grid::{Level, Reading};
+use tables::{cells_from, put_window, window_from};
+use temperature::{heat_at, load_temperature};
+use window::Window;
 
 // An answer as C takes it: the value through `value`, +0.0 after a refusal, and the number.
-fn give(found: Answer, value: &mut f32) -> u32
-    ensures value { result ≡ number_of (outcome found) }
-    ensures value_after { value.new ≡ value_or +0 (outcome found) }
+fn give(found: Result<f32, Refusal>, value: &mut f32) -> u32
+    ensures number { result ≡ number_of (said_by found) }
+    ensures value { value.new ≡ value_or +0 (said_by found) }
 {
     match found {
-        Answer::Value(v) => {
+        Ok(v) => {
             *value = v;
             0
         }
-        Answer::Refused(number) => {
+        Err(refusal) => {
             *value = 0.0;
-            number
+            refusal.number()
         }
     }
 }
 
-// A level as C takes it.
+// A level's number, as C takes it, is its place in the enum.
 fn level_number(level: Level) -> u32
     ensures { result ≡ level_number (level_of level) }
 {
-    match level {
-        Level::Background => 0,
-        Level::RootTile => 1,
-        Level::UpperTile => 2,
-        Level::LowerTile => 3,
-        Level::Leaf => 4,
-    }
+    level as u32
 }
 
 // A reading as C takes it: the value and the level through their pointers, +0.0 and background after a refusal, and the number.
-fn give_reading(found: Reading, value: &mut f32, level: &mut u32) -> u32
-    ensures value { result ≡ number_of (heard found) }
-    ensures value_after { value.new ≡ (value_or unspoken (heard found)).value }
-    ensures level_after { level.new ≡ level_number (value_or unspoken (heard found)).level }
+fn give_reading(found: Result<Reading, Refusal>, value: &mut f32, level: &mut u32) -> u32
+    ensures number { result ≡ number_of (spoken_by found) }
+    ensures value { value.new ≡ (value_or unspoken (spoken_by found)).value }
+    ensures level { level.new ≡ level_number (value_or unspoken (spoken_by found)).level }
 {
     match found {
-        Reading::Value(v, l) => {
-            *value = v;
-            *level = level_number(l);
+        Ok(reading) => {
+            *value = reading.value;
+            *level = level_number(reading.level);
             0
         }
-        Reading::Refused(n) => {
-            *value = 0.0f32;
+        Err(refusal) => {
+            *value = 0.0;
             *level = 0;
-            n
+            refusal.number()
         }
     }
 }
 
 // Decodes a density grid into the lent tables: 0, or the number of the refusal. Counts, background, medium and corners are written through their pointers.
-pub fn smokegrid_decode_density_grid(
+pub fn smokegrid_decode_density_grid<'a>(
     bytes: &[u8],
-    blocks: &mut [i32],
-    root_links: &mut [u32],
-    root_values: &mut [f32],
-    upper_links: &mut [u32],
-    upper_values: &mut [f32],
-    lower_links: &mut [u32],
-    lower_values: &mut [f32],
-    leaf_values: &mut [f32],
-    work: &mut [u64],
+    blocks: &'a mut [i32],
+    root_links: &'a mut [u32],
+    root_values: &'a mut [f32],
+    upper_links: &'a mut [u32],
+    upper_values: &'a mut [f32],
+    lower_links: &'a mut [u32],
+    lower_values: &'a mut [f32],
+    leaf_values: &'a mut [f32],
+    work: &'a mut [u64],
     counts: &mut [u64],
     background: &mut f32,
     medium: &mut [f32],
@@ -134,28 +128,12 @@ pub fn smokegrid_decode_density_grid(
           cells = cells.new;
         }) }
 {
-    lent::zero_u64(counts);
-    lent::zero_f32(medium);
-    lent::zero_i32(corners);
-    lent::zero_u32(cells);
-    let fault = flat_fault(counts.len(), medium.len(), corners.len(), cells.len());
-    if fault != 0 {
-        *background = 0.0;
-        decode::clear(
-            blocks,
-            root_links,
-            root_values,
-            upper_links,
-            upper_values,
-            lower_links,
-            lower_values,
-            leaf_values,
-            work,
-        );
-        return fault;
-    }
-    let d = decode::decode_density_grid(
-        bytes,
+    zero(counts);
+    zero(medium);
+    zero(corners);
+    zero(cells);
+    *background = 0.0;
+    let mut tables = Tables {
         blocks,
         root_links,
         root_values,
@@ -165,15 +143,22 @@ pub fn smokegrid_decode_density_grid(
         lower_values,
         leaf_values,
         work,
-    );
-    *background = d.background;
-    put_counts(counts, d);
-    put_medium(medium, d.medium);
-    put_corners(corners, d.medium);
-    let m = d.medium;
-    let n = m.cells;
-    put_three(cells, n);
-    d.number
+    };
+    if let Err(refusal) = check_flat(counts.len(), medium.len(), corners.len(), cells.len()) {
+        tables.clear();
+        return refusal.number();
+    }
+    match decode_density_grid(bytes, &mut tables) {
+        Ok(d) => {
+            *background = d.background;
+            put_counts(counts, d.roots, d.upper, d.lower, d.leaf);
+            put_medium(medium, d.medium);
+            put_corners(corners, d.medium);
+            cells.copy_from_slice(&d.medium.cells);
+            0
+        }
+        Err(refusal) => refusal.number(),
+    }
 }
 
 // The number of the first fault, and 0 for none.
@@ -193,7 +178,7 @@ pub fn smokegrid_validate(
         upper_values.now lower_links.now lower_values.now leaf_values.now in
         result ≡ validate_s g }
 {
-    validate(
+    let grid = grid(
         background,
         blocks,
         root_links,
@@ -203,7 +188,8 @@ pub fn smokegrid_validate(
         lower_links,
         lower_values,
         leaf_values,
-    )
+    );
+    fault(grid.validate())
 }
 
 // `smokegrid_validate`, and then 15 for a value below zero.
@@ -223,7 +209,7 @@ pub fn smokegrid_validate_density(
         upper_values.now lower_links.now lower_values.now leaf_values.now in
         result ≡ validate_density g }
 {
-    validate_density(
+    let grid = grid(
         background,
         blocks,
         root_links,
@@ -233,7 +219,8 @@ pub fn smokegrid_validate_density(
         lower_links,
         lower_values,
         leaf_values,
-    )
+    );
+    fault(grid.validate_density())
 }
 
 // The value at a coordinate, through `value`, and 0; or the number of the refusal, and +0.0 for the value.
@@ -257,7 +244,7 @@ pub fn smokegrid_get_value(
         upper_values.now lower_links.now lower_values.now leaf_values.now in
         GetsValue g (at x y z) result value.new }
 {
-    let found = get_value(
+    let grid = grid(
         background,
         blocks,
         root_links,
@@ -267,11 +254,8 @@ pub fn smokegrid_get_value(
         lower_links,
         lower_values,
         leaf_values,
-        x,
-        y,
-        z,
     );
-    give(found, value)
+    give(grid.value(Coordinate { x, y, z }), value)
 }
 
 // The same with the level that spoke, through `level`: 0 background, 1 root tile, 2 upper tile, 3 lower tile, 4 leaf.
@@ -296,7 +280,7 @@ pub fn smokegrid_get_reading(
         upper_values.now lower_links.now lower_values.now leaf_values.now in
         GetsReading g (at x y z) result value.new level.new }
 {
-    let found = get_reading(
+    let grid = grid(
         background,
         blocks,
         root_links,
@@ -306,27 +290,24 @@ pub fn smokegrid_get_reading(
         lower_links,
         lower_values,
         leaf_values,
-        x,
-        y,
-        z,
     );
-    give_reading(found, value, level)
+    give_reading(grid.reading(Coordinate { x, y, z }), value, level)
 }
 
 // Loads a temperature grid into the lent tables: 0, or the number of the refusal. Counts and background are written through their pointers.
-pub fn smokegrid_load_temperature(
+pub fn smokegrid_load_temperature<'a>(
     bytes: &[u8],
     offset: f32,
     scale: f32,
-    blocks: &mut [i32],
-    root_links: &mut [u32],
-    root_values: &mut [f32],
-    upper_links: &mut [u32],
-    upper_values: &mut [f32],
-    lower_links: &mut [u32],
-    lower_values: &mut [f32],
-    leaf_values: &mut [f32],
-    work: &mut [u64],
+    blocks: &'a mut [i32],
+    root_links: &'a mut [u32],
+    root_values: &'a mut [f32],
+    upper_links: &'a mut [u32],
+    upper_values: &'a mut [f32],
+    lower_links: &'a mut [u32],
+    lower_values: &'a mut [f32],
+    leaf_values: &'a mut [f32],
+    work: &'a mut [u64],
     counts: &mut [u64],
     background: &mut f32,
 ) -> u32
@@ -344,26 +325,9 @@ pub fn smokegrid_load_temperature(
           background = background.new;
         }) }
 {
-    lent::zero_u64(counts);
-    if counts.len() != 4 {
-        *background = 0.0f32;
-        decode::clear(
-            blocks,
-            root_links,
-            root_values,
-            upper_links,
-            upper_values,
-            lower_links,
-            lower_values,
-            leaf_values,
-            work,
-        );
-        return refusals::TABLES;
-    }
-    let a = load_temperature(
-        bytes,
-        offset,
-        scale,
+    zero(counts);
+    *background = 0.0;
+    let mut tables = Tables {
         blocks,
         root_links,
         root_values,
@@ -373,10 +337,19 @@ pub fn smokegrid_load_temperature(
         lower_values,
         leaf_values,
         work,
-    );
-    *background = a.background;
-    put_four(counts, a.roots, a.upper, a.lower, a.leaf);
-    a.number
+    };
+    if counts.len() != 4 {
+        tables.clear();
+        return Refusal::Tables.number();
+    }
+    match load_temperature(bytes, offset, scale, &mut tables) {
+        Ok(a) => {
+            *background = a.background;
+            put_counts(counts, a.roots, a.upper, a.lower, a.leaf);
+            0
+        }
+        Err(refusal) => refusal.number(),
+    }
 }
 
 // The bits of the temperature at a coordinate, through `value_bits`, and 0, also where `present` is 0 and there is no grid; or the number of the
@@ -404,13 +377,7 @@ pub fn smokegrid_get_temperature(
         upper_values.now lower_links.now lower_values.now leaf_values.now in
         GetsTemperature present g offset scale (at x y z) result value_bits.new }
 {
-    let t = Temperature {
-        present: present != 0,
-        offset: offset,
-        scale: scale,
-    };
-    let h = temperature_at(
-        t,
+    let grid = grid(
         background,
         blocks,
         root_links,
@@ -420,12 +387,22 @@ pub fn smokegrid_get_temperature(
         lower_links,
         lower_values,
         leaf_values,
-        x,
-        y,
-        z,
     );
-    *value_bits = h.bits;
-    h.number
+    let t = Temperature {
+        present: present != 0,
+        offset,
+        scale,
+    };
+    match heat_at(t, &grid, Coordinate { x, y, z }) {
+        Ok(bits) => {
+            *value_bits = bits;
+            0
+        }
+        Err(refusal) => {
+            *value_bits = 0;
+            refusal.number()
+        }
+    }
 }
 
 // The greatest of +0.0 and the values of a box, ends included, through `value`, and 0; or the number of the refusal, and +0.0. The grid is validated first.
@@ -452,7 +429,7 @@ pub fn smokegrid_box_maximum(
         upper_values.now lower_links.now lower_values.now leaf_values.now in
         BoxMaximum g (between lx ly lz hx hy hz) result value.new }
 {
-    let found = box_maximum(
+    let grid = grid(
         background,
         blocks,
         root_links,
@@ -462,14 +439,8 @@ pub fn smokegrid_box_maximum(
         lower_links,
         lower_values,
         leaf_values,
-        lx,
-        ly,
-        lz,
-        hx,
-        hy,
-        hz,
     );
-    give(found, value)
+    give(box_maximum(&grid, corners(lx, ly, lz, hx, hy, hz)), value)
 }
 
 // The box maximum, by the same walk, through `value`, what it read after `validate` into `counts` (root entries, upper entries, lower entries, and the
@@ -498,12 +469,12 @@ pub fn smokegrid_box_maximum_counted(
         upper_values.now lower_links.now lower_values.now leaf_values.now in
         CountsBox g (between lx ly lz hx hy hz) (length counts.old) result value.new counts.new }
 {
-    *value = 0.0f32;
-    zero_u64(counts);
+    *value = 0.0;
+    zero(counts);
     if counts.len() != 5 {
-        return refusals::TABLES;
+        return Refusal::Tables.number();
     }
-    match box_maximum_counted(
+    let grid = grid(
         background,
         blocks,
         root_links,
@@ -513,19 +484,14 @@ pub fn smokegrid_box_maximum_counted(
         lower_links,
         lower_values,
         leaf_values,
-        lx,
-        ly,
-        lz,
-        hx,
-        hy,
-        hz,
-    ) {
-        CountedAnswer::Value(c) => {
+    );
+    match box_maximum_counted(&grid, corners(lx, ly, lz, hx, hy, hz)) {
+        Ok(c) => {
             *value = c.maximum;
-            put_read(counts, c);
+            counts.copy_from_slice(&[c.roots, c.upper, c.lower, c.high, c.low]);
             0
         }
-        CountedAnswer::Refused(number) => number,
+        Err(refusal) => refusal.number(),
     }
 }
 
@@ -555,11 +521,11 @@ pub fn smokegrid_count_classes(
         upper_values.now lower_links.now lower_values.now leaf_values.now in
         CountsClasses g limits.now (between lx ly lz hx hy hz) (length counts.old) result counts.new }
 {
-    zero_u64(counts);
+    zero(counts);
     if counts.len() != 17 {
-        return refusals::TABLES;
+        return Refusal::Tables.number();
     }
-    let r = count_classes(
+    let grid = grid(
         background,
         blocks,
         root_links,
@@ -569,17 +535,14 @@ pub fn smokegrid_count_classes(
         lower_links,
         lower_values,
         leaf_values,
-        limits,
-        lx,
-        ly,
-        lz,
-        hx,
-        hy,
-        hz,
     );
-    let c = r.counts;
-    put_classes(counts, c);
-    r.number
+    match count_classes(&grid, limits, corners(lx, ly, lz, hx, hy, hz)) {
+        Ok(c) => {
+            counts.copy_from_slice(&c);
+            0
+        }
+        Err(refusal) => refusal.number(),
+    }
 }
 
 // The greatest of +0.0 and the values of each box of a list (six numbers a box, minima first) into `maxima`, the greatest of the list through `greatest`,
@@ -603,7 +566,7 @@ pub fn smokegrid_box_maxima(
         upper_values.now lower_links.now lower_values.now leaf_values.now in
         BoxMaxima g boxes.now (length maxima.old) result maxima.new greatest.new }
 {
-    let found = box_maxima(
+    let grid = grid(
         background,
         blocks,
         root_links,
@@ -613,10 +576,8 @@ pub fn smokegrid_box_maxima(
         lower_links,
         lower_values,
         leaf_values,
-        boxes,
-        maxima,
     );
-    give(found, greatest)
+    give(box_maxima(&grid, boxes, maxima), greatest)
 }
 
 // The index position of a world point, as the bits of three floats, and 0; or the number of the refusal, and zeros.
@@ -630,19 +591,17 @@ pub fn smokegrid_world_to_index_f(
     ensures { WorldToIndex medium.now (record { x = x; y = y; z = z }) (length index_bits.old)
         result index_bits.new }
 {
-    lent::zero_u32(index_bits);
-    if medium.len() != 18 {
-        return refusals::TABLES;
+    zero(index_bits);
+    if medium.len() != 18 || index_bits.len() != 3 {
+        return Refusal::Tables.number();
     }
-    if index_bits.len() != 3 {
-        return refusals::TABLES;
+    match index_position(medium_from(medium, &[0; 6], &[0; 3]), [x, y, z]) {
+        Ok(bits) => {
+            index_bits.copy_from_slice(&bits);
+            0
+        }
+        Err(refusal) => refusal.number(),
     }
-    let corners = [0i32; 6];
-    let cells = [0u32; 3];
-    let p = world_to_index_f(medium_from(medium, &corners, &cells), x, y, z);
-    let bits = p.bits;
-    put_three(index_bits, bits);
-    p.number
 }
 
 // The density at a world point, mixed from the eight voxels around it, through `value`, and 0; or the number of the refusal, and +0.0.
@@ -668,11 +627,9 @@ pub fn smokegrid_mix(
         MixesAt g medium.now (record { x = x; y = y; z = z }) result value.new }
 {
     if medium.len() != 18 {
-        return give(Answer::Refused(refusals::TABLES), value);
+        return give(Err(Refusal::Tables), value);
     }
-    let corners = [0i32; 6];
-    let cells = [0u32; 3];
-    let found = mix(
+    let grid = grid(
         background,
         blocks,
         root_links,
@@ -682,12 +639,9 @@ pub fn smokegrid_mix(
         lower_links,
         lower_values,
         leaf_values,
-        medium_from(medium, &corners, &cells),
-        x,
-        y,
-        z,
     );
-    give(found, value)
+    let m = medium_from(medium, &[0; 6], &[0; 3]);
+    give(density_at(&grid, &m, [x, y, z]), value)
 }
 
 // The figures of the cells, and 0; or the number of the refusal, and a table of zeros.
@@ -711,19 +665,11 @@ pub fn smokegrid_build_majorant(
         upper_values.now lower_links.now lower_values.now leaf_values.now in
         Builds g medium.now corners.now cells.now (length majorants.old) result majorants.new }
 {
-    if medium.len() != 18 {
-        lent::zero_f32(majorants);
-        return refusals::TABLES;
+    if medium.len() != 18 || corners.len() != 6 || cells.len() != 3 {
+        zero(majorants);
+        return Refusal::Tables.number();
     }
-    if corners.len() != 6 {
-        lent::zero_f32(majorants);
-        return refusals::TABLES;
-    }
-    if cells.len() != 3 {
-        lent::zero_f32(majorants);
-        return refusals::TABLES;
-    }
-    build_majorant(
+    let grid = grid(
         background,
         blocks,
         root_links,
@@ -733,34 +679,40 @@ pub fn smokegrid_build_majorant(
         lower_links,
         lower_values,
         leaf_values,
-        medium_from(medium, corners, cells),
-        majorants,
-    )
+    );
+    fault(build_majorant(&grid, &medium_from(medium, corners, cells), majorants))
 }
 
 // A part as C takes it: where it starts and how many bytes it has, zeros after a refusal, and the number.
-fn give_part(found: Picked, start: &mut u64, length: &mut u64) -> u32
-    ensures value { result ≡ found.number }
-    ensures start_after { start.new ≡ found.start }
-    ensures length_after { length.new ≡ found.length }
+fn give_part(found: Result<Span, Refusal>, start: &mut u64, length: &mut u64) -> u32
+    ensures { GivesPart (span_said found) result start.new length.new }
 {
-    *start = found.start as u64;
-    *length = found.length as u64;
-    found.number
+    match found {
+        Ok(span) => {
+            *start = span.start as u64;
+            *length = span.length as u64;
+            0
+        }
+        Err(refusal) => {
+            *start = 0;
+            *length = 0;
+            refusal.number()
+        }
+    }
 }
 
 // The part of a file that holds grid n, counted from 0 through all segments, through `start` and `length`, and 0; or the number of the refusal, and zeros.
 pub fn smokegrid_grid_part(file: &[u8], n: u64, start: &mut u64, length: &mut u64) -> u32
     ensures { GivesPart (pick file.now n) result start.new length.new }
 {
-    give_part(contents::grid_part(file, n as usize), start, length)
+    give_part(grid_span(file, n as usize), start, length)
 }
 
 // The part that holds the name of grid n.
 pub fn smokegrid_grid_name(file: &[u8], n: u64, start: &mut u64, length: &mut u64) -> u32
     ensures { GivesPart (pick_name file.now n) result start.new length.new }
 {
-    give_part(contents::name_part(file, n as usize), start, length)
+    give_part(name_span(file, n as usize), start, length)
 }
 
 // A ray from a point in a direction through a table, opened into its state, and 0; or the number of the refusal, and a state of zeros.
@@ -783,24 +735,26 @@ pub fn smokegrid_ray_open(
         (length ray_times.old) (length ray_cells.old)
         result ray_times.new ray_cells.new }
 {
-    lent::zero_f32(ray_times);
-    lent::zero_i32(ray_cells);
-    if medium.len() != 18 {
-        return refusals::TABLES;
+    zero(ray_times);
+    zero(ray_cells);
+    if medium.len() != 18 || cells.len() != 3 || !is_ray(ray_times, ray_cells) {
+        return Refusal::Tables.number();
     }
-    if cells.len() != 3 {
-        return refusals::TABLES;
+    let m = medium_from(medium, &[0; 6], cells);
+    let beam = Beam {
+        origin: [ox, oy, oz],
+        direction: [dx, dy, dz],
+        t_min,
+        t_max,
+    };
+    match Ray::open(m, beam, majorants) {
+        Ok(ray) => {
+            put_times(ray_times, ray);
+            put_numbers(ray_cells, ray);
+            0
+        }
+        Err(refusal) => refusal.number(),
     }
-    let fault = ray_fault(ray_times.len(), ray_cells.len());
-    if fault != 0 {
-        return fault;
-    }
-    let corners = [0i32; 6];
-    let m = medium_from(medium, &corners, cells);
-    let o = open_ray(m, [ox, oy, oz], [dx, dy, dz], t_min, t_max, majorants);
-    put_times(ray_times, o.ray);
-    put_numbers(ray_cells, o.ray);
-    o.number
 }
 
 // The next piece of a ray: `more` is 1, and the piece and the figure of its cell stand behind the other pointers; or 0 and zeros at the ray's end. The
@@ -823,26 +777,32 @@ pub fn smokegrid_ray_next(
       figure = figure.new;
     }) }
 {
-    let fault = ray_fault(ray_times.len(), ray_cells.len());
-    if fault != 0 {
-        lent::zero_f32(ray_times);
-        lent::zero_i32(ray_cells);
-        *more = 0;
-        *t0 = 0.0;
-        *t1 = 0.0;
-        *figure = 0.0;
-        return fault;
+    *more = 0;
+    *t0 = 0.0;
+    *t1 = 0.0;
+    *figure = 0.0;
+    if !is_ray(ray_times, ray_cells) {
+        zero(ray_times);
+        zero(ray_cells);
+        return Refusal::Tables.number();
     }
-    let s = next_piece(ray_from(ray_times, ray_cells), majorants);
-    lent::zero_f32(ray_times);
-    lent::zero_i32(ray_cells);
-    put_times(ray_times, s.ray);
-    put_numbers(ray_cells, s.ray);
-    *more = one_if(s.some);
-    *t0 = s.from;
-    *t1 = s.to;
-    *figure = s.figure;
-    s.number
+    match ray_from(ray_times, ray_cells).next_piece(majorants) {
+        Ok(Some((piece, ray))) => {
+            put_times(ray_times, ray);
+            put_numbers(ray_cells, ray);
+            *more = 1;
+            *t0 = piece.from;
+            *t1 = piece.to;
+            *figure = piece.figure;
+            0
+        }
+        Ok(None) => 0,
+        Err(refusal) => {
+            zero(ray_times);
+            zero(ray_cells);
+            refusal.number()
+        }
+    }
 }
 
 // A layer of a table of cells as text, its length, and 0; or the number of the refusal, and zeros.
@@ -856,14 +816,18 @@ pub fn smokegrid_print_layer(
     ensures { PrintsLayer majorants.now cells.now layer (length text.old)
         result text.new written.new }
 {
+    *written = 0;
     if cells.len() != 3 {
-        lent::zero_u8(text);
-        *written = 0;
-        return refusals::TABLES;
+        zero(text);
+        return Refusal::Tables.number();
     }
-    let printed = print_layer(majorants, cells[0], cells[1], cells[2], layer, text);
-    *written = printed.written;
-    printed.number
+    match write_layer(majorants, cells_from(cells), layer, text) {
+        Ok(length) => {
+            *written = length as u64;
+            0
+        }
+        Err(refusal) => refusal.number(),
+    }
 }
 
 // A window that holds no table yet, with memory and answer zeroed, and 0; or the number of the refusal, and zeros in all three.
@@ -877,15 +841,19 @@ pub fn smokegrid_window_open(
     ensures { OpensWindow w cells.now (length window.old) (length memory.old) (length answer.old)
         result (window_arrays window.new memory.new answer.new) }
 {
-    lent::zero_u32(window);
-    if !both(cells.len() == 3, window.len() == 6) {
-        lent::zero_f32(memory);
-        lent::zero_f32(answer);
-        return refusals::TABLES;
+    zero(window);
+    if cells.len() != 3 || window.len() != 6 {
+        zero(memory);
+        zero(answer);
+        return Refusal::Tables.number();
     }
-    let opened = open(w, cells[0], cells[1], cells[2], memory, answer);
-    put_window(window, opened.window);
-    opened.number
+    match Window::open(w, cells_from(cells), memory, answer) {
+        Ok(opened) => {
+            put_window(window, opened);
+            0
+        }
+        Err(refusal) => refusal.number(),
+    }
 }
 
 // One table more, the answer of the tables that are held, and 0; or the number of the refusal, and everything as it was.
@@ -899,17 +867,15 @@ pub fn smokegrid_window_push(
     ensures { PushesTable cells.now majorants.now (window_arrays window.old memory.old answer.old)
         result (window_arrays window.new memory.new answer.new) }
 {
-    if !both(cells.len() == 3, window.len() == 6) {
-        return refusals::TABLES;
+    if cells.len() != 3 || window.len() != 6 {
+        return Refusal::Tables.number();
     }
-    let before = window_from(window);
-    let pushed = push(
-        before, cells[0], cells[1], cells[2], majorants, memory, answer,
-    );
-    if pushed.number != 0 {
-        return pushed.number;
+    let mut held = window_from(window);
+    match held.push(cells_from(cells), majorants, memory, answer) {
+        Ok(()) => {
+            put_window(window, held);
+            0
+        }
+        Err(refusal) => refusal.number(),
     }
-    lent::zero_u32(window);
-    put_window(window, pushed.window);
-    0
 }

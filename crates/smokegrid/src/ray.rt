@@ -1,38 +1,24 @@
 // A ray's state in two flat arrays: 8 times and 9 numbers.
-ghost use Rattle.std.specs.Prelude.{◌≡◌, ◌<◌, cond, pos, length, replicate};
-ghost use Rattle.float.specs.Zero.{+0};
+ghost use Rattle.std.specs.Prelude.{◌≡◌, ◌<◌, ◌&&◌, eqb, length};
 ghost use Rattle.rays.specs.Ray.{cells_in};
 ghost use Rattle.rays.specs.Answers.{as_track, as_state};
 ghost use Rattle.rays.proofs.Theorems.{Within};
-ghost use Rattle.smokegrid.specs.FlatRay.{count_of, track_from, ray_state_from, times_of, words_of, ray_fault};
+ghost use Rattle.smokegrid.specs.FlatRay.{count_of, track_from, ray_state_from, times_of, words_of};
 
 use rays::{Ray, Track};
 
-// 18 for an array of another length.
-pub(crate) fn ray_fault(times: usize, numbers: usize) -> u32
-    ensures { result ≡ ray_fault times numbers }
+// Whether the two arrays have the lengths of a ray's state.
+pub(crate) fn is_ray(times: &[f32], numbers: &[i32]) -> bool
+    ensures { result ≡ (eqb (length times.now) 8 && eqb (length numbers.now) 9) }
 {
-    if times != 8 {
-        return refusals::TABLES;
-    }
-    if numbers != 9 { refusals::TABLES } else { 0 }
-}
-
-// 1 where there is a piece.
-pub(crate) fn one_if(some: bool) -> u32
-    ensures { result ≡ cond some 1 0 }
-{
-    if some { 1 } else { 0 }
+    times.len() == 8 && numbers.len() == 9
 }
 
 // How many cells a number of the state says: none where it is negative, which is refused as 23.
 fn count_of(n: i32) -> u32
     ensures { result ≡ count_of n }
 {
-    if n < 0 {
-        return 0;
-    }
-    n as u32
+    u32::try_from(n).unwrap_or(0)
 }
 
 // One axis of the arrays.
@@ -66,7 +52,7 @@ pub(crate) fn ray_from(t: &[f32], n: &[i32]) -> Ray
 }
 
 pub(crate) fn put_times(to: &mut [f32], r: Ray)
-    requires { to.old ≡ replicate 8 +0 }
+    requires { length to.old ≡ 8 }
     ensures { to.new ≡ times_of (as_state r) }
 {
     let Ray {
@@ -82,7 +68,7 @@ pub(crate) fn put_times(to: &mut [f32], r: Ray)
 }
 
 pub(crate) fn put_numbers(to: &mut [i32], r: Ray)
-    requires zeros { to.old ≡ replicate 9 (pos 0) }
+    requires places { length to.old ≡ 9 }
     requires few { Within (cells_in (as_state r)) }
     ensures { to.new ≡ words_of (as_state r) }
 {
