@@ -7,3 +7,4 @@ pub mod Counted
 pub mod Zones
 -- Definitions that only contracts within the crate cite.
 pub mod Rows
+pub mod Walks

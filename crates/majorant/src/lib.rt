@@ -16,8 +16,11 @@ ghost use Rattle.walk.specs.Classes.{public_counts};
 mod build;
 mod class_walk;
 mod classes;
+mod gather;
 mod maxima;
 mod node_max;
+mod nodes;
+mod part;
 mod range_max;
 
 use build::{build_fault, cells};
