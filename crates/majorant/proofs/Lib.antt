@@ -3,6 +3,7 @@ pub mod Corners
 pub mod Signs
 pub mod Tallying
 pub mod Turns
+pub mod Walked
 pub mod RootStep
 pub mod Gone
 pub mod Classing

@@ -8,3 +8,4 @@ pub mod Zones
 -- Definitions that only contracts within the crate cite.
 pub mod Rows
 pub mod Walks
+pub mod NodeSums

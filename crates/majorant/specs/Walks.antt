@@ -1,11 +1,11 @@
 -- A part of a box, and what a walk of it below a node reads and gathers: what only private contracts cite.
-use Rattle.std.specs.Prelude.{ℕ, ◌+◌, ◌-◌, ◌*◌, ◌/◌, ◌%◌, ◌<◌, ◌≤◌, max, min, ◌≡◌, Float}
+use Rattle.std.specs.Prelude.{ℕ, ◌+◌, ◌-◌, ◌*◌, ◌/◌, ◌%◌, ◌<◌, ◌≤◌, max, min, ◌≡◌, List, Float}
 use Rattle.medium.specs.Medium.{Axis, x_axis, y_axis, z_axis}
 use Rattle.boxes.specs.declared.Span.{Span}
 use Rattle.boxes.specs.RangeMax.{Full, InCell}
-use Rattle.walk.specs.Walk.{Zone}
+use Rattle.walk.specs.Walk.{Zone, Price, uppers_only, lowers_only, leaves_only}
 use Rattle.walk.specs.Gather.{along_x, along_y, along_z, At}
-use Rattle.walk.specs.Counts.{zone_in, AllIn}
+use Rattle.walk.specs.Counts.{zone_in, lower_count, upper_count}
 use Rattle.majorant.specs.declared.part.Part as Code
 
 -- ---- parts
@@ -107,3 +107,18 @@ pub record NodeLaws (side own : ℕ) (reads : Zone → Reads) : Type 0 where
   pub none : (a : Axis) (q : Zone) (k : ℕ) → reads (along a q k k) ≡ no_reads
   pub more : (a : Axis) (q : Zone) (lo at next : ℕ) → lo ≤ at → at < next → next ≤ at / side * side + side → next ≤ lo / own * own + own
       → (lo < at → at % side ≡ 0) → both (reads (along a q lo at)) (reads (along a q at next)) ≡ reads (along a q lo next)
+
+abbrev pub span : ℕ → ℕ → Span
+span lo hi = record { lo = lo; hi = hi }
+
+-- of a lower node, and of an upper one
+abbrev pub lower_reads : List ℕ → List Float → ℕ → Zone → Reads
+lower_reads links values k q =
+    let count : Price → ℕ = λ p. lower_count p links values k (span q.x0 q.x1) (span q.y0 q.y1) (span q.z0 q.z1) in
+    record { roots = 0; uppers = 0; lowers = count lowers_only; leaves = count leaves_only }
+
+abbrev pub upper_reads : List ℕ → List Float → List ℕ → List Float → ℕ → Zone → Reads
+upper_reads upper_links upper_values links values k q =
+    let count : Price → ℕ =
+    λ p. upper_count p upper_links upper_values links values k (span q.x0 q.x1) (span q.y0 q.y1) (span q.z0 q.z1) in
+    record { roots = 0; uppers = count uppers_only; lowers = count lowers_only; leaves = count leaves_only }
