@@ -1,11 +1,7 @@
-pub mod RootsMet
 pub mod Corners
 pub mod Signs
 pub mod Tallying
-pub mod Turns
 pub mod Walked
-pub mod RootStep
-pub mod Gone
 pub mod Classing
 pub mod Refused
 pub mod Listing

@@ -9,3 +9,8 @@ pub mod Zones
 pub mod Rows
 pub mod Walks
 pub mod NodeSums
+pub mod Gathered
+pub mod Rooting
+pub mod RootsMet
+pub mod RootStep
+pub mod Gone

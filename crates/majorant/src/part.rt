@@ -26,3 +26,13 @@ pub(crate) fn cell_of(span: Span, side: usize, t: usize) -> Span
         hi: span.hi.min(start + side),
     }
 }
+
+impl Part {
+    // How many coordinates it has.
+    pub(crate) fn size(self) -> usize
+        requires { Full self.x self.y self.z × Sides self.x self.y self.z }
+        ensures { result ≡ size_of self }
+    {
+        (self.x.hi - self.x.lo) * (self.y.hi - self.y.lo) * (self.z.hi - self.z.lo)
+    }
+}

@@ -2,7 +2,7 @@
 use Rattle.std.proofs.Common.{◌≡◌, ℕ, suc, ◌+◌, ◌-◌, ◌*◌, ◌/◌, ◌<◌, ◌≤◌, Bool, true, false, cond, eqb, ◌⊎◌, List, length, get_or, sym, refl, ap, ◌∙◌, subst, ⊎_elim, mul_comm, mul-le-mul, add-one, arith}
 use lib.Ieee.{Float}
 use Rattle.sparse_grid.specs.declared.Entry.{Entry}
-use Rattle.sparse_grid.specs.Tables.{Grid, block_at}
+use Rattle.sparse_grid.specs.Tables.{Grid, block_at, entry_at}
 use Rattle.sparse_grid.specs.Validate.{earlier}
 use Rattle.sparse_grid.specs.Sound.{Sound}
 use Rattle.sparse_grid.specs.Count.{bit, bit_most}
@@ -16,8 +16,12 @@ use Rattle.walk.specs.ByRoots.{met_tally, root_meets, root_misses, roots_none, r
 use Rattle.walk.specs.Counts.{zone_in}
 use Rattle.walk.specs.Tallied.{is_class, places, Ready, Added, Sides, Gone}
 use Rattle.walk.specs.TalliedLaws.{Counts, tally_le, places_are, added_as}
-use Rattle.majorant.proofs.RootsMet.{apart_out}
-use Rattle.majorant.proofs.RootStep.{Rooted, Clips, IsEntry, apart_from, block_number, below, here, part, reads_below}
+use Rattle.majorant.specs.RootsMet.{apart_out}
+use Rattle.sparse_grid.specs.Biased.{raised}
+use Rattle.majorant.specs.declared.part.Part as Code
+use Rattle.majorant.specs.Walks.{zone_of, size_of}
+use Rattle.majorant.specs.Rooting.{Rooted, Clips, misses, below}
+use Rattle.majorant.specs.RootStep.{missed_on, here, part_in, reads_there}
 
 -- ---- no count is above all that was met, and that not above the box
 
@@ -50,59 +54,48 @@ gone_none g ls q counts h = record {
 }
 
 -- ---- one root
-module _ {g : Grid} {i : ℕ} (r : Rooted g i) {ls : List Float} {x y z : Span} where
-  pub gone_misses : {counts : List ℕ} {covered : ℕ} →
-      let b = block_at g i in
-      (apart_from b.x x ≡ true) ⊎ ((apart_from b.y y ≡ true) ⊎ (apart_from b.z z ≡ true))
-      → Gone g ls i (zone_in x y z) counts covered → Gone g ls (i + 1) (zone_in x y z) counts covered
-  gone_misses {counts} {covered} o v = subst (λ (n : ℕ). Gone g ls n (zone_in x y z) counts covered) (sym (add-one i)) (record {
+module _ {g : Grid} {i : ℕ} (r : Rooted g i) {ls : List Float} {p : Code.Part} (full : Full p.x p.y p.z) where
+  pub gone_misses : {counts : List ℕ} {covered : ℕ} → misses g i p ≡ true → Gone g ls i (zone_of p) counts covered
+      → Gone g ls (i + 1) (zone_of p) counts covered
+  gone_misses {counts} {covered} h v = subst (λ (n : ℕ). Gone g ls n (zone_of p) counts covered) (sym (add-one i)) (record {
     each = λ k l. v.each k l ∙ sym (off (is_class ls (read_at g) k));
     all = v.all ∙ sym (off (λ x y z. 1));
   })
     where
-      out : (X Y Z : ℕ) → At (zone_in x y z) X Y Z
-          → (block_number (block_at g i).x ≡ X / 4096) × (block_number (block_at g i).y ≡ Y / 4096) × (block_number (block_at g i).z ≡ Z / 4096) → ⊥
+      out : (X Y Z : ℕ) → At (zone_of p) X Y Z
+          → (raised (block_at g i).x ≡ X / 4096) × (raised (block_at g i).y ≡ Y / 4096) × (raised (block_at g i).z ≡ Z / 4096) → ⊥
       out X Y Z t e =
           ⊎_elim (λ h. apart_out _ _ _ h (X / 4096) (omega (arith, t.x_low)) (omega (arith, t.x_high)) e.0)
           (λ w. ⊎_elim (λ h. apart_out _ _ _ h (Y / 4096) (omega (arith, t.y_low)) (omega (arith, t.y_high)) e.1)
-          (λ h. apart_out _ _ _ h (Z / 4096) (omega (arith, t.z_low)) (omega (arith, t.z_high)) e.2) w) o
+          (λ h. apart_out _ _ _ h (Z / 4096) (omega (arith, t.z_low)) (omega (arith, t.z_high)) e.2) w) (missed_on g i p h)
 
-      off : (f : ℕ → ℕ → ℕ → ℕ) → met_tally g (suc i) f (zone_in x y z) ≡ met_tally g i f (zone_in x y z)
-      off f = root_misses g i _ _ _ (here r) f (zone_in x y z) out
+      off : (f : ℕ → ℕ → ℕ → ℕ) → met_tally g (suc i) f (zone_of p) ≡ met_tally g i f (zone_of p)
+      off f = root_misses g i _ _ _ (here r) f (zone_of p) out
 
-  module _ (full : Full x y z) (s : Sides x y z) {cx cy cz : Span} (p : Clips (block_at g i) x y z cx cy cz) {counts : List ℕ} {covered : ℕ}
-      (v : Gone g ls i (zone_in x y z) counts covered) where
-    grows : (f : ℕ → ℕ → ℕ → ℕ) → met_tally g (suc i) f (zone_in x y z) ≡ met_tally g i f (zone_in x y z) + tally f (zone_in cx cy cz)
+  module _ (s : Sides p.x p.y p.z) {c : Code.Part} (k : Clips g i p c) {counts : List ℕ} {covered : ℕ}
+      (v : Gone g ls i (zone_of p) counts covered) where
+    grows : (f : ℕ → ℕ → ℕ → ℕ) → met_tally g (suc i) f (zone_of p) ≡ met_tally g i f (zone_of p) + tally f (zone_of c)
     grows f =
-        let h = part full p in
-        root_meets g i _ _ _ (here r) f (zone_in x y z) _ _ _ _ _ _ (r.sound.apart i r.inside)
-        (omega (arith, h.x_some)) (omega (arith, h.y_some)) (omega (arith, h.z_some)) p.x_part p.y_part p.z_part
+        let h = (part_in r full k).full in
+        root_meets g i _ _ _ (here r) f (zone_of p) _ _ _ _ _ _ (r.sound.apart i r.inside)
+        (omega (arith, h.x_some)) (omega (arith, h.y_some)) (omega (arith, h.z_some)) k.x k.y k.z
 
-    -- its part of the box is at most 4,096 a side
-    pub part_sides : Sides cx cy cz
-    part_sides = record {
-      x_side = omega (arith, p.x_part.block_low, p.x_part.block_high);
-      y_side = omega (arith, p.y_part.block_low, p.y_part.block_high);
-      z_side = omega (arith, p.z_part.block_low, p.z_part.block_high);
-    }
-
-    pub part_ready : length ls ≤ 16 → length counts ≡ 17 → Ready ls counts (zone_in cx cy cz)
+    pub part_ready : length ls ≤ 16 → length counts ≡ 17 → Ready ls counts (zone_of c)
     part_ready few long = record {
       few = few;
       long = long;
-      room = λ k l. omega (arith, v.each k l, class_met g ls i (zone_in x y z) k, grows (λ x y z. 1), met_all g ls (suc i) (zone_in x y z), places_few s);
+      room = λ n l. omega (arith, v.each n l, class_met g ls i (zone_of p) n, grows (λ x y z. 1), met_all g ls (suc i) (zone_of p), places_few s);
     }
 
     -- all that was met stays below 2^61
-    pub covered_few : (size : ℕ) → size ≡ volume (zone_in cx cy cz) → covered + size ≤ 1152921504606846976
-    covered_few size e =
-        omega (arith, e, v.all, grows (λ x y z. 1), places_are (zone_in cx cy cz), met_all g ls (suc i) (zone_in x y z), places_few s)
+    pub covered_few : covered + size_of c ≤ 1152921504606846976
+    covered_few = omega (arith, v.all, grows (λ x y z. 1), places_are (zone_of c), met_all g ls (suc i) (zone_of p), places_few s)
 
-    pub gone_meets : {e : Entry} {after : List ℕ} (size : ℕ) → IsEntry g i e → Added ls (below g e) (zone_in cx cy cz) counts after
-        → size ≡ volume (zone_in cx cy cz) → Gone g ls (i + 1) (zone_in x y z) after (covered + size)
-    gone_meets {e} {after} size is u n = subst (λ (m : ℕ). Gone g ls m (zone_in x y z) after (covered + size)) (sym (add-one i)) (record {
-      each = λ k l. omega (arith, (added_as (reads_below r p is) u).each k l, v.each k l, grows (is_class ls (read_at g) k));
-      all = omega (arith, n, v.all, grows (λ x y z. 1), places_are (zone_in cx cy cz));
+    pub gone_meets : {e : Entry} {after : List ℕ} → e ≡ entry_at g.root_links g.root_values i → Added ls (below g e) (zone_of c) counts after
+        → Gone g ls (i + 1) (zone_of p) after (covered + size_of c)
+    gone_meets {e} {after} is u = subst (λ (m : ℕ). Gone g ls m (zone_of p) after (covered + size_of c)) (sym (add-one i)) (record {
+      each = λ n l. omega (arith, (added_as (reads_there r full k is) u).each n l, v.each n l, grows (is_class ls (read_at g) n));
+      all = omega (arith, v.all, grows (λ x y z. 1), places_are (zone_of c));
     })
 
 -- ---- after the last: the background has the rest
