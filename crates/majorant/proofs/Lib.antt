@@ -18,3 +18,4 @@ pub mod MaximaLaws
 pub mod RowLaws
 pub mod ZoneExamples
 pub mod ZoneLaws
+pub mod RowWalk

@@ -9,7 +9,7 @@ use Rattle.boxes.specs.Most.{Most, Joined}
 use Rattle.boxes.proofs.MostLaws.{most_as, join_x, join_y, join_z}
 use Rattle.boxes.proofs.JoinedLaws.{joined_none, joined_more, joined_as, joined_not_below, most_not_below}
 use Rattle.walk.specs.Walk.{Zone, roots_only, uppers_only, lowers_only, leaves_only}
-use Rattle.walk.specs.Gather.{At}
+use Rattle.walk.specs.Gather.{At, along_x}
 use Rattle.walk.specs.Counts.{More, steps_to}
 use Rattle.walk.specs.Tallied.{Ready, Added, Sides, Gone}
 use Rattle.walk.specs.TalliedLaws.{none_x, none_y, none_z, add_x, add_y, add_z, ready_x, ready_y, ready_z, added_as}
@@ -102,6 +102,9 @@ classes_laws = record {
     room x_axis f q lo at next hi s t h l m = ready_x q h l m
     room y_axis f q lo at next hi s t h l m = ready_y q h l m
     room z_axis f q lo at next hi s t h l m = ready_z q h l m
+
+pub classed_none : (f : Places) (q : Zone) (k : ℕ) (s : Classes.Classes) → Classed f (along_x q k k) s s
+classed_none f q k s = record { limits = refl; long = refl; added = none_x s.counts q k }
 
 -- ---- the roots in order
 

@@ -16,7 +16,12 @@ use sparse_grid::Grid;
 fn class_of(limits: &[f32], v: f32) -> usize
     ensures { result ≡ class limits.now v }
 {
-    limits.iter().position(|limit| v < *limit).unwrap_or(limits.len())
+    for (i, limit) in limits.iter().enumerate() {
+        if v < *limit {
+            return i;
+        }
+    }
+    limits.len()
 }
 
 // How many coordinates so far hold a value of each class.
@@ -29,7 +34,7 @@ pub(crate) struct Classes<'a> {
 impl Classes<'_> {
     // `size` coordinates more in the class of a value.
     pub(crate) fn add(&mut self, value: f32, size: u64)
-        requires { (length self.old.limits.now ≤ 16)
+        requires { (length self.old.limits.now ≤ 16) × (length self.old.counts ≡ 17)
             × ((k : ℕ) → k < 17 → slice_index self.old.counts k + size ≤ 1152921504606846976) }
         ensures { (self.new.limits.now ≡ self.old.limits.now) × (length self.new.counts ≡ length self.old.counts)
             × Counts self.old.limits.now value size self.old.counts self.new.counts }
@@ -58,10 +63,13 @@ impl Gather for Classes<'_> {
 
     ghost roots = { classes_roots };
 
+    #[tactic(auto, using(crate::specs::Gathered::classed_none))]
     fn upper(&mut self) {}
 
+    #[tactic(auto, using(crate::specs::Gathered::classed_none))]
     fn lower(&mut self) {}
 
+    #[tactic(auto, using(crate::specs::Gathered::classed_none))]
     fn leaf(&mut self, part: Part) {}
 
     fn tile(&mut self, part: Part, value: f32) {
