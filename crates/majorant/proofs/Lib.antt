@@ -19,3 +19,4 @@ pub mod RowLaws
 pub mod ZoneExamples
 pub mod ZoneLaws
 pub mod RowWalk
+pub mod Tallies

@@ -99,7 +99,7 @@ fn walk_below<G: Gather>(grid: &Grid, entry: Entry, part: Part, gathered: &mut G
 
 // Root i more. Blocks differ, so a root that meets the part covers some of it that none before has.
 fn walk_root<G: Gather>(grid: &Grid, i: usize, of: Part, covered: u64, gathered: &mut G) -> u64
-    requires { Rooted (as_grid grid.now) i × Full of.x of.y of.z × G.Able of
+    requires { Rooted (as_grid grid.now) i × (i + 1 < 18446744073709551616) × Full of.x of.y of.z × G.Able of
         × ((s : G) × G.After (as_grid grid.now) of i s gathered.old covered) }
     ensures { (s : G) → G.After (as_grid grid.now) of i s gathered.old covered
         → G.After (as_grid grid.now) of (i + 1) s gathered.new result }
@@ -116,7 +116,8 @@ pub(crate) fn walk_roots<G: Gather>(grid: &Grid, of: Part, gathered: &mut G)
     ensures { G.Whole (as_grid grid.now) of gathered.old gathered.new }
 {
     let mut covered = 0;
-    for i in 0..grid.roots.links.len() {
+    let roots = grid.roots.links.len();
+    for i in 0..roots {
         covered = walk_root(grid, i, of, covered, gathered);
     }
     gathered.rest(grid, of, covered);
