@@ -1,5 +1,5 @@
 -- The counts of a box from those of its spans; limits and sides that pass. Assumes nothing.
-use Rattle.std.proofs.Common.{◌≡◌, ℕ, zero, suc, ◌+◌, ◌-◌, ◌*◌, ◌<◌, ◌≤◌, Bool, true, false, ◌&&◌, ◌||◌, T, eqb, leb, List, [], ◌∷◌, length, get_or, replicate, ℤ, sym, refl, ap, ◌∙◌, subst, mul-zero, zero-mul, arith, leb→le, w32, SFits, to_z, of_z, eq-eqb, ne_eqb, le-leb}
+use Rattle.std.proofs.Common.{◌≡◌, ℕ, zero, suc, ◌+◌, ◌-◌, ◌*◌, ◌^◌, ◌<◌, ◌≤◌, Bool, true, false, ◌&&◌, ◌||◌, T, eqb, leb, List, [], ◌∷◌, length, get_or, replicate, ℤ, sym, refl, ap, ◌∙◌, subst, mul-zero, zero-mul, arith, leb→le, w32, SFits, to_z, of_z, eq-eqb, ne_eqb, le-leb}
 use lib.Ieee.{Float, lt}
 use lib.Ieee.Scale.{finite}
 use borrow.Author.Tests.{lt-leb}
@@ -28,50 +28,31 @@ use Rattle.walk.specs.TalliedLaws.{class_le, places_are}
 use Rattle.sparse_grid.proofs.Signs.{seen}
 use Rattle.majorant.proofs.Signs.{Small}
 use Rattle.majorant.proofs.Refused as Refused
-use Rattle.majorant.proofs.Corners.{Spans, lacking, low_number, high_number, zone_is}
+use Rattle.majorant.specs.declared.part.Part as Code
+use Rattle.majorant.specs.Rooting.{PartOf}
+use lib.Signed.{mag}
+use Rattle.majorant.proofs.Corners.{lacking, low_number, high_number, zone_is}
 
 -- ---- sides
 
 -- a side has as many coordinates as its span
-pub side_is : {lo hi : ℤ} {s : Span} → SFits w32 lo → SFits w32 hi → Ends lo hi s → span lo hi ≡ s.hi - s.lo
-side_is {lo} {hi} f g e = span_biased lo hi f.sfits g.sfits ∙ (λ i. high_number e i - low_number e i)
+pub side_is : {lo hi : ℤ} {s : Span} → mag lo < 2 ^ 31 → mag hi < 2 ^ 31 → Ends lo hi s → span lo hi ≡ s.hi - s.lo
+side_is {lo} {hi} f g e = span_biased lo hi f g ∙ (λ i. high_number e i - low_number e i)
 
 -- 25 where it has more than 2^20
 pub side_told : (lo hi : ℤ) {n : ℕ} (b : Bool) → span lo hi ≡ n → leb n 1048576 ≡ b → unless b 25 ≡ side_fault lo hi
 side_told lo hi b e h = ap (λ (t : Bool). unless t 25) (sym (ap (λ (k : ℕ). leb k 1048576) e ∙ h))
 
-pub record Fit (lx ly lz hx hy hz : ℤ) : Type 0 where
-  pub lx_fits : SFits w32 lx
-  pub ly_fits : SFits w32 ly
-  pub lz_fits : SFits w32 lz
-  pub hx_fits : SFits w32 hx
-  pub hy_fits : SFits w32 hy
-  pub hz_fits : SFits w32 hz
-
--- what a callee is handed of a side, and of a box
-pub side_handed : {lo hi : ℤ} {r : ℕ} → SFits w32 lo → SFits w32 hi → r ≡ side_fault (to_z w32 (of_z w32 lo)) (to_z w32 (of_z w32 hi)) → r ≡ side_fault lo hi
-side_handed f g e = e ∙ (λ i. side_fault (seen f i) (seen g i))
-
-pub box_fit : {lx ly lz hx hy hz : ℤ} → Fit lx ly lz hx hy hz → Small (between lx ly lz hx hy hz)
-box_fit f = record {
-  lx = f.lx_fits.sfits;
-  ly = f.ly_fits.sfits;
-  lz = f.lz_fits.sfits;
-  hx = f.hx_fits.sfits;
-  hy = f.hy_fits.sfits;
-  hz = f.hz_fits.sfits;
-}
-
-module _ {lx ly lz hx hy hz : ℤ} (fit : Fit lx ly lz hx hy hz) {x y z : Span} (spans : Spans lx ly lz hx hy hz x y z) where
+module _ {b : Box} (fit : Small b) {p : Code.Part} (spans : PartOf b p) where
   -- sides that pass
-  pub sides_few : sides_fault (between lx ly lz hx hy hz) ≡ 0 → Sides x y z
+  pub sides_few : sides_fault b ≡ 0 → Sides p.x p.y p.z
   sides_few e =
-      let p = then_zero (side_fault lx hx) (side_fault ly hy then side_fault lz hz) e in
-      let q = then_zero (side_fault ly hy) (side_fault lz hz) p.1 in
+      let u = then_zero (side_fault b.lo.x b.hi.x) (side_fault b.lo.y b.hi.y then side_fault b.lo.z b.hi.z) e in
+      let v = then_zero (side_fault b.lo.y b.hi.y) (side_fault b.lo.z b.hi.z) u.1 in
       record {
-        x_side = few lx hx (side_is fit.lx_fits fit.hx_fits spans.along_x_lem) p.0;
-        y_side = few ly hy (side_is fit.ly_fits fit.hy_fits spans.along_y_lem) q.0;
-        z_side = few lz hz (side_is fit.lz_fits fit.hz_fits spans.along_z_lem) q.1;
+        x_side = few b.lo.x b.hi.x (side_is fit.lx fit.hx spans.x) u.0;
+        y_side = few b.lo.y b.hi.y (side_is fit.ly fit.hy spans.y) v.0;
+        z_side = few b.lo.z b.hi.z (side_is fit.lz fit.hz spans.z) v.1;
       }
     where
       few : (lo hi : ℤ) {n : ℕ} → span lo hi ≡ n → side_fault lo hi ≡ 0 → n ≤ 1048576
@@ -79,15 +60,15 @@ module _ {lx ly lz hx hy hz : ℤ} (fit : Fit lx ly lz hx hy hz) {x y z : Span} 
 
   module _ (g : Grid) (ls : List Float) (k : ℕ) where
     -- ---- the counts of a box are those of its zone
-    pub counts_are : class_count (read_in g) ls (between lx ly lz hx hy hz) k ≡ tally (is_class ls (read_at g) k) (zone_in x y z)
+    pub counts_are : class_count (read_in g) ls b k ≡ tally (is_class ls (read_at g) k) (zone_in p.x p.y p.z)
     counts_are =
-        class_tally (between lx ly lz hx hy hz) (record { x = fit.lx_fits.sfits; y = fit.ly_fits.sfits; z = fit.lz_fits.sfits })
-        (record { x = fit.hx_fits.sfits; y = fit.hy_fits.sfits; z = fit.hz_fits.sfits }) g ls k
+        class_tally b (record { x = fit.lx; y = fit.ly; z = fit.lz })
+        (record { x = fit.hx; y = fit.hy; z = fit.hz }) g ls k
         ∙ ap (tally (is_class ls (read_at g) k)) (zone_is spans)
 
     -- an empty box has none
-    pub counts_none : empty x y z ≡ true → class_count (read_in g) ls (between lx ly lz hx hy hz) k ≡ 0
-    counts_none h = counts_are ∙ omega (arith, class_le ls (read_at g) k (zone_in x y z), places_are (zone_in x y z), none)
+    pub counts_none : empty p.x p.y p.z ≡ true → class_count (read_in g) ls b k ≡ 0
+    counts_none h = counts_are ∙ omega (arith, class_le ls (read_at g) k (zone_in p.x p.y p.z), places_are (zone_in p.x p.y p.z), none)
       where
         nil : (a b c : ℕ) → a ≡ 0 → a * b * c ≡ 0
         nil a b c e = ap (λ (n : ℕ). n * b * c) e ∙ ap (λ (n : ℕ). n * c) (zero-mul b) ∙ zero-mul c
@@ -98,8 +79,8 @@ module _ {lx ly lz hx hy hz : ℤ} (fit : Fit lx ly lz hx hy hz) {x y z : Span} 
         nil_3 : (a b c : ℕ) → c ≡ 0 → a * b * c ≡ 0
         nil_3 a b c e = ap (λ (n : ℕ). a * b * n) e ∙ mul-zero (a * b)
 
-        none : volume (zone_in x y z) ≡ 0
-        none = lacking x y z h (λ l. nil _ _ _ (omega arith)) (λ l. nil_2 _ _ _ (omega arith)) (λ l. nil_3 _ _ _ (omega arith))
+        none : volume (zone_in p.x p.y p.z) ≡ 0
+        none = lacking p.x p.y p.z h (λ l. nil _ _ _ (omega arith)) (λ l. nil_2 _ _ _ (omega arith)) (λ l. nil_3 _ _ _ (omega arith))
 
 -- ---- limits
 

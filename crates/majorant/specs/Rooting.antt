@@ -1,5 +1,8 @@
 -- A root and its block's part of a box, and what is gathered of the roots in order: what only private contracts cite.
-use Rattle.std.specs.Prelude.{ℕ, ◌+◌, ◌≤◌, ◌<◌, ◌≡◌, true, false, Bool, ◌||◌, length, Float}
+use Rattle.std.specs.Prelude.{ℕ, ◌+◌, ◌≤◌, ◌<◌, ◌≡◌, true, false, Bool, ◌||◌, List, length, get_or, T, Float}
+use Rattle.std.specs.Float.{binary32}
+use Rattle.std.specs.Float.Ieee.{fits}
+use Rattle.float.specs.Zero.{+0}
 use Rattle.sparse_grid.specs.declared.Entry.{Entry}
 use Rattle.sparse_grid.specs.declared.Entry.TheVariants.{Child, Tile}
 use Rattle.sparse_grid.specs.Tables.{Grid, block_at, entry_at}
@@ -70,3 +73,14 @@ pub record RootLaws {S : Type 0} (Able : Code.Part → Type 0) (Fresh : S → Ty
 -- what is read for a box
 abbrev pub reads_for : Grid → Box → Reads
 reads_for g b = record { roots = roots_read g b; uppers = uppers_read g b; lowers = lowers_read g b; leaves = leaves_read g b }
+
+-- every value of a table is an f32, and of all tables
+abbrev pub AreFloats : List Float → Type 0
+AreFloats values = (i : ℕ) → T (fits binary32 (get_or values i +0))
+
+pub record Floats (g : Grid) : Type 0 where
+  pub background : T (fits binary32 g.background)
+  pub roots : AreFloats g.root_values
+  pub upper : AreFloats g.upper_values
+  pub lower : AreFloats g.lower_values
+  pub leaf : AreFloats g.leaf_values
