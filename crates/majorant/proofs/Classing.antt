@@ -1,5 +1,5 @@
 -- The counts of a box from those of its spans; limits and sides that pass. Assumes nothing.
-use Rattle.std.proofs.Common.{◌≡◌, ℕ, zero, suc, ◌+◌, ◌-◌, ◌*◌, ◌^◌, ◌<◌, ◌≤◌, Bool, true, false, ◌&&◌, ◌||◌, T, eqb, leb, List, [], ◌∷◌, length, get_or, replicate, ℤ, sym, refl, ap, ◌∙◌, subst, mul-zero, zero-mul, arith, leb→le, w32, SFits, to_z, of_z, eq-eqb, ne_eqb, le-leb}
+use Rattle.std.proofs.Common.{◌≡◌, ℕ, zero, suc, ◌+◌, ◌-◌, ◌*◌, ◌^◌, ◌<◌, ◌≤◌, Bool, true, false, ◌&&◌, ◌||◌, T, eqb, leb, List, [], ◌∷◌, length, get_or, replicate, ℤ, sym, refl, ap, ◌∙◌, subst, ◌⊎◌, ⊎_elim, mul-zero, zero-mul, arith, leb→le, w32, SFits, to_z, of_z, eq-eqb, ne_eqb, le-leb}
 use lib.Ieee.{Float, lt}
 use lib.Ieee.Scale.{finite}
 use borrow.Author.Tests.{lt-leb}
@@ -29,30 +29,32 @@ use Rattle.sparse_grid.proofs.Signs.{seen}
 use Rattle.majorant.proofs.Signs.{Small}
 use Rattle.majorant.proofs.Refused as Refused
 use Rattle.majorant.specs.declared.part.Part as Code
-use Rattle.majorant.specs.Rooting.{PartOf}
-use lib.Signed.{mag}
+use Rattle.majorant.specs.Rooting.{SpanOf, PartOf, side_limit}
 use Rattle.majorant.proofs.Corners.{lacking, low_number, high_number, zone_is}
 
 -- ---- sides
 
 -- a side has as many coordinates as its span
-pub side_is : {lo hi : ℤ} {s : Span} → mag lo < 2 ^ 31 → mag hi < 2 ^ 31 → Ends lo hi s → span lo hi ≡ s.hi - s.lo
-side_is {lo} {hi} f g e = span_biased lo hi f g ∙ (λ i. high_number e i - low_number e i)
+pub side_is : {lo hi : ℤ} {s : Span} → SpanOf lo hi s → span lo hi ≡ s.hi - s.lo
+side_is {lo} {hi} e = span_biased lo hi e.low e.high ∙ (λ i. high_number e.ends i - low_number e.ends i)
 
--- 25 where it has more than 2^20
-pub side_told : (lo hi : ℤ) {n : ℕ} (b : Bool) → span lo hi ≡ n → leb n 1048576 ≡ b → unless b 25 ≡ side_fault lo hi
-side_told lo hi b e h = ap (λ (t : Bool). unless t 25) (sym (ap (λ (k : ℕ). leb k 1048576) e ∙ h))
+-- 25 where one has more than 2^20
+pub sides_told : {b : Box} {p : Code.Part} → PartOf b p → (side_limit p.x then side_limit p.y then side_limit p.z) ≡ sides_fault b
+sides_told o = λ i. told o.x i then told o.y i then told o.z i
+  where
+    told : {lo hi : ℤ} {s : Span} → SpanOf lo hi s → side_limit s ≡ side_fault lo hi
+    told e = ap (λ (n : ℕ). unless (leb n 1048576) 25) (sym (side_is e))
 
-module _ {b : Box} (fit : Small b) {p : Code.Part} (spans : PartOf b p) where
+module _ {b : Box} {p : Code.Part} (spans : PartOf b p) where
   -- sides that pass
   pub sides_few : sides_fault b ≡ 0 → Sides p.x p.y p.z
   sides_few e =
       let u = then_zero (side_fault b.lo.x b.hi.x) (side_fault b.lo.y b.hi.y then side_fault b.lo.z b.hi.z) e in
       let v = then_zero (side_fault b.lo.y b.hi.y) (side_fault b.lo.z b.hi.z) u.1 in
       record {
-        x_side = few b.lo.x b.hi.x (side_is fit.lx fit.hx spans.x) u.0;
-        y_side = few b.lo.y b.hi.y (side_is fit.ly fit.hy spans.y) v.0;
-        z_side = few b.lo.z b.hi.z (side_is fit.lz fit.hz spans.z) v.1;
+        x_side = few b.lo.x b.hi.x (side_is spans.x) u.0;
+        y_side = few b.lo.y b.hi.y (side_is spans.y) v.0;
+        z_side = few b.lo.z b.hi.z (side_is spans.z) v.1;
       }
     where
       few : (lo hi : ℤ) {n : ℕ} → span lo hi ≡ n → side_fault lo hi ≡ 0 → n ≤ 1048576
@@ -62,8 +64,8 @@ module _ {b : Box} (fit : Small b) {p : Code.Part} (spans : PartOf b p) where
     -- ---- the counts of a box are those of its zone
     pub counts_are : class_count (read_in g) ls b k ≡ tally (is_class ls (read_at g) k) (zone_in p.x p.y p.z)
     counts_are =
-        class_tally b (record { x = fit.lx; y = fit.ly; z = fit.lz })
-        (record { x = fit.hx; y = fit.hy; z = fit.hz }) g ls k
+        class_tally b (record { x = spans.x.low; y = spans.y.low; z = spans.z.low })
+        (record { x = spans.x.high; y = spans.y.high; z = spans.z.high }) g ls k
         ∙ ap (tally (is_class ls (read_at g) k)) (zone_is spans)
 
     -- an empty box has none
@@ -103,14 +105,22 @@ limit_next ls i d l z e =
 abbrev pub limit_fault : List Float → ℕ → ℕ
 limit_fault ls i = unless (limit_passes ls i) 25
 
-module _ (ls : List Float) {b : Bool} (e : b ≡ (leb 1 (length ls) && leb (length ls) 16)) where
-  pub limits_few : b ≡ false → 25 ≡ limits_fault ls
+module _ (ls : List Float) where
+  sized : {b : Bool} → (leb 1 (length ls) && leb (length ls) 16) ≡ b
+      → limits_fault ls ≡ (unless b 25 then first_fault (length ls) (limit_fault ls))
   unfolding limits_fault
-  limits_few h = ap (λ (t : Bool). unless t 25 then first_fault (length ls) (limit_fault ls)) (sym h ∙ e)
+  sized h = ap (λ (t : Bool). unless t 25 then first_fault (length ls) (limit_fault ls)) h
 
-  pub limits_pass : {r : ℕ} → b ≡ true → r ≡ first_fault (length ls) (limit_fault ls) → r ≡ limits_fault ls
-  unfolding limits_fault
-  limits_pass h k = k ∙ ap (λ (t : Bool). unless t 25 then first_fault (length ls) (limit_fault ls)) (sym h ∙ e)
+  pub limits_few : (length ls < 1) ⊎ (16 < length ls) → 25 ≡ limits_fault ls
+  limits_few o = sym (sized {b = false} (⊎_elim (λ h. ap (λ (t : Bool). t && leb (length ls) 16) (lt-leb 1 (length ls) h))
+      (λ h. ap (λ (t : Bool). leb 1 (length ls) && t) (lt-leb (length ls) 16 h) ∙ and_none (leb 1 (length ls))) o))
+    where
+      and_none : (b : Bool) → (b && false) ≡ false
+      and_none true = refl
+      and_none false = refl
+
+  pub limits_pass : {r : ℕ} → 1 ≤ length ls → length ls ≤ 16 → r ≡ first_fault (length ls) (limit_fault ls) → r ≡ limits_fault ls
+  limits_pass h k e = e ∙ sym (sized {b = true} (λ i. le-leb 1 (length ls) h i && le-leb (length ls) 16 k i))
 
 -- a limit that does not pass, the first of them
 pub limit_stops : (ls : List Float) (i : ℕ) → i < length ls → first_fault i (limit_fault ls) ≡ 0 → limit_passes ls i ≡ false

@@ -37,7 +37,7 @@ some x y z h =
 pub filled : {b : Box} {p : Code.Part} → PartOf b p → empty p.x p.y p.z ≡ false → Full p.x p.y p.z
 filled {p = p} e h =
     let s = some p.x p.y p.z h in
-    record { x_some = s.0; y_some = s.1; z_some = s.2; x_top = e.x.top; y_top = e.y.top; z_top = e.z.top }
+    record { x_some = s.0; y_some = s.1; z_some = s.2; x_top = e.x.ends.top; y_top = e.y.ends.top; z_top = e.z.ends.top }
 
 -- an empty span on some axis
 module _ {P : Type 0} where
@@ -73,9 +73,9 @@ module _ (g : Grid) {b : Box} {p : Code.Part} (spans : PartOf b p) where
   unfolding read_at
   most_greatest {r} m = record {
     covers = λ c i.
-        let a = axis p.x spans.x c.x i.x_low i.x_high in
-        let e = axis p.y spans.y c.y i.y_low i.y_high in
-        let d = axis p.z spans.z c.z i.z_low i.z_high in
+        let a = axis p.x spans.x.ends c.x i.x_low i.x_high in
+        let e = axis p.y spans.y.ends c.y i.y_low i.y_high in
+        let d = axis p.z spans.z.ends c.z i.z_low i.z_high in
         let f : c ≡ place a.0 e.0 d.0 = λ j. record { x = a.1 j; y = e.1 j; z = d.1 j } in
         ap (λ (k : Coord). lt r (read_in g k)) f
         ∙ m.covers a.0 e.0 d.0 (record { x_low = a.2; x_high = a.3; y_low = e.2; y_high = e.3; z_low = d.2; z_high = d.3 });
@@ -83,12 +83,12 @@ module _ (g : Grid) {b : Box} {p : Code.Part} (spans : PartOf b p) where
         (λ w. inr (
           place w.0 w.1 w.2,
           record {
-            x_low = low_end p.x spans.x w.0 w.3.x_low;
-            x_high = high_end p.x spans.x w.0 w.3.x_high;
-            y_low = low_end p.y spans.y w.1 w.3.y_low;
-            y_high = high_end p.y spans.y w.1 w.3.y_high;
-            z_low = low_end p.z spans.z w.2 w.3.z_low;
-            z_high = high_end p.z spans.z w.2 w.3.z_high;
+            x_low = low_end p.x spans.x.ends w.0 w.3.x_low;
+            x_high = high_end p.x spans.x.ends w.0 w.3.x_high;
+            y_low = low_end p.y spans.y.ends w.1 w.3.y_low;
+            y_high = high_end p.y spans.y.ends w.1 w.3.y_high;
+            z_low = low_end p.z spans.z.ends w.2 w.3.z_low;
+            z_high = high_end p.z spans.z.ends w.2 w.3.z_high;
           },
           w.4,
           w.5,
@@ -131,12 +131,12 @@ module _ {b : Box} {p : Code.Part} (spans : PartOf b p) where
   -- the zone of the box
   pub zone_is : zone_of b ≡ zone_in p.x p.y p.z
   zone_is = λ i. record {
-    x0 = low_number spans.x i;
-    x1 = high_number spans.x i;
-    y0 = low_number spans.y i;
-    y1 = high_number spans.y i;
-    z0 = low_number spans.z i;
-    z1 = high_number spans.z i;
+    x0 = low_number spans.x.ends i;
+    x1 = high_number spans.x.ends i;
+    y0 = low_number spans.y.ends i;
+    y1 = high_number spans.y.ends i;
+    z0 = low_number spans.z.ends i;
+    z1 = high_number spans.z.ends i;
   }
 
   module _ (g : Grid) where

@@ -1,8 +1,10 @@
 -- A root and its block's part of a box, and what is gathered of the roots in order: what only private contracts cite.
-use Rattle.std.specs.Prelude.{ℕ, ◌+◌, ◌≤◌, ◌<◌, ◌≡◌, true, false, Bool, ◌||◌, List, length, get_or, T, Float}
+use Rattle.std.specs.Prelude.{ℕ, ℤ, ◌^◌, leb, ◌+◌, ◌-◌, ◌≤◌, ◌<◌, ◌≡◌, true, false, Bool, ◌||◌, List, length, get_or, T, Float}
 use Rattle.std.specs.Float.{binary32}
 use Rattle.std.specs.Float.Ieee.{fits}
+use lib.Signed.{mag}
 use Rattle.float.specs.Zero.{+0}
+use Rattle.refusals.specs.Faults.{unless}
 use Rattle.sparse_grid.specs.declared.Entry.{Entry}
 use Rattle.sparse_grid.specs.declared.Entry.TheVariants.{Child, Tile}
 use Rattle.sparse_grid.specs.Tables.{Grid, block_at, entry_at}
@@ -16,11 +18,17 @@ use Rattle.walk.specs.Counts.{steps_to}
 use Rattle.majorant.specs.Walks.{Places, Reads, no_reads, upper_reads, zone_of}
 use Rattle.majorant.specs.declared.part.Part as Code
 
+-- the span of two 32-bit coordinates
+pub record SpanOf (lo hi : ℤ) (s : Span) : Type 0 where
+  pub ends : Ends lo hi s
+  pub low : mag lo < 2 ^ 31
+  pub high : mag hi < 2 ^ 31
+
 -- the part of a box
 pub record PartOf (b : Box) (p : Code.Part) : Type 0 where
-  pub x : Ends b.lo.x b.hi.x p.x
-  pub y : Ends b.lo.y b.hi.y p.y
-  pub z : Ends b.lo.z b.hi.z p.z
+  pub x : SpanOf b.lo.x b.hi.x p.x
+  pub y : SpanOf b.lo.y b.hi.y p.y
+  pub z : SpanOf b.lo.z b.hi.z p.z
 
 -- root i of a sound grid
 pub record Rooted (g : Grid) (i : ℕ) : Type 0 where
@@ -84,3 +92,7 @@ pub record Floats (g : Grid) : Type 0 where
   pub upper : AreFloats g.upper_values
   pub lower : AreFloats g.lower_values
   pub leaf : AreFloats g.leaf_values
+
+-- 25 for a span of more than 2^20 coordinates
+abbrev pub side_limit : Span → ℕ
+side_limit s = unless (leb (s.hi - s.lo) 1048576) 25

@@ -6,12 +6,13 @@ ghost use Rattle.sparse_grid.specs.Validate.{validate as validate_s};
 ghost use Rattle.sparse_grid.specs.Lookup.{read_in};
 ghost use Rattle.sparse_grid.specs.Record.{as_grid};
 ghost use Rattle.boxes.specs.Boxes.{as_box};
-ghost use Rattle.walk.specs.Classes.{class_count, limit_passes, limits_fault, side_fault, sides_fault};
+ghost use Rattle.walk.specs.Classes.{class_count, limit_passes, limits_fault, sides_fault};
+ghost use Rattle.majorant.specs.Rooting.{side_limit};
 
 use crate::class_walk::Classes;
 use crate::part::Part;
-use crate::roots::{span_of, walk_roots};
-use boxes::CoordBox;
+use crate::roots::walk_roots;
+use boxes::{CoordBox, Span};
 use refusals::Refusal;
 use sparse_grid::Grid;
 
@@ -46,7 +47,7 @@ fn check_limits(limits: &[f32]) -> Result<(), Refusal>
     ensures { fault_of result ≡ limits_fault limits.now }
 {
     let n = limits.len();
-    if !(1 <= n && n <= 16) {
+    if n < 1 || 16 < n {
         return Err(Refusal::Classes);
     }
     for i in 0..n {
@@ -58,10 +59,9 @@ fn check_limits(limits: &[f32]) -> Result<(), Refusal>
 }
 
 // 25 for a side of more than 2^20 coordinates; where low is above high there are none.
-fn check_side(lo: i32, hi: i32) -> Result<(), Refusal>
-    ensures { fault_of result ≡ side_fault lo hi }
+fn check_side(side: Span) -> Result<(), Refusal>
+    ensures { fault_of result ≡ side_limit side }
 {
-    let side = span_of(lo, hi);
     if side.hi.saturating_sub(side.lo) <= 1048576 {
         Ok(())
     } else {
@@ -69,12 +69,12 @@ fn check_side(lo: i32, hi: i32) -> Result<(), Refusal>
     }
 }
 
-fn check_sides(of: CoordBox) -> Result<(), Refusal>
-    ensures { fault_of result ≡ sides_fault (as_box of) }
+fn check_sides(part: Part) -> Result<(), Refusal>
+    ensures { fault_of result ≡ (side_limit part.x then side_limit part.y then side_limit part.z) }
 {
-    check_side(of.lo.x, of.hi.x)?;
-    check_side(of.lo.y, of.hi.y)?;
-    check_side(of.lo.z, of.hi.z)
+    check_side(part.x)?;
+    check_side(part.y)?;
+    check_side(part.z)
 }
 
 // `validate`, then 25.
@@ -84,5 +84,5 @@ pub(crate) fn check_classes(grid: &Grid, limits: &[f32], of: CoordBox) -> Result
 {
     grid.validate()?;
     check_limits(limits)?;
-    check_sides(of)
+    check_sides(Part::of(of))
 }

@@ -6,9 +6,9 @@ ghost use Rattle.sparse_grid.specs.Record.{as_grid};
 ghost use Rattle.sparse_grid.specs.Biased.{raised};
 ghost use Rattle.sparse_grid.specs.Sound.{Sound};
 ghost use Rattle.boxes.specs.Boxes.{as_box};
-ghost use Rattle.boxes.specs.RangeMax.{Full, Ends, Clip, apart, empty, Linked, child_in};
+ghost use Rattle.boxes.specs.RangeMax.{Full, Clip, apart, empty, Linked, child_in};
 ghost use Rattle.majorant.specs.Walks.{Within, zone_of};
-ghost use Rattle.majorant.specs.Rooting.{PartOf, Rooted, Clips, misses, below, reads_below};
+ghost use Rattle.majorant.specs.Rooting.{SpanOf, PartOf, Rooted, Clips, misses, below, reads_below};
 
 use crate::gather::Gather;
 use crate::nodes::{Upper, all, entry};
@@ -17,8 +17,8 @@ use boxes::{CoordBox, Span};
 use sparse_grid::{Entry, Grid, biased, lifted};
 
 // The coordinates from lo to hi, ends included.
-pub(crate) fn span_of(lo: i32, hi: i32) -> Span
-    ensures { Ends lo hi result }
+fn span_of(lo: i32, hi: i32) -> Span
+    ensures { SpanOf lo hi result }
 {
     Span {
         lo: biased(lo) as usize,
