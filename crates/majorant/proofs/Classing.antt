@@ -1,5 +1,5 @@
 -- The counts of a box from those of its spans; limits and sides that pass. Assumes nothing.
-use Rattle.std.proofs.Common.{◌≡◌, ℕ, zero, suc, ◌+◌, ◌-◌, ◌*◌, ◌<◌, ◌≤◌, Bool, true, false, ◌&&◌, ◌||◌, T, eqb, leb, List, [], ◌∷◌, length, get_or, replicate, ℤ, sym, refl, ap, ◌∙◌, subst, mul-zero, zero-mul, arith, leb→le, w32, SFits, to_z, of_z, eq-eqb, ne_eqb, le-leb}
+use Rattle.std.proofs.Common.{◌≡◌, ℕ, zero, suc, ◌+◌, ◌-◌, ◌*◌, ◌^◌, ◌<◌, ◌≤◌, Bool, true, false, ◌&&◌, ◌||◌, T, eqb, leb, List, [], ◌∷◌, length, get_or, replicate, ℤ, sym, refl, ap, ◌∙◌, subst, ◌⊎◌, ⊎_elim, mul-zero, zero-mul, arith, leb→le, w32, SFits, to_z, of_z, eq-eqb, ne_eqb, le-leb}
 use lib.Ieee.{Float, lt}
 use lib.Ieee.Scale.{finite}
 use borrow.Author.Tests.{lt-leb}
@@ -28,50 +28,33 @@ use Rattle.walk.specs.TalliedLaws.{class_le, places_are}
 use Rattle.sparse_grid.proofs.Signs.{seen}
 use Rattle.majorant.proofs.Signs.{Small}
 use Rattle.majorant.proofs.Refused as Refused
-use Rattle.majorant.proofs.Corners.{Spans, lacking, low_number, high_number, zone_is}
+use Rattle.majorant.specs.declared.part.Part as Code
+use Rattle.majorant.specs.Rooting.{SpanOf, PartOf, side_limit}
+use Rattle.majorant.proofs.Corners.{lacking, low_number, high_number, zone_is}
 
 -- ---- sides
 
 -- a side has as many coordinates as its span
-pub side_is : {lo hi : ℤ} {s : Span} → SFits w32 lo → SFits w32 hi → Ends lo hi s → span lo hi ≡ s.hi - s.lo
-side_is {lo} {hi} f g e = span_biased lo hi f.sfits g.sfits ∙ (λ i. high_number e i - low_number e i)
+pub side_is : {lo hi : ℤ} {s : Span} → SpanOf lo hi s → span lo hi ≡ s.hi - s.lo
+side_is {lo} {hi} e = span_biased lo hi e.low e.high ∙ (λ i. high_number e.ends i - low_number e.ends i)
 
--- 25 where it has more than 2^20
-pub side_told : (lo hi : ℤ) {n : ℕ} (b : Bool) → span lo hi ≡ n → leb n 1048576 ≡ b → unless b 25 ≡ side_fault lo hi
-side_told lo hi b e h = ap (λ (t : Bool). unless t 25) (sym (ap (λ (k : ℕ). leb k 1048576) e ∙ h))
+-- 25 where one has more than 2^20
+pub sides_told : {b : Box} {p : Code.Part} → PartOf b p → (side_limit p.x then side_limit p.y then side_limit p.z) ≡ sides_fault b
+sides_told o = λ i. told o.x i then told o.y i then told o.z i
+  where
+    told : {lo hi : ℤ} {s : Span} → SpanOf lo hi s → side_limit s ≡ side_fault lo hi
+    told e = ap (λ (n : ℕ). unless (leb n 1048576) 25) (sym (side_is e))
 
-pub record Fit (lx ly lz hx hy hz : ℤ) : Type 0 where
-  pub lx_fits : SFits w32 lx
-  pub ly_fits : SFits w32 ly
-  pub lz_fits : SFits w32 lz
-  pub hx_fits : SFits w32 hx
-  pub hy_fits : SFits w32 hy
-  pub hz_fits : SFits w32 hz
-
--- what a callee is handed of a side, and of a box
-pub side_handed : {lo hi : ℤ} {r : ℕ} → SFits w32 lo → SFits w32 hi → r ≡ side_fault (to_z w32 (of_z w32 lo)) (to_z w32 (of_z w32 hi)) → r ≡ side_fault lo hi
-side_handed f g e = e ∙ (λ i. side_fault (seen f i) (seen g i))
-
-pub box_fit : {lx ly lz hx hy hz : ℤ} → Fit lx ly lz hx hy hz → Small (between lx ly lz hx hy hz)
-box_fit f = record {
-  lx = f.lx_fits.sfits;
-  ly = f.ly_fits.sfits;
-  lz = f.lz_fits.sfits;
-  hx = f.hx_fits.sfits;
-  hy = f.hy_fits.sfits;
-  hz = f.hz_fits.sfits;
-}
-
-module _ {lx ly lz hx hy hz : ℤ} (fit : Fit lx ly lz hx hy hz) {x y z : Span} (spans : Spans lx ly lz hx hy hz x y z) where
+module _ {b : Box} {p : Code.Part} (spans : PartOf b p) where
   -- sides that pass
-  pub sides_few : sides_fault (between lx ly lz hx hy hz) ≡ 0 → Sides x y z
+  pub sides_few : sides_fault b ≡ 0 → Sides p.x p.y p.z
   sides_few e =
-      let p = then_zero (side_fault lx hx) (side_fault ly hy then side_fault lz hz) e in
-      let q = then_zero (side_fault ly hy) (side_fault lz hz) p.1 in
+      let u = then_zero (side_fault b.lo.x b.hi.x) (side_fault b.lo.y b.hi.y then side_fault b.lo.z b.hi.z) e in
+      let v = then_zero (side_fault b.lo.y b.hi.y) (side_fault b.lo.z b.hi.z) u.1 in
       record {
-        x_side = few lx hx (side_is fit.lx_fits fit.hx_fits spans.along_x_lem) p.0;
-        y_side = few ly hy (side_is fit.ly_fits fit.hy_fits spans.along_y_lem) q.0;
-        z_side = few lz hz (side_is fit.lz_fits fit.hz_fits spans.along_z_lem) q.1;
+        x_side = few b.lo.x b.hi.x (side_is spans.x) u.0;
+        y_side = few b.lo.y b.hi.y (side_is spans.y) v.0;
+        z_side = few b.lo.z b.hi.z (side_is spans.z) v.1;
       }
     where
       few : (lo hi : ℤ) {n : ℕ} → span lo hi ≡ n → side_fault lo hi ≡ 0 → n ≤ 1048576
@@ -79,15 +62,15 @@ module _ {lx ly lz hx hy hz : ℤ} (fit : Fit lx ly lz hx hy hz) {x y z : Span} 
 
   module _ (g : Grid) (ls : List Float) (k : ℕ) where
     -- ---- the counts of a box are those of its zone
-    pub counts_are : class_count (read_in g) ls (between lx ly lz hx hy hz) k ≡ tally (is_class ls (read_at g) k) (zone_in x y z)
+    pub counts_are : class_count (read_in g) ls b k ≡ tally (is_class ls (read_at g) k) (zone_in p.x p.y p.z)
     counts_are =
-        class_tally (between lx ly lz hx hy hz) (record { x = fit.lx_fits.sfits; y = fit.ly_fits.sfits; z = fit.lz_fits.sfits })
-        (record { x = fit.hx_fits.sfits; y = fit.hy_fits.sfits; z = fit.hz_fits.sfits }) g ls k
+        class_tally b (record { x = spans.x.low; y = spans.y.low; z = spans.z.low })
+        (record { x = spans.x.high; y = spans.y.high; z = spans.z.high }) g ls k
         ∙ ap (tally (is_class ls (read_at g) k)) (zone_is spans)
 
     -- an empty box has none
-    pub counts_none : empty x y z ≡ true → class_count (read_in g) ls (between lx ly lz hx hy hz) k ≡ 0
-    counts_none h = counts_are ∙ omega (arith, class_le ls (read_at g) k (zone_in x y z), places_are (zone_in x y z), none)
+    pub counts_none : empty p.x p.y p.z ≡ true → class_count (read_in g) ls b k ≡ 0
+    counts_none h = counts_are ∙ omega (arith, class_le ls (read_at g) k (zone_in p.x p.y p.z), places_are (zone_in p.x p.y p.z), none)
       where
         nil : (a b c : ℕ) → a ≡ 0 → a * b * c ≡ 0
         nil a b c e = ap (λ (n : ℕ). n * b * c) e ∙ ap (λ (n : ℕ). n * c) (zero-mul b) ∙ zero-mul c
@@ -98,8 +81,8 @@ module _ {lx ly lz hx hy hz : ℤ} (fit : Fit lx ly lz hx hy hz) {x y z : Span} 
         nil_3 : (a b c : ℕ) → c ≡ 0 → a * b * c ≡ 0
         nil_3 a b c e = ap (λ (n : ℕ). a * b * n) e ∙ mul-zero (a * b)
 
-        none : volume (zone_in x y z) ≡ 0
-        none = lacking x y z h (λ l. nil _ _ _ (omega arith)) (λ l. nil_2 _ _ _ (omega arith)) (λ l. nil_3 _ _ _ (omega arith))
+        none : volume (zone_in p.x p.y p.z) ≡ 0
+        none = lacking p.x p.y p.z h (λ l. nil _ _ _ (omega arith)) (λ l. nil_2 _ _ _ (omega arith)) (λ l. nil_3 _ _ _ (omega arith))
 
 -- ---- limits
 
@@ -122,14 +105,22 @@ limit_next ls i d l z e =
 abbrev pub limit_fault : List Float → ℕ → ℕ
 limit_fault ls i = unless (limit_passes ls i) 25
 
-module _ (ls : List Float) {b : Bool} (e : b ≡ (leb 1 (length ls) && leb (length ls) 16)) where
-  pub limits_few : b ≡ false → 25 ≡ limits_fault ls
+module _ (ls : List Float) where
+  sized : {b : Bool} → (leb 1 (length ls) && leb (length ls) 16) ≡ b
+      → limits_fault ls ≡ (unless b 25 then first_fault (length ls) (limit_fault ls))
   unfolding limits_fault
-  limits_few h = ap (λ (t : Bool). unless t 25 then first_fault (length ls) (limit_fault ls)) (sym h ∙ e)
+  sized h = ap (λ (t : Bool). unless t 25 then first_fault (length ls) (limit_fault ls)) h
 
-  pub limits_pass : {r : ℕ} → b ≡ true → r ≡ first_fault (length ls) (limit_fault ls) → r ≡ limits_fault ls
-  unfolding limits_fault
-  limits_pass h k = k ∙ ap (λ (t : Bool). unless t 25 then first_fault (length ls) (limit_fault ls)) (sym h ∙ e)
+  pub limits_few : (length ls < 1) ⊎ (16 < length ls) → 25 ≡ limits_fault ls
+  limits_few o = sym (sized {b = false} (⊎_elim (λ h. ap (λ (t : Bool). t && leb (length ls) 16) (lt-leb 1 (length ls) h))
+      (λ h. ap (λ (t : Bool). leb 1 (length ls) && t) (lt-leb (length ls) 16 h) ∙ and_none (leb 1 (length ls))) o))
+    where
+      and_none : (b : Bool) → (b && false) ≡ false
+      and_none true = refl
+      and_none false = refl
+
+  pub limits_pass : {r : ℕ} → 1 ≤ length ls → length ls ≤ 16 → r ≡ first_fault (length ls) (limit_fault ls) → r ≡ limits_fault ls
+  limits_pass h k e = e ∙ sym (sized {b = true} (λ i. le-leb 1 (length ls) h i && le-leb (length ls) 16 k i))
 
 -- a limit that does not pass, the first of them
 pub limit_stops : (ls : List Float) (i : ℕ) → i < length ls → first_fault i (limit_fault ls) ≡ 0 → limit_passes ls i ≡ false
@@ -155,18 +146,13 @@ module _ (g : Grid) (ls : List Float) (b : Box) {n : ℕ} (e : n ≡ (validate g
   unfolding public_counts
   told = ap (λ (k : ℕ). passing k (ok (listed 17 0 (class_count (read_in g) ls b)))) (sym e)
 
-  pub counts_refused : (n ≡ 0 → ⊥) → (n ≡ number_of counts) × (replicate 17 0 ≡ value_or (replicate 17 0) counts)
-  counts_refused h =
-      let r : counts ≡ refused n = told ∙ sym (Refused.stopped (ok (listed 17 0 (class_count (read_in g) ls b))) refl h) in
-      (sym (ap number_of r), sym (ap (value_or (replicate 17 0)) r))
+  pub counts_stopped : (n ≡ 0 → ⊥) → refused n ≡ counts
+  counts_stopped h = Refused.stopped (ok (listed 17 0 (class_count (read_in g) ls b))) refl h ∙ sym told
 
-  pub counts_given : (l : List ℕ) → n ≡ 0 → length l ≡ 17 → ((k : ℕ) → k < 17 → get_or l k 0 ≡ class_count (read_in g) ls b k)
-      → (n ≡ number_of counts) × (l ≡ value_or (replicate 17 0) counts)
+  pub counts_given : (l : List ℕ) → n ≡ 0 → length l ≡ 17 → ((k : ℕ) → k < 17 → get_or l k 0 ≡ class_count (read_in g) ls b k) → ok l ≡ counts
   counts_given l o long each =
       let f = class_count (read_in g) ls b in
-      let r : counts ≡ ok l =
-      told ∙ ap (λ (k : ℕ). passing k (ok (listed 17 0 f))) o ∙ ap ok (sym (listed_is l 0 17 f long (λ k K. each k K ∙ ap f (omega arith)))) in
-      (o ∙ sym (ap number_of r), sym (ap (value_or (replicate 17 0)) r))
+      sym (told ∙ ap (λ (k : ℕ). passing k (ok (listed 17 0 f))) o ∙ ap ok (sym (listed_is l 0 17 f long (λ k K. each k K ∙ ap f (omega arith)))))
 
   -- where nothing is refused, the grid, the limits and the sides pass
   module _ (o : n ≡ 0) where

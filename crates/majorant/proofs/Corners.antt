@@ -8,18 +8,18 @@ use Rattle.sparse_grid.specs.Biased.{back, place}
 use Rattle.sparse_grid.specs.BiasedLaws.{back_low, back_high, back_le, back_between}
 use Rattle.sparse_grid.specs.Count.{split_lt}
 use Rattle.boxes.specs.declared.Span.{Span}
-use Rattle.boxes.specs.Boxes.{Greatest, box_maximum, between}
+use Rattle.boxes.specs.Boxes.{Box, Greatest, box_maximum}
+use Rattle.majorant.specs.declared.part.Part as Code
+use Rattle.majorant.specs.Walks.{no_reads}
+use Rattle.majorant.specs.Rooting.{PartOf, read_of, reads_for}
 use Rattle.boxes.proofs.Maximum.{greatest}
 use Rattle.boxes.proofs.Greatest.{greatest_one}
 use Rattle.majorant.proofs.FitLaws.{zero_fits, box_fits}
 use Rattle.boxes.specs.Most.{Most}
 use Rattle.boxes.specs.RangeMax.{Within, Full, Ends, empty, read_at}
 use Rattle.boxes.proofs.MostLaws.{none}
-use Rattle.sparse_grid.proofs.Signs.{seen}
 use Rattle.walk.specs.Walk.{Price, biased, zone_of, steps, roots_only, uppers_only, lowers_only, leaves_only}
-use Rattle.walk.specs.Walk.{roots_read, uppers_read, lowers_read, leaves_read}
-use Rattle.walk.specs.Counts.{zone_in, More}
-use Rattle.walk.proofs.MoreLaws.{none as nothing, equal}
+use Rattle.walk.specs.Counts.{zone_in}
 use Rattle.walk.proofs.NodeWalk.{empty_steps}
 
 -- ---- spans with a place, and without
@@ -34,23 +34,10 @@ some x y z h =
     let q = or_false (leb x.hi x.lo) (leb y.hi y.lo) p.0 in
     (leb-false x.hi x.lo q.0, leb-false y.hi y.lo q.1, leb-false z.hi z.lo p.1)
 
--- the spans of a box from its low corner to its high one
-pub record Spans (lx ly lz hx hy hz : ℤ) (x y z : Span) : Type 0 where
-  pub along_x_lem : Ends lx hx x
-  pub along_y_lem : Ends ly hy y
-  pub along_z_lem : Ends lz hz z
-
-pub filled : {lx ly lz hx hy hz : ℤ} {x y z : Span} → Spans lx ly lz hx hy hz x y z → empty x y z ≡ false → Full x y z
-filled {x = x} {y = y} {z = z} e h =
-    let s = some x y z h in
-    record {
-      x_some = s.0;
-      y_some = s.1;
-      z_some = s.2;
-      x_top = e.along_x_lem.top;
-      y_top = e.along_y_lem.top;
-      z_top = e.along_z_lem.top;
-    }
+pub filled : {b : Box} {p : Code.Part} → PartOf b p → empty p.x p.y p.z ≡ false → Full p.x p.y p.z
+filled {p = p} e h =
+    let s = some p.x p.y p.z h in
+    record { x_some = s.0; y_some = s.1; z_some = s.2; x_top = e.x.ends.top; y_top = e.y.ends.top; z_top = e.z.ends.top }
 
 -- an empty span on some axis
 module _ {P : Type 0} where
@@ -69,7 +56,7 @@ no_place x y z h a b c s = lacking x y z h (λ k. omega arith) (λ k. omega arit
 
 -- ---- the box
 
-module _ (g : Grid) {lx ly lz hx hy hz : ℤ} {x y z : Span} (spans : Spans lx ly lz hx hy hz x y z) where
+module _ (g : Grid) {b : Box} {p : Code.Part} (spans : PartOf b p) where
   -- a coordinate between two ends is a place of their span
   axis : {lo hi : ℤ} (s : Span) → Ends lo hi s → (c : ℤ) → lo ≤ℤ c → c ≤ℤ hi → (n : ℕ) × (c ≡ back 2147483648 n) × (s.lo ≤ n) × (n < s.hi)
   axis s e c l u =
@@ -82,26 +69,26 @@ module _ (g : Grid) {lx ly lz hx hy hz : ℤ} {x y z : Span} (spans : Spans lx l
   high_end : {lo hi : ℤ} (s : Span) → Ends lo hi s → (n : ℕ) → n < s.hi → back 2147483648 n ≤ℤ hi
   high_end s e n h = subst (λ (k : ℤ). back 2147483648 n ≤ℤ k) (sym e.high) (back_le 2147483648 n (s.hi - 1) (omega arith))
 
-  most_greatest : {r : Float} → Most (read_at g) (Within x y z) r → Greatest (read_in g) (between lx ly lz hx hy hz) r
+  most_greatest : {r : Float} → Most (read_at g) (Within p.x p.y p.z) r → Greatest (read_in g) b r
   unfolding read_at
   most_greatest {r} m = record {
     covers = λ c i.
-        let a = axis x spans.along_x_lem c.x i.x_low i.x_high in
-        let b = axis y spans.along_y_lem c.y i.y_low i.y_high in
-        let d = axis z spans.along_z_lem c.z i.z_low i.z_high in
-        let e : c ≡ place a.0 b.0 d.0 = λ j. record { x = a.1 j; y = b.1 j; z = d.1 j } in
-        ap (λ (k : Coord). lt r (read_in g k)) e
-        ∙ m.covers a.0 b.0 d.0 (record { x_low = a.2; x_high = a.3; y_low = b.2; y_high = b.3; z_low = d.2; z_high = d.3 });
+        let a = axis p.x spans.x.ends c.x i.x_low i.x_high in
+        let e = axis p.y spans.y.ends c.y i.y_low i.y_high in
+        let d = axis p.z spans.z.ends c.z i.z_low i.z_high in
+        let f : c ≡ place a.0 e.0 d.0 = λ j. record { x = a.1 j; y = e.1 j; z = d.1 j } in
+        ap (λ (k : Coord). lt r (read_in g k)) f
+        ∙ m.covers a.0 e.0 d.0 (record { x_low = a.2; x_high = a.3; y_low = e.2; y_high = e.3; z_low = d.2; z_high = d.3 });
     reached = ⊎_elim (λ e. inl e)
         (λ w. inr (
           place w.0 w.1 w.2,
           record {
-            x_low = low_end x spans.along_x_lem w.0 w.3.x_low;
-            x_high = high_end x spans.along_x_lem w.0 w.3.x_high;
-            y_low = low_end y spans.along_y_lem w.1 w.3.y_low;
-            y_high = high_end y spans.along_y_lem w.1 w.3.y_high;
-            z_low = low_end z spans.along_z_lem w.2 w.3.z_low;
-            z_high = high_end z spans.along_z_lem w.2 w.3.z_high;
+            x_low = low_end p.x spans.x.ends w.0 w.3.x_low;
+            x_high = high_end p.x spans.x.ends w.0 w.3.x_high;
+            y_low = low_end p.y spans.y.ends w.1 w.3.y_low;
+            y_high = high_end p.y spans.y.ends w.1 w.3.y_high;
+            z_low = low_end p.z spans.z.ends w.2 w.3.z_low;
+            z_high = high_end p.z spans.z.ends w.2 w.3.z_high;
           },
           w.4,
           w.5,
@@ -109,22 +96,21 @@ module _ (g : Grid) {lx ly lz hx hy hz : ℤ} {x y z : Span} (spans : Spans lx l
   }
 
   -- it is +0 or one of the values that are read, so it fits where they do
-  most_fits : {r : Float} → ((c : Coord) → T (fits binary32 (read_in g c))) → Most (read_at g) (Within x y z) r → T (fits binary32 r)
+  most_fits : {r : Float} → ((c : Coord) → T (fits binary32 (read_in g c))) → Most (read_at g) (Within p.x p.y p.z) r → T (fits binary32 r)
   unfolding read_at
   most_fits h m =
       ⊎_elim (λ e. subst (λ (v : Float). T (fits binary32 v)) (sym e) zero_fits)
       (λ w. subst (λ (v : Float). T (fits binary32 v)) w.4 (h (place w.0 w.1 w.2))) m.reached
 
-  pub is_maximum : {r : Float} → ((c : Coord) → T (fits binary32 (read_in g c))) → Most (read_at g) (Within x y z) r
-      → r ≡ box_maximum (read_in g) (between lx ly lz hx hy hz)
+  pub is_maximum : {r : Float} → ((c : Coord) → T (fits binary32 (read_in g c))) → Most (read_at g) (Within p.x p.y p.z) r
+      → r ≡ box_maximum (read_in g) b
   is_maximum h m =
-      let b = between lx ly lz hx hy hz in
       greatest_one (read_in g) binary32 b (most_fits h m) (box_fits (read_in g) b h) (most_greatest m) (greatest (read_in g) b)
 
   -- an empty box: the code's 0.0
-  pub is_none : empty x y z ≡ true → ((c : Coord) → T (fits binary32 (read_in g c)))
-      → of_bits binary32 0 ≡ box_maximum (read_in g) (between lx ly lz hx hy hz)
-  is_none o h = is_maximum h (none (no_place x y z o))
+  pub is_none : empty p.x p.y p.z ≡ true → ((c : Coord) → T (fits binary32 (read_in g c)))
+      → of_bits binary32 0 ≡ box_maximum (read_in g) b
+  is_none o h = is_maximum h (none (no_place p.x p.y p.z o))
 
 -- ---- what is read for the box
 
@@ -141,38 +127,31 @@ low_number {s = s} e = ap biased e.low ∙ biased_back s.lo
 pub high_number : {lo hi : ℤ} {s : Span} → Ends lo hi s → biased hi + 1 ≡ s.hi
 high_number {s = s} e = let h = ap biased e.high ∙ biased_back (s.hi - 1) in omega (arith, e.some)
 
-module _ {lx ly lz hx hy hz : ℤ} {x y z : Span} (spans : Spans lx ly lz hx hy hz x y z) where
+module _ {b : Box} {p : Code.Part} (spans : PartOf b p) where
   -- the zone of the box
-  pub zone_is : zone_of (between lx ly lz hx hy hz) ≡ zone_in x y z
+  pub zone_is : zone_of b ≡ zone_in p.x p.y p.z
   zone_is = λ i. record {
-    x0 = low_number spans.along_x_lem i;
-    x1 = high_number spans.along_x_lem i;
-    y0 = low_number spans.along_y_lem i;
-    y1 = high_number spans.along_y_lem i;
-    z0 = low_number spans.along_z_lem i;
-    z1 = high_number spans.along_z_lem i;
+    x0 = low_number spans.x.ends i;
+    x1 = high_number spans.x.ends i;
+    y0 = low_number spans.y.ends i;
+    y1 = high_number spans.y.ends i;
+    z0 = low_number spans.z.ends i;
+    z1 = high_number spans.z.ends i;
   }
 
   module _ (g : Grid) where
-    none_read : (p : Price) → empty x y z ≡ true → 0 ≡ steps p g (zone_of (between lx ly lz hx hy hz))
-    none_read p h =
-        sym (ap (steps p g) zone_is
-        ∙ empty_steps p g (zone_in x y z) (lacking x y z h (λ k. inl k) (λ k. inr (inl k)) (λ k. inr (inr k))))
-
     -- an empty box: nothing
-    pub no_more : {t : List ℕ} → empty x y z ≡ true → let b = between lx ly lz hx hy hz in
-        More t t (roots_read g b) (uppers_read g b) (lowers_read g b) (leaves_read g b)
-    no_more h = equal (none_read roots_only h) (none_read uppers_only h) (none_read lowers_only h) (none_read leaves_only h) nothing
+    pub none_read : empty p.x p.y p.z ≡ true → no_reads ≡ reads_for g b
+    none_read h = λ i. record { roots = none roots_only i; uppers = none uppers_only i; lowers = none lowers_only i; leaves = none leaves_only i }
+      where
+        none : (t : Price) → 0 ≡ steps t g (zone_of b)
+        none t =
+            sym (ap (steps t g) zone_is
+            ∙ empty_steps t g (zone_in p.x p.y p.z) (lacking p.x p.y p.z h (λ k. inl k) (λ k. inr (inl k)) (λ k. inr (inr k))))
 
     -- what is read for the spans is what is read for the box
-    pub all_more : {t u : List ℕ} → let count : Price → ℕ = λ p. steps p g (zone_in x y z) in let b = between lx ly lz hx hy hz in
-        More t u (count roots_only) (count uppers_only) (count lowers_only) (count leaves_only)
-        → More t u (roots_read g b) (uppers_read g b) (lowers_read g b) (leaves_read g b)
-    all_more = equal (of_box roots_only) (of_box uppers_only) (of_box lowers_only) (of_box leaves_only)
+    pub all_read : read_of g (zone_in p.x p.y p.z) ≡ reads_for g b
+    all_read = λ i. record { roots = same roots_only i; uppers = same uppers_only i; lowers = same lowers_only i; leaves = same leaves_only i }
       where
-        of_box : (p : Price) → steps p g (zone_in x y z) ≡ steps p g (zone_of (between lx ly lz hx hy hz))
-        of_box p = ap (steps p g) (sym zone_is)
-
--- the ends as a callee is handed them
-pub seen_ends : {lo hi : ℤ} (s : Span) → SFits w32 lo → SFits w32 hi → Ends (to_z w32 (of_z w32 lo)) (to_z w32 (of_z w32 hi)) s → Ends lo hi s
-seen_ends s f g e = record { low = sym (seen f) ∙ e.low; high = sym (seen g) ∙ e.high; some = e.some; top = e.top }
+        same : (t : Price) → steps t g (zone_in p.x p.y p.z) ≡ steps t g (zone_of b)
+        same t = ap (steps t g) (sym zone_is)

@@ -1,10 +1,7 @@
-pub mod RootsMet
 pub mod Corners
 pub mod Signs
 pub mod Tallying
-pub mod Turns
-pub mod RootStep
-pub mod Gone
+pub mod Walked
 pub mod Classing
 pub mod Refused
 pub mod Listing
@@ -21,3 +18,5 @@ pub mod MaximaLaws
 pub mod RowLaws
 pub mod ZoneExamples
 pub mod ZoneLaws
+pub mod RowWalk
+pub mod Tallies

@@ -7,3 +7,10 @@ pub mod Counted
 pub mod Zones
 -- Definitions that only contracts within the crate cite.
 pub mod Rows
+pub mod Walks
+pub mod NodeSums
+pub mod Gathered
+pub mod Rooting
+pub mod RootsMet
+pub mod RootStep
+pub mod Gone

@@ -18,7 +18,7 @@ ghost use Rattle.majorant.specs.Build.{build_into};
 ghost use Rattle.majorant.specs.Figures.{figures};
 ghost use Rattle.majorant.specs.Rows.{box_made, first_box, second_box, first_holds, box_figure, ends_in, cell_figure, row_of, rows_of};
 
-use crate::walks::range_max;
+use crate::range_max::range_max;
 use boxes::CoordBox;
 use cells::Cells;
 use index::{Axis, CellEnds, Ends, Line};

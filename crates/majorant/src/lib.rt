@@ -7,24 +7,31 @@ ghost use Rattle.refusals.specs.Results.{number_of, value_or};
 ghost use Rattle.float.specs.Zero.{+0};
 ghost use Rattle.sparse_grid.specs.Record.{as_grid};
 ghost use Rattle.medium.specs.Record.{as_medium};
+ghost use Rattle.index.specs.Outcomes.{said_as};
 ghost use Rattle.boxes.specs.Boxes.{as_box};
+ghost use Rattle.walk.specs.Classes.{public_counts};
 ghost use Rattle.majorant.specs.Build.{public_maximum, build_into};
+ghost use Rattle.majorant.specs.Counted.{public_counted, as_read};
 ghost use Rattle.majorant.specs.Maxima.{maxima_into, greatest_into};
 
 mod build;
 mod class_walk;
 mod classes;
+mod gather;
 mod maxima;
 mod node_max;
+mod nodes;
+mod part;
 mod range_max;
-mod walks;
+mod roots;
 
 use boxes::CoordBox;
+use classes::{box_classes, check_classes};
 use lent::zero;
 use medium::Medium;
+use range_max::{range_max, range_max_counted};
 use refusals::Refusal;
 use sparse_grid::Grid;
-use walks::range_max;
 
 // The maximum of a box, and how many root entries, upper entries, lower entries and leaf values (in two words) were read for it.
 #[derive(Clone, Copy)]
@@ -44,6 +51,15 @@ pub fn box_maximum(grid: &Grid, of: CoordBox) -> Result<f32, Refusal>
 {
     grid.validate()?;
     Ok(range_max(grid, of))
+}
+
+// The box maximum, by the same walk, and what it read after `validate`.
+#[tactic(auto, unfolding(crate::specs::Counted::public_counted))]
+pub fn box_maximum_counted(grid: &Grid, of: CoordBox) -> Result<Counted, Refusal>
+    ensures { said_as as_read result ≡ public_counted (as_grid grid.now) (as_box of) }
+{
+    grid.validate()?;
+    Ok(range_max_counted(grid, of))
 }
 
 // A maximum for each box of a list, six numbers a box, minima first, and the greatest of them. The grid is validated once. After a refusal the
@@ -73,3 +89,11 @@ pub fn build_majorant(grid: &Grid, m: &Medium, majorants: &mut [f32]) -> Result<
     answer
 }
 
+// How many coordinates of a box hold a density below the first limit, between each pair (lower end included), and at or above the last; zero past
+// the last class. The grid is validated first.
+pub fn count_classes(grid: &Grid, limits: &[f32], of: CoordBox) -> Result<[u64; 17], Refusal>
+    ensures { said_by result ≡ public_counts (as_grid grid.now) limits.now (as_box of) }
+{
+    check_classes(grid, limits, of)?;
+    Ok(box_classes(grid, limits, of))
+}

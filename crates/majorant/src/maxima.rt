@@ -10,7 +10,7 @@ ghost use Rattle.boxes.specs.Boxes.{box_maximum, as_box};
 ghost use Rattle.majorant.specs.Maxima.{box_at, maxima_of, greatest_of, maxima_into, greatest_into};
 
 use crate::node_max::greater;
-use crate::walks::range_max;
+use crate::range_max::range_max;
 use boxes::CoordBox;
 use layout::Coordinate;
 use refusals::Refusal;

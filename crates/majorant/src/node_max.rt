@@ -1,462 +1,172 @@
-// The walk of a box below a root: what a part of it reads below a node is joined to a maximum, and counted where the caller wants that.
-// Each place of the part is met once: a part is cut along the cells of the node.
-ghost use Rattle.std.specs.Prelude.{◌≡◌, ℕ, ◌+◌, ◌-◌, ◌*◌, ◌/◌, ◌<◌, ◌≤◌, true, false, length};
+// The greatest of what a walk meets, and what it reads, where that is counted.
+ghost use Rattle.std.specs.Prelude.{◌≡◌, ◌<◌, ◌≤◌, false};
 ghost use Rattle.std.specs.Float.Ieee.{lt};
 ghost use Rattle.float.specs.Zero.{+0};
 ghost use Rattle.boxes.specs.Boxes.{greater as greater_s};
-ghost use Rattle.boxes.specs.Most.{Most, Joined, Inside};
-ghost use Rattle.boxes.specs.RangeMax.{Within, Full, Cut, InCell, leaf_read, lower_read, upper_read, LowerIn, UpperIn};
-ghost use Rattle.walk.specs.Walk.{Price, uppers_only, lowers_only, leaves_only};
-ghost use Rattle.walk.specs.Counts.{AllIn, More, lower_count, upper_count};
+ghost use Rattle.boxes.specs.Most.{Most, Joined};
+ghost use Rattle.boxes.specs.RangeMax.{wide, read_at};
+ghost use Rattle.walk.specs.Gather.{At};
+ghost use Rattle.walk.specs.Counts.{More};
+ghost use Rattle.majorant.specs.Walks.{zone_of, Reads, CountLaws, Within, size_of, root_reads, one_upper, one_lower, leaf_reads};
+ghost use Rattle.majorant.specs.Rooting.{read_of};
+ghost use Rattle.majorant.specs.Gathered.{words, uncounted_laws, tally_laws, maximum_laws, MaxAfter, maximum_roots};
 
+use crate::gather::Gather;
+use crate::part::Part;
 use boxes::Span;
-use sparse_grid::{Entry, entry_of};
+use sparse_grid::Grid;
 
-// The places of the counts: upper entries and lower entries; leaf values have two words.
-const UPPER: usize = 1;
-
-const LOWER: usize = 2;
-
-const HIGH: usize = 3;
-
-const LOW: usize = 4;
-
-// b where a is less, and a otherwise.
+// b where a is less, and a otherwise. std's `max` passes a NaN over and may answer either of two zeros.
 pub(crate) fn greater(a: f32, b: f32) -> f32
     ensures { result ≡ greater_s a b }
 {
     if a < b { b } else { a }
 }
 
-// The place of a slot in a node that is `dimension` slots a side.
-pub(crate) fn table_index(x: usize, y: usize, z: usize, dimension: usize) -> usize
-    requires { (x < 32) × (y < 32) × (z < 32) × (dimension ≤ 32) }
-    ensures { result ≡ (x * dimension + y) * dimension + z }
-{
-    (x * dimension + y) * dimension + z
+// What counts the reads of a walk.
+pub(crate) trait Count {
+    // From the one to the other so much was read.
+    ghost More: { Reads → Self → Self → Type 0 };
+
+    ghost laws: { CountLaws More };
+
+    fn roots(&mut self, n: u64)
+        ensures { More (root_reads n) self.old self.new };
+
+    fn upper(&mut self)
+        ensures { More one_upper self.old self.new };
+
+    fn lower(&mut self)
+        ensures { More one_lower self.old self.new };
+
+    fn leaf(&mut self, part: Part)
+        requires { Within 8 8 8 part }
+        ensures { More (leaf_reads (size_of part)) self.old self.new };
 }
 
-// Where the first part of at..end that lies in one cell of `side` coordinates ends.
-pub(crate) fn cell_end(at: usize, end: usize, side: usize) -> usize
-    requires { (at < end) × (end ≤ 4294967296) × (0 < side) × (side ≤ 128) }
-    ensures { Cut side at end result }
-{
-    let e = at / side * side + side;
-    if e < end { e } else { end }
+// Where nobody wants the counts, none are made.
+#[derive(Clone, Copy)]
+pub(crate) struct Uncounted {}
+
+impl Count for Uncounted {
+    ghost More = { λ c s t. Unit {0} };
+
+    ghost laws = { uncounted_laws };
+
+    fn roots(&mut self, n: u64) {}
+
+    fn upper(&mut self) {}
+
+    fn lower(&mut self) {}
+
+    fn leaf(&mut self, part: Part) {}
 }
 
-// ---- leaf k: its values stand row by row, and a row along z is a run of the table
+// Root entries, upper entries, lower entries, and leaf values in two words.
+#[derive(Clone, Copy)]
+pub(crate) struct Tally {
+    pub roots: u64,
+    pub upper: u64,
+    pub lower: u64,
+    pub high: u64,
+    pub low: u64,
+}
 
-fn leaf_row(leaf_values: &[f32], k: usize, x: usize, y: usize, z: Span) -> f32
-    requires { (512 * k + 512 ≤ length leaf_values.now) × (z.lo < z.hi) × InCell 8 z }
-    ensures { Most (leaf_read leaf_values.now k) (Inside x (x + 1) y (y + 1) z.lo z.hi) result }
-{
-    let lo = z.lo;
-    let start = 512 * k + table_index(x % 8, y % 8, lo % 8, 8);
-    let end = start + (z.hi - lo);
-    let mut maximum = 0.0f32;
-    let mut i = start;
-    while i < end {
-        maximum = greater(maximum, leaf_values[i]);
-        i += 1;
+impl Count for Tally {
+    ghost More = { λ c s t. More (words s) (words t) c.roots c.uppers c.lowers c.leaves };
+
+    ghost laws = { tally_laws };
+
+    fn roots(&mut self, n: u64) {
+        self.roots = self.roots.wrapping_add(n);
     }
-    maximum
-}
 
-fn leaf_plane(leaf_values: &[f32], k: usize, x: usize, y: Span, z: Span) -> f32
-    requires { (512 * k + 512 ≤ length leaf_values.now) × (y.lo < y.hi) × (z.lo < z.hi) × InCell 8 z }
-    ensures { Most (leaf_read leaf_values.now k) (Inside x (x + 1) y.lo y.hi z.lo z.hi) result }
-{
-    let end = y.hi;
-    let mut maximum = 0.0f32;
-    let mut at = y.lo;
-    while at < end {
-        maximum = greater(maximum, leaf_row(leaf_values, k, x, at, z));
-        at += 1;
+    fn upper(&mut self) {
+        self.upper = self.upper.wrapping_add(1);
     }
-    maximum
-}
 
-pub(crate) fn leaf_max(leaf_values: &[f32], k: usize, x: Span, y: Span, z: Span) -> f32
-    requires { (512 * k + 512 ≤ length leaf_values.now) × Full x y z × InCell 8 z }
-    ensures { Most (leaf_read leaf_values.now k) (Within x y z) result }
-{
-    let end = x.hi;
-    let mut maximum = 0.0f32;
-    let mut at = x.lo;
-    while at < end {
-        maximum = greater(maximum, leaf_plane(leaf_values, k, at, y, z));
-        at += 1;
+    fn lower(&mut self) {
+        self.lower = self.lower.wrapping_add(1);
     }
-    maximum
-}
 
-// ---- counts. Sums that nobody wants are not made, and what is read is counted by the walk that reads it.
-
-// One entry more: an upper one where the place is UPPER, a lower one where it is LOWER.
-fn tally(counting: bool, counts: &mut [u64; 5], place: usize)
-    requires { (0 < place) × (place < 3) }
-    ensures { counting ≡ true → More counts.old counts.new 0 (2 - place) (place - 1) 0 }
-{
-    if counting {
-        counts[place] = std::num::wrapping_add_u64(counts[place], 1);
-    }
-}
-
-// The values of a part of a leaf more.
-fn tally_values(counting: bool, counts: &mut [u64; 5], x: Span, y: Span, z: Span)
-    requires { Full x y z × AllIn 8 x y z }
-    ensures { let size = (x.hi - x.lo) * (y.hi - y.lo) * (z.hi - z.lo) in
-        (counting ≡ true → More counts.old counts.new 0 0 0 size) }
-{
-    if counting {
-        let size = ((x.hi - x.lo) * (y.hi - y.lo) * (z.hi - z.lo)) as u64;
-        let low = std::num::wrapping_add_u64(counts[LOW], size);
-        if low < size {
-            counts[HIGH] = std::num::wrapping_add_u64(counts[HIGH], 1);
+    fn leaf(&mut self, part: Part) {
+        let size = part.size() as u64;
+        self.low = self.low.wrapping_add(size);
+        if self.low < size {
+            self.high = self.high.wrapping_add(1);
         }
-        counts[LOW] = low;
     }
 }
 
-// ---- lower node k: 16 cells of 8 coordinates a side
-
-fn lower_cell(
-    lower_links: &[u32],
-    lower_values: &[f32],
-    leaf_values: &[f32],
-    k: usize,
-    x: Span,
-    y: Span,
-    z: Span,
-    maximum: f32,
-    counting: bool,
-    counts: &mut [u64; 5],
-) -> f32
-    requires { LowerIn lower_links.now lower_values.now leaf_values.now k × Full x y z
-        × AllIn 8 x y z × (lt maximum +0 ≡ false) }
-    ensures { let count : Price → ℕ = λ p. lower_count p lower_links.now lower_values.now k x y z in
-        Joined maximum (lower_read lower_links.now lower_values.now leaf_values.now k) (Within x y z) result
-        × (counting ≡ true → More counts.old counts.new 0 0 (count lowers_only) (count leaves_only)) }
+// How many blocks a span meets.
+fn blocks_along(span: Span) -> u64
+    requires { (span.lo < span.hi) × (span.hi ≤ 4294967296) }
+    ensures { (result ≡ wide span.lo span.hi) × (result ≤ 1048576) }
 {
-    tally(counting, counts, LOWER);
-    let i = 4096 * k + table_index(x.lo % 128 / 8, y.lo % 128 / 8, z.lo % 128 / 8, 16);
-    match entry_of(lower_links[i], lower_values[i]) {
-        Entry::Child(j) => {
-            tally_values(counting, counts, x, y, z);
-            greater(maximum, leaf_max(leaf_values, j as usize, x, y, z))
+    ((span.hi - 1) / 4096 - span.lo / 4096 + 1) as u64
+}
+
+// The greatest of +0.0 and the values so far.
+#[derive(Clone, Copy)]
+pub(crate) struct Maximum<C> {
+    pub maximum: f32,
+    pub counts: C,
+}
+
+impl<C: Count> Gather for Maximum<C> {
+    ghost Fit = { λ s q. lt s.maximum +0 ≡ false };
+
+    ghost Done = { λ f q c s t. Joined s.maximum f (At q) t.maximum × C.More c s.counts t.counts };
+
+    ghost laws = { maximum_laws C.Count.laws };
+
+    ghost Able = { λ p. Unit {0} };
+
+    ghost Fresh = { λ s. s.maximum ≡ +0 };
+
+    // A block for each root that meets the box.
+    ghost weight = { λ p. 1 };
+
+    ghost After = { λ g p i s t k. MaxAfter C.More g p i s t k };
+
+    ghost Whole = { λ g p s t. Most (read_at g) (At (zone_of p)) t.maximum × C.More (read_of g (zone_of p)) s.counts t.counts };
+
+    ghost roots = { maximum_roots C.Count.laws };
+
+    fn upper(&mut self) {
+        self.counts.upper();
+    }
+
+    fn lower(&mut self) {
+        self.counts.lower();
+    }
+
+    fn leaf(&mut self, part: Part) {
+        self.counts.leaf(part);
+    }
+
+    fn tile(&mut self, part: Part, value: f32) {
+        self.maximum = greater(self.maximum, value);
+    }
+
+    // A maximum of the row's own, so that rows need not wait for one another.
+    fn row(&mut self, part: Part, values: &[f32]) {
+        let mut maximum = 0.0f32;
+        for v in values {
+            maximum = greater(maximum, *v);
         }
-        Entry::Tile(v) => greater(maximum, v),
+        self.maximum = greater(self.maximum, maximum);
     }
-}
 
-fn lower_row(
-    lower_links: &[u32],
-    lower_values: &[f32],
-    leaf_values: &[f32],
-    k: usize,
-    x: Span,
-    y: Span,
-    z: Span,
-    maximum: f32,
-    counting: bool,
-    counts: &mut [u64; 5],
-) -> f32
-    requires { LowerIn lower_links.now lower_values.now leaf_values.now k × Full x y z
-        × InCell 8 x × InCell 8 y × InCell 128 z × (lt maximum +0 ≡ false) }
-    ensures { let count : Price → ℕ = λ p. lower_count p lower_links.now lower_values.now k x y z in
-        Joined maximum (lower_read lower_links.now lower_values.now leaf_values.now k) (Within x y z) result
-        × (counting ≡ true → More counts.old counts.new 0 0 (count lowers_only) (count leaves_only)) }
-{
-    let end = z.hi;
-    let mut held = maximum;
-    let mut at = z.lo;
-    while at < end {
-        let next = cell_end(at, end, 8);
-        let cell = Span { lo: at, hi: next };
-        held = lower_cell(
-            lower_links,
-            lower_values,
-            leaf_values,
-            k,
-            x,
-            y,
-            cell,
-            held,
-            counting,
-            counts,
-        );
-        at = next;
+    fn weigh(&self, part: Part) -> u64 {
+        1
     }
-    held
-}
 
-fn lower_plane(
-    lower_links: &[u32],
-    lower_values: &[f32],
-    leaf_values: &[f32],
-    k: usize,
-    x: Span,
-    y: Span,
-    z: Span,
-    maximum: f32,
-    counting: bool,
-    counts: &mut [u64; 5],
-) -> f32
-    requires { LowerIn lower_links.now lower_values.now leaf_values.now k × Full x y z
-        × InCell 8 x × InCell 128 y × InCell 128 z × (lt maximum +0 ≡ false) }
-    ensures { let count : Price → ℕ = λ p. lower_count p lower_links.now lower_values.now k x y z in
-        Joined maximum (lower_read lower_links.now lower_values.now leaf_values.now k) (Within x y z) result
-        × (counting ≡ true → More counts.old counts.new 0 0 (count lowers_only) (count leaves_only)) }
-{
-    let end = y.hi;
-    let mut held = maximum;
-    let mut at = y.lo;
-    while at < end {
-        let next = cell_end(at, end, 8);
-        let cell = Span { lo: at, hi: next };
-        held = lower_row(
-            lower_links,
-            lower_values,
-            leaf_values,
-            k,
-            x,
-            cell,
-            z,
-            held,
-            counting,
-            counts,
-        );
-        at = next;
+    // Where the roots cover fewer blocks than the box has, some place of it lies in no root, and the background counts.
+    fn rest(&mut self, grid: &Grid, of: Part, covered: u64) {
+        self.counts.roots(covered);
+        if covered < blocks_along(of.x) * (blocks_along(of.y) * blocks_along(of.z)) {
+            self.maximum = greater(self.maximum, grid.background);
+        }
     }
-    held
-}
-
-fn lower_max(
-    lower_links: &[u32],
-    lower_values: &[f32],
-    leaf_values: &[f32],
-    k: usize,
-    x: Span,
-    y: Span,
-    z: Span,
-    maximum: f32,
-    counting: bool,
-    counts: &mut [u64; 5],
-) -> f32
-    requires { LowerIn lower_links.now lower_values.now leaf_values.now k × Full x y z
-        × AllIn 128 x y z × (lt maximum +0 ≡ false) }
-    ensures { let count : Price → ℕ = λ p. lower_count p lower_links.now lower_values.now k x y z in
-        Joined maximum (lower_read lower_links.now lower_values.now leaf_values.now k) (Within x y z) result
-        × (counting ≡ true → More counts.old counts.new 0 0 (count lowers_only) (count leaves_only)) }
-{
-    let end = x.hi;
-    let mut held = maximum;
-    let mut at = x.lo;
-    while at < end {
-        let next = cell_end(at, end, 8);
-        let cell = Span { lo: at, hi: next };
-        held = lower_plane(
-            lower_links,
-            lower_values,
-            leaf_values,
-            k,
-            cell,
-            y,
-            z,
-            held,
-            counting,
-            counts,
-        );
-        at = next;
-    }
-    held
-}
-
-// ---- upper node k: 32 cells of 128 coordinates a side
-
-fn upper_cell(
-    upper_links: &[u32],
-    upper_values: &[f32],
-    lower_links: &[u32],
-    lower_values: &[f32],
-    leaf_values: &[f32],
-    k: usize,
-    x: Span,
-    y: Span,
-    z: Span,
-    maximum: f32,
-    counting: bool,
-    counts: &mut [u64; 5],
-) -> f32
-    requires { UpperIn upper_links.now upper_values.now lower_links.now lower_values.now leaf_values.now k
-        × Full x y z × AllIn 128 x y z × (lt maximum +0 ≡ false) }
-    ensures { let read = upper_read upper_links.now upper_values.now lower_links.now
-        lower_values.now leaf_values.now k in
-        let count : Price → ℕ = λ p. upper_count p upper_links.now upper_values.now lower_links.now
-        lower_values.now k x y z in
-        Joined maximum read (Within x y z) result
-        × (counting ≡ true → More counts.old counts.new 0 (count uppers_only) (count lowers_only) (count leaves_only)) }
-{
-    tally(counting, counts, UPPER);
-    let i = 32768 * k + table_index(x.lo % 4096 / 128, y.lo % 4096 / 128, z.lo % 4096 / 128, 32);
-    match entry_of(upper_links[i], upper_values[i]) {
-        Entry::Child(j) => lower_max(
-            lower_links,
-            lower_values,
-            leaf_values,
-            j as usize,
-            x,
-            y,
-            z,
-            maximum,
-            counting,
-            counts,
-        ),
-        Entry::Tile(v) => greater(maximum, v),
-    }
-}
-
-fn upper_row(
-    upper_links: &[u32],
-    upper_values: &[f32],
-    lower_links: &[u32],
-    lower_values: &[f32],
-    leaf_values: &[f32],
-    k: usize,
-    x: Span,
-    y: Span,
-    z: Span,
-    maximum: f32,
-    counting: bool,
-    counts: &mut [u64; 5],
-) -> f32
-    requires { UpperIn upper_links.now upper_values.now lower_links.now lower_values.now leaf_values.now k
-        × Full x y z × InCell 128 x × InCell 128 y × InCell 4096 z × (lt maximum +0 ≡ false) }
-    ensures { let read = upper_read upper_links.now upper_values.now lower_links.now
-        lower_values.now leaf_values.now k in
-        let count : Price → ℕ = λ p. upper_count p upper_links.now upper_values.now lower_links.now
-        lower_values.now k x y z in
-        Joined maximum read (Within x y z) result
-        × (counting ≡ true → More counts.old counts.new 0 (count uppers_only) (count lowers_only) (count leaves_only)) }
-{
-    let end = z.hi;
-    let mut held = maximum;
-    let mut at = z.lo;
-    while at < end {
-        let next = cell_end(at, end, 128);
-        let cell = Span { lo: at, hi: next };
-        held = upper_cell(
-            upper_links,
-            upper_values,
-            lower_links,
-            lower_values,
-            leaf_values,
-            k,
-            x,
-            y,
-            cell,
-            held,
-            counting,
-            counts,
-        );
-        at = next;
-    }
-    held
-}
-
-fn upper_plane(
-    upper_links: &[u32],
-    upper_values: &[f32],
-    lower_links: &[u32],
-    lower_values: &[f32],
-    leaf_values: &[f32],
-    k: usize,
-    x: Span,
-    y: Span,
-    z: Span,
-    maximum: f32,
-    counting: bool,
-    counts: &mut [u64; 5],
-) -> f32
-    requires { UpperIn upper_links.now upper_values.now lower_links.now lower_values.now leaf_values.now k
-        × Full x y z × InCell 128 x × InCell 4096 y × InCell 4096 z × (lt maximum +0 ≡ false) }
-    ensures { let read = upper_read upper_links.now upper_values.now lower_links.now
-        lower_values.now leaf_values.now k in
-        let count : Price → ℕ = λ p. upper_count p upper_links.now upper_values.now lower_links.now
-        lower_values.now k x y z in
-        Joined maximum read (Within x y z) result
-        × (counting ≡ true → More counts.old counts.new 0 (count uppers_only) (count lowers_only) (count leaves_only)) }
-{
-    let end = y.hi;
-    let mut held = maximum;
-    let mut at = y.lo;
-    while at < end {
-        let next = cell_end(at, end, 128);
-        let cell = Span { lo: at, hi: next };
-        held = upper_row(
-            upper_links,
-            upper_values,
-            lower_links,
-            lower_values,
-            leaf_values,
-            k,
-            x,
-            cell,
-            z,
-            held,
-            counting,
-            counts,
-        );
-        at = next;
-    }
-    held
-}
-
-pub(crate) fn upper_max(
-    upper_links: &[u32],
-    upper_values: &[f32],
-    lower_links: &[u32],
-    lower_values: &[f32],
-    leaf_values: &[f32],
-    k: usize,
-    x: Span,
-    y: Span,
-    z: Span,
-    maximum: f32,
-    counting: bool,
-    counts: &mut [u64; 5],
-) -> f32
-    requires { UpperIn upper_links.now upper_values.now lower_links.now lower_values.now leaf_values.now k
-        × Full x y z × AllIn 4096 x y z × (lt maximum +0 ≡ false) }
-    ensures { let read = upper_read upper_links.now upper_values.now lower_links.now
-        lower_values.now leaf_values.now k in
-        let count : Price → ℕ = λ p. upper_count p upper_links.now upper_values.now lower_links.now
-        lower_values.now k x y z in
-        Joined maximum read (Within x y z) result
-        × (counting ≡ true → More counts.old counts.new 0 (count uppers_only) (count lowers_only) (count leaves_only)) }
-{
-    let end = x.hi;
-    let mut held = maximum;
-    let mut at = x.lo;
-    while at < end {
-        let next = cell_end(at, end, 128);
-        let cell = Span { lo: at, hi: next };
-        held = upper_plane(
-            upper_links,
-            upper_values,
-            lower_links,
-            lower_values,
-            leaf_values,
-            k,
-            cell,
-            y,
-            z,
-            held,
-            counting,
-            counts,
-        );
-        at = next;
-    }
-    held
 }

@@ -1,0 +1,124 @@
+// The roots of a grid in order: a part of a box is walked in the block of each that it meets.
+// Coordinates are biased: a coordinate plus 2^31, so that blocks and slots are plain quotients and remainders.
+ghost use Rattle.std.specs.Prelude.{◌≡◌, ℕ, ◌+◌, ◌*◌, ◌<◌, ◌≤◌, ◌||◌, true, leb, length, MatchOption};
+ghost use Rattle.sparse_grid.specs.Tables.{entry_at};
+ghost use Rattle.sparse_grid.specs.Record.{as_grid};
+ghost use Rattle.sparse_grid.specs.Biased.{raised};
+ghost use Rattle.sparse_grid.specs.Sound.{Sound};
+ghost use Rattle.boxes.specs.Boxes.{as_box};
+ghost use Rattle.boxes.specs.RangeMax.{Full, Clip, apart, empty, Linked, child_in};
+ghost use Rattle.majorant.specs.Walks.{Within, zone_of};
+ghost use Rattle.majorant.specs.Rooting.{SpanOf, PartOf, Rooted, Clips, misses, below, reads_below};
+
+use crate::gather::Gather;
+use crate::nodes::{Upper, all, entry};
+use crate::part::Part;
+use boxes::{CoordBox, Span};
+use sparse_grid::{Entry, Grid, biased, lifted};
+
+// The coordinates from lo to hi, ends included.
+fn span_of(lo: i32, hi: i32) -> Span
+    ensures { SpanOf lo hi result }
+{
+    Span {
+        lo: biased(lo) as usize,
+        hi: biased(hi) as usize + 1,
+    }
+}
+
+impl Part {
+    pub(crate) fn of(of: CoordBox) -> Part
+        ensures { PartOf (as_box of) result }
+    {
+        Part {
+            x: span_of(of.lo.x, of.hi.x),
+            y: span_of(of.lo.y, of.hi.y),
+            z: span_of(of.lo.z, of.hi.z),
+        }
+    }
+
+    // Whether some axis has no place.
+    pub(crate) fn is_empty(self) -> bool
+        ensures { result ≡ empty self.x self.y self.z }
+    {
+        self.x.hi <= self.x.lo || self.y.hi <= self.y.lo || self.z.hi <= self.z.lo
+    }
+}
+
+// Whether a span meets no coordinate of a block of 4,096.
+fn is_apart(block: i32, span: Span) -> bool
+    requires { span.lo < span.hi }
+    ensures { result ≡ apart (raised block) span.lo span.hi }
+{
+    let b = lifted(block) as usize;
+    b < span.lo / 4096 || (span.hi - 1) / 4096 < b
+}
+
+// The part of a span in a block of 4,096 coordinates.
+fn clip(block: i32, span: Span) -> Span
+    ensures { Clip (raised block) span.lo span.hi result.lo result.hi }
+{
+    let start = lifted(block) as usize * 4096;
+    Span {
+        lo: span.lo.max(start),
+        hi: span.hi.min(start + 4096),
+    }
+}
+
+// The part in the block of root i, if it meets that.
+fn clipped(grid: &Grid, i: usize, of: Part) -> Option<Part>
+    requires { Rooted (as_grid grid.now) i × Full of.x of.y of.z }
+    ensures { MatchOption result (misses (as_grid grid.now) i of ≡ true) (Clips (as_grid grid.now) i of) }
+{
+    if is_apart(grid.blocks[3 * i], of.x)
+        || is_apart(grid.blocks[3 * i + 1], of.y)
+        || is_apart(grid.blocks[3 * i + 2], of.z)
+    {
+        return None;
+    }
+    Some(Part {
+        x: clip(grid.blocks[3 * i], of.x),
+        y: clip(grid.blocks[3 * i + 1], of.y),
+        z: clip(grid.blocks[3 * i + 2], of.z),
+    })
+}
+
+// A part in one block, below the entry of its root.
+fn walk_below<G: Gather>(grid: &Grid, entry: Entry, part: Part, gathered: &mut G)
+    requires { let g = as_grid grid.now in
+        child_in entry (length g.upper_links) × Linked g.upper_links g.upper_values g.lower_links g.lower_values g.leaf_values
+        × Within 4096 4096 4096 part × G.Fit gathered.old (zone_of part) }
+    ensures { let g = as_grid grid.now in
+        G.Done (below g entry) (zone_of part) (reads_below g entry (zone_of part)) gathered.old gathered.new }
+{
+    match entry {
+        Entry::Child(k) => all(&Upper { grid, k }, part, gathered),
+        Entry::Tile(value) => gathered.tile(part, value),
+    }
+}
+
+// Root i more. Blocks differ, so a root that meets the part covers some of it that none before has.
+fn walk_root<G: Gather>(grid: &Grid, i: usize, of: Part, covered: u64, gathered: &mut G) -> u64
+    requires { Rooted (as_grid grid.now) i × (i + 1 < 18446744073709551616) × Full of.x of.y of.z × G.Able of
+        × ((s : G) × G.After (as_grid grid.now) of i s gathered.old covered) }
+    ensures { (s : G) → G.After (as_grid grid.now) of i s gathered.old covered
+        → G.After (as_grid grid.now) of (i + 1) s gathered.new result }
+{
+    let Some(part) = clipped(grid, i, of) else {
+        return covered;
+    };
+    walk_below(grid, entry(grid.roots, i), part, gathered);
+    covered + gathered.weigh(part)
+}
+
+pub(crate) fn walk_roots<G: Gather>(grid: &Grid, of: Part, gathered: &mut G)
+    requires { Sound (as_grid grid.now) × Full of.x of.y of.z × G.Able of × G.Fresh gathered.old }
+    ensures { G.Whole (as_grid grid.now) of gathered.old gathered.new }
+{
+    let mut covered = 0;
+    let roots = grid.roots.links.len();
+    for i in 0..roots {
+        covered = walk_root(grid, i, of, covered, gathered);
+    }
+    gathered.rest(grid, of, covered);
+}
