@@ -49,25 +49,25 @@ goes h e = sym (ap (λ (b : Bool). passing (unless b 18) (load_of h)) (eq-eqb h.
 
 module _ (h : HeatHanded) {left : HeatLeft} where
   -- counts of another length: everything is zeros
-  pub heat_sized : (h.counts ≡ 4 → ⊥) → left.tables ≡ zeros h.lent → left.counts ≡ replicate h.counts 0
-      → left.background ≡ +0 → HeatOut h 18 left
-  heat_sized off t c b =
+  pub heat_sized : {k : ℕ} → k ≡ 18 → (h.counts ≡ 4 → ⊥) → left.tables ≡ zeros h.lent → left.counts ≡ replicate h.counts 0
+      → left.background ≡ +0 → HeatOut h k left
+  heat_sized k-is off t c b =
       let s = stops h off in
       record {
-        number_is = ap number_of s;
+        number_is = k-is ∙ ap number_of s;
         tables_are = t ∙ ap (left_of h.lent) s;
         counts_are = c ∙ ap (counts_left h.counts) s;
         background_is = b ∙ ap background_left s;
       }
 
   -- the load's answer a, behind the pointers
-  pub heat_answer : {a : Loaded} → h.counts ≡ 4 → a ≡ loaded_of (factors h) (load_of h) → left.tables ≡ left_of h.lent (load_of h)
-      → left.counts ≡ a.roots ∷ a.upper ∷ a.lower ∷ a.leaf ∷ [] → left.background ≡ a.background → HeatOut h a.number left
-  heat_answer {a} four is t c b =
+  pub heat_answer : {a : Loaded} {k : ℕ} → k ≡ a.number → h.counts ≡ 4 → a ≡ loaded_of (factors h) (load_of h) → left.tables ≡ left_of h.lent (load_of h)
+      → left.counts ≡ a.roots ∷ a.upper ∷ a.lower ∷ a.leaf ∷ [] → left.background ≡ a.background → HeatOut h k left
+  heat_answer {a} k-is four is t c b =
       let s = goes h four in
       let d = is ∙ ap (loaded_of (factors h)) s in
       record {
-        number_is = ap (λ (x : Loaded). x.number) d ∙ number_is (flat_of h);
+        number_is = k-is ∙ ap (λ (x : Loaded). x.number) d ∙ number_is (flat_of h);
         tables_are = t ∙ ap (left_of h.lent) s;
         counts_are = c ∙ ap (λ (x : Loaded). x.roots ∷ x.upper ∷ x.lower ∷ x.leaf ∷ []) d ∙ counts_of_lem h.counts (flat_of h) four;
         background_is = b ∙ ap (λ (x : Loaded). x.background) d;

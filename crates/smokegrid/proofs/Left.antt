@@ -110,15 +110,15 @@ module _ (h : Handed) {left : Left} where
       }
 
   -- the decode's answer a, put into the flat arrays
-  pub out_answer : {a : Answer} → fault_of h ≡ 0 → a ≡ answer_of (decoded_of h) → left.tables ≡ left_of h.lent (decoded_of h)
+  pub out_answer : {a : Answer} {k : ℕ} → k ≡ a.number → fault_of h ≡ 0 → a ≡ answer_of (decoded_of h) → left.tables ≡ left_of h.lent (decoded_of h)
       → left.counts ≡ counts_of a → left.background ≡ a.background → left.medium ≡ floats_of a.medium → left.corners ≡ corners_of a.medium
-      → left.cells ≡ numbers_of a.medium.cells → Out h a.number left
-  out_answer {a} fits is t c b m k x =
+      → left.cells ≡ numbers_of a.medium.cells → Out h k left
+  out_answer {a} k-is fits is t c b m k x =
       let s = goes h fits in
       let z = sized h.arrays fits in
       let d : a ≡ answer_of (flat_of h) = is ∙ ap answer_of s in
       record {
-        number_is = ap (λ (a : Answer). a.number) d ∙ number_is (flat_of h);
+        number_is = k-is ∙ ap (λ (a : Answer). a.number) d ∙ number_is (flat_of h);
         tables_are = t ∙ ap (left_of h.lent) s;
         counts_are = c ∙ ap counts_of d ∙ counts_of_lem h.arrays.counts (flat_of h) z.counts_is;
         background_is = b ∙ ap (λ (a : Answer). a.background) d;

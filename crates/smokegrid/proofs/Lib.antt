@@ -1,11 +1,8 @@
-pub mod Stores
 pub mod Left
 pub mod Heated
-pub mod Taken
-pub mod Mixing
 pub mod Windows
 pub mod Rayed
-pub mod Classed
 pub mod Counting
 pub mod Back
+pub mod Flats
 pub mod WindowRuns

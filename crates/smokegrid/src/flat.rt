@@ -1,14 +1,17 @@
 // What C hands over in numbers and flat arrays, and what it takes back in them.
-ghost use Rattle.std.specs.Prelude.{◌≡◌, [], ◌∷◌, length};
+ghost use Rattle.std.specs.Prelude.{◌≡◌, ◌&&◌, eqb, [], ◌∷◌, length};
 ghost use Rattle.refusals.specs.Numbers.{fault_of};
 ghost use Rattle.sparse_grid.specs.Tables.{grid_of};
 ghost use Rattle.sparse_grid.specs.Record.{as_grid};
 ghost use Rattle.medium.specs.Record.{as_medium};
 ghost use Rattle.boxes.specs.Boxes.{between, as_box};
+ghost use Rattle.majorant.specs.Counted.{as_read};
+ghost use Rattle.smokegrid.specs.FlatCounted.{five_of};
 ghost use Rattle.smokegrid.specs.Flat.{floats_of, corners_of, flat_fault, medium_from};
 
 use boxes::CoordBox;
 use layout::Coordinate;
+use majorant::Counted;
 use medium::Medium;
 use refusals::Refusal;
 use sparse_grid::{Entries, Grid};
@@ -66,6 +69,20 @@ pub(crate) fn corners(lx: i32, ly: i32, lz: i32, hx: i32, hy: i32, hz: i32) -> C
     }
 }
 
+// Whether two arrays have their lengths, m and n.
+pub(crate) fn are_long(a: usize, m: usize, b: usize, n: usize) -> bool
+    ensures { result ≡ (eqb a m && eqb b n) }
+{
+    a == m && b == n
+}
+
+// Whether these three are a medium.
+pub(crate) fn are_medium(m: &[f32], c: &[i32], n: &[u32]) -> bool
+    ensures { result ≡ (eqb (length m.now) 18 && eqb (length c.now) 6 && eqb (length n.now) 3) }
+{
+    m.len() == 18 && c.len() == 6 && n.len() == 3
+}
+
 // 18 for an array of another length.
 pub(crate) fn check_flat(
     counts: usize,
@@ -110,6 +127,15 @@ pub(crate) fn put_corners(to: &mut [i32], m: Medium)
     let [lx, ly, lz] = m.index_low;
     let [hx, hy, hz] = m.index_high;
     to.copy_from_slice(&[lx, ly, lz, hx, hy, hz]);
+}
+
+// Root entries, upper entries, lower entries, and the high and the low word of the leaf values.
+#[tactic(auto, using(crate::proofs::Counting::words_back))]
+pub(crate) fn put_read(counts: &mut [u64], c: Counted)
+    requires { length counts.old ≡ 5 }
+    ensures { counts.new ≡ five_of (as_read c) }
+{
+    counts.copy_from_slice(&[c.roots, c.upper, c.lower, c.high, c.low]);
 }
 
 // The medium of 18 numbers, 6 corners and 3 numbers of cells.

@@ -8,8 +8,8 @@ ghost use Rattle.sparse_grid.specs.Tables.{grid_of};
 ghost use Rattle.sparse_grid.specs.Validate.{validate as validate_s, validate_density};
 ghost use Rattle.refusals.specs.Numbers.{said_by};
 ghost use Rattle.sparse_grid.specs.Answers.{unspoken, level_of, level_number, at};
-ghost use Rattle.sparse_grid.specs.Readings.{spoken_by};
-ghost use Rattle.contents.specs.Spans.{span_said};
+ghost use Rattle.sparse_grid.specs.Ends.{spoken_by};
+ghost use Rattle.contents.specs.Answers.{span_said};
 ghost use Rattle.nanovdb.specs.Lent.{tables, lengths};
 ghost use Rattle.boxes.specs.Boxes.{between};
 ghost use Rattle.contents.specs.Contents.{pick, pick_name};
@@ -21,26 +21,30 @@ ghost use Rattle.smokegrid.specs.Promises.{CountsBox, CountsClasses, LoadsTemper
 ghost use Rattle.smokegrid.specs.Promises.{OpensRay, NextPiece, PrintsLayer, OpensWindow, PushesTable};
 
 mod flat;
+mod nine;
 mod ray;
 mod tables;
 
 use boxes::CoordBox;
 use contents::{Span, grid_span, name_span};
-use decode::{Tables, decode_density_grid};
-use flat::{check_flat, corners, grid, medium_from, put_corners, put_counts, put_medium};
+use flat::{
+    are_long, are_medium, check_flat, corners, grid, medium_from, put_corners, put_counts,
+    put_medium, put_read,
+};
 use index::index_position;
 use layout::Coordinate;
 use lent::zero;
 use majorant::{box_maxima, box_maximum, box_maximum_counted, build_majorant, count_classes};
 use medium::Temperature;
 use mix::density_at;
-use ray::{is_ray, put_numbers, put_times, ray_from};
+use ray::{can_open, is_ray, put_numbers, put_times, ray_from};
 use rays::{Beam, Ray};
 use refusals::{Refusal, fault};
 use sheet::write_layer;
-use sparse_grid::{Level, Reading};
+use sparse_grid::Level;
+use sparse_grid::lookup::Reading;
 use tables::{cells_from, put_window, window_from};
-use temperature::{heat_at, load_temperature};
+use temperature::heat_at;
 use window::Window;
 
 // An answer as C takes it: the value through `value`, +0.0 after a refusal, and the number.
@@ -80,7 +84,7 @@ fn give_reading(found: Result<Reading, Refusal>, value: &mut f32, level: &mut u3
             0
         }
         Err(refusal) => {
-            *value = 0.0;
+            *value = 0.0f32;
             *level = 0;
             refusal.number()
         }
@@ -88,17 +92,17 @@ fn give_reading(found: Result<Reading, Refusal>, value: &mut f32, level: &mut u3
 }
 
 // Decodes a density grid into the lent tables: 0, or the number of the refusal. Counts, background, medium and corners are written through their pointers.
-pub fn smokegrid_decode_density_grid<'a>(
+pub fn smokegrid_decode_density_grid(
     bytes: &[u8],
-    blocks: &'a mut [i32],
-    root_links: &'a mut [u32],
-    root_values: &'a mut [f32],
-    upper_links: &'a mut [u32],
-    upper_values: &'a mut [f32],
-    lower_links: &'a mut [u32],
-    lower_values: &'a mut [f32],
-    leaf_values: &'a mut [f32],
-    work: &'a mut [u64],
+    blocks: &mut [i32],
+    root_links: &mut [u32],
+    root_values: &mut [f32],
+    upper_links: &mut [u32],
+    upper_values: &mut [f32],
+    lower_links: &mut [u32],
+    lower_values: &mut [f32],
+    leaf_values: &mut [f32],
+    work: &mut [u64],
     counts: &mut [u64],
     background: &mut f32,
     medium: &mut [f32],
@@ -128,12 +132,28 @@ pub fn smokegrid_decode_density_grid<'a>(
           cells = cells.new;
         }) }
 {
+    let fits = check_flat(counts.len(), medium.len(), corners.len(), cells.len());
     zero(counts);
     zero(medium);
     zero(corners);
     zero(cells);
     *background = 0.0;
-    let mut tables = Tables {
+    if let Err(refusal) = fits {
+        nine::clear(
+            blocks,
+            root_links,
+            root_values,
+            upper_links,
+            upper_values,
+            lower_links,
+            lower_values,
+            leaf_values,
+            work,
+        );
+        return refusal.number();
+    }
+    match nine::decode(
+        bytes,
         blocks,
         root_links,
         root_values,
@@ -143,18 +163,14 @@ pub fn smokegrid_decode_density_grid<'a>(
         lower_values,
         leaf_values,
         work,
-    };
-    if let Err(refusal) = check_flat(counts.len(), medium.len(), corners.len(), cells.len()) {
-        tables.clear();
-        return refusal.number();
-    }
-    match decode_density_grid(bytes, &mut tables) {
+    ) {
         Ok(d) => {
             *background = d.background;
             put_counts(counts, d.roots, d.upper, d.lower, d.leaf);
             put_medium(medium, d.medium);
             put_corners(corners, d.medium);
-            cells.copy_from_slice(&d.medium.cells);
+            let [x, y, z] = d.medium.cells;
+            cells.copy_from_slice(&[x, y, z]);
             0
         }
         Err(refusal) => refusal.number(),
@@ -295,19 +311,19 @@ pub fn smokegrid_get_reading(
 }
 
 // Loads a temperature grid into the lent tables: 0, or the number of the refusal. Counts and background are written through their pointers.
-pub fn smokegrid_load_temperature<'a>(
+pub fn smokegrid_load_temperature(
     bytes: &[u8],
     offset: f32,
     scale: f32,
-    blocks: &'a mut [i32],
-    root_links: &'a mut [u32],
-    root_values: &'a mut [f32],
-    upper_links: &'a mut [u32],
-    upper_values: &'a mut [f32],
-    lower_links: &'a mut [u32],
-    lower_values: &'a mut [f32],
-    leaf_values: &'a mut [f32],
-    work: &'a mut [u64],
+    blocks: &mut [i32],
+    root_links: &mut [u32],
+    root_values: &mut [f32],
+    upper_links: &mut [u32],
+    upper_values: &mut [f32],
+    lower_links: &mut [u32],
+    lower_values: &mut [f32],
+    leaf_values: &mut [f32],
+    work: &mut [u64],
     counts: &mut [u64],
     background: &mut f32,
 ) -> u32
@@ -325,9 +341,27 @@ pub fn smokegrid_load_temperature<'a>(
           background = background.new;
         }) }
 {
+    let fits = counts.len() == 4;
     zero(counts);
-    *background = 0.0;
-    let mut tables = Tables {
+    *background = 0.0f32;
+    if !fits {
+        nine::clear(
+            blocks,
+            root_links,
+            root_values,
+            upper_links,
+            upper_values,
+            lower_links,
+            lower_values,
+            leaf_values,
+            work,
+        );
+        return Refusal::Tables.number();
+    }
+    match nine::load(
+        bytes,
+        offset,
+        scale,
         blocks,
         root_links,
         root_values,
@@ -337,12 +371,7 @@ pub fn smokegrid_load_temperature<'a>(
         lower_values,
         leaf_values,
         work,
-    };
-    if counts.len() != 4 {
-        tables.clear();
-        return Refusal::Tables.number();
-    }
-    match load_temperature(bytes, offset, scale, &mut tables) {
+    ) {
         Ok(a) => {
             *background = a.background;
             put_counts(counts, a.roots, a.upper, a.lower, a.leaf);
@@ -469,9 +498,10 @@ pub fn smokegrid_box_maximum_counted(
         upper_values.now lower_links.now lower_values.now leaf_values.now in
         CountsBox g (between lx ly lz hx hy hz) (length counts.old) result value.new counts.new }
 {
-    *value = 0.0;
+    let fits = counts.len() == 5;
+    *value = 0.0f32;
     zero(counts);
-    if counts.len() != 5 {
+    if !fits {
         return Refusal::Tables.number();
     }
     let grid = grid(
@@ -488,7 +518,7 @@ pub fn smokegrid_box_maximum_counted(
     match box_maximum_counted(&grid, corners(lx, ly, lz, hx, hy, hz)) {
         Ok(c) => {
             *value = c.maximum;
-            counts.copy_from_slice(&[c.roots, c.upper, c.lower, c.high, c.low]);
+            put_read(counts, c);
             0
         }
         Err(refusal) => refusal.number(),
@@ -521,8 +551,9 @@ pub fn smokegrid_count_classes(
         upper_values.now lower_links.now lower_values.now leaf_values.now in
         CountsClasses g limits.now (between lx ly lz hx hy hz) (length counts.old) result counts.new }
 {
+    let fits = counts.len() == 17;
     zero(counts);
-    if counts.len() != 17 {
+    if !fits {
         return Refusal::Tables.number();
     }
     let grid = grid(
@@ -591,8 +622,9 @@ pub fn smokegrid_world_to_index_f(
     ensures { WorldToIndex medium.now (record { x = x; y = y; z = z }) (length index_bits.old)
         result index_bits.new }
 {
+    let fits = are_long(medium.len(), 18, index_bits.len(), 3);
     zero(index_bits);
-    if medium.len() != 18 || index_bits.len() != 3 {
+    if !fits {
         return Refusal::Tables.number();
     }
     match index_position(medium_from(medium, &[0; 6], &[0; 3]), [x, y, z]) {
@@ -665,7 +697,7 @@ pub fn smokegrid_build_majorant(
         upper_values.now lower_links.now lower_values.now leaf_values.now in
         Builds g medium.now corners.now cells.now (length majorants.old) result majorants.new }
 {
-    if medium.len() != 18 || corners.len() != 6 || cells.len() != 3 {
+    if !are_medium(medium, corners, cells) {
         zero(majorants);
         return Refusal::Tables.number();
     }
@@ -735,9 +767,10 @@ pub fn smokegrid_ray_open(
         (length ray_times.old) (length ray_cells.old)
         result ray_times.new ray_cells.new }
 {
+    let fits = can_open(medium, cells, ray_times, ray_cells);
     zero(ray_times);
     zero(ray_cells);
-    if medium.len() != 18 || cells.len() != 3 || !is_ray(ray_times, ray_cells) {
+    if !fits {
         return Refusal::Tables.number();
     }
     let m = medium_from(medium, &[0; 6], cells);
@@ -786,17 +819,22 @@ pub fn smokegrid_ray_next(
         zero(ray_cells);
         return Refusal::Tables.number();
     }
-    match ray_from(ray_times, ray_cells).next_piece(majorants) {
-        Ok(Some((piece, ray))) => {
-            put_times(ray_times, ray);
-            put_numbers(ray_cells, ray);
+    let ray = ray_from(ray_times, ray_cells);
+    match ray.next_piece(majorants) {
+        Ok(Some((piece, after))) => {
+            put_times(ray_times, after);
+            put_numbers(ray_cells, after);
             *more = 1;
             *t0 = piece.from;
             *t1 = piece.to;
             *figure = piece.figure;
             0
         }
-        Ok(None) => 0,
+        Ok(None) => {
+            put_times(ray_times, ray);
+            put_numbers(ray_cells, ray);
+            0
+        }
         Err(refusal) => {
             zero(ray_times);
             zero(ray_cells);
@@ -841,8 +879,9 @@ pub fn smokegrid_window_open(
     ensures { OpensWindow w cells.now (length window.old) (length memory.old) (length answer.old)
         result (window_arrays window.new memory.new answer.new) }
 {
+    let fits = are_long(cells.len(), 3, window.len(), 6);
     zero(window);
-    if cells.len() != 3 || window.len() != 6 {
+    if !fits {
         zero(memory);
         zero(answer);
         return Refusal::Tables.number();
@@ -867,7 +906,7 @@ pub fn smokegrid_window_push(
     ensures { PushesTable cells.now majorants.now (window_arrays window.old memory.old answer.old)
         result (window_arrays window.new memory.new answer.new) }
 {
-    if cells.len() != 3 || window.len() != 6 {
+    if !are_long(cells.len(), 3, window.len(), 6) {
         return Refusal::Tables.number();
     }
     let mut held = window_from(window);

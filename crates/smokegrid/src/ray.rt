@@ -14,6 +14,13 @@ pub(crate) fn is_ray(times: &[f32], numbers: &[i32]) -> bool
     times.len() == 8 && numbers.len() == 9
 }
 
+// Whether the arrays of an opening have their lengths.
+pub(crate) fn can_open(medium: &[f32], cells: &[u32], times: &[f32], numbers: &[i32]) -> bool
+    ensures { result ≡ (eqb (length medium.now) 18 && eqb (length cells.now) 3 && eqb (length times.now) 8 && eqb (length numbers.now) 9) }
+{
+    medium.len() == 18 && cells.len() == 3 && times.len() == 8 && numbers.len() == 9
+}
+
 // How many cells a number of the state says: none where it is negative, which is refused as 23.
 fn count_of(n: i32) -> u32
     ensures { result ≡ count_of n }
