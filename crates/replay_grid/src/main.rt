@@ -34,7 +34,7 @@ fn lookup<R: Read>(list: &mut R, grid: &Grid) -> io::Result<u32>
         y: i32::at(b, 4),
         z: i32::at(b, 8),
     });
-    let answer = found.map(float::bits_of).map_err(Refusal::number);
+    let answer = found.map(|v| float::bits_of(v)).map_err(|e| e.number());
     Ok(u32::from(answer != listed(b)))
 }
 
