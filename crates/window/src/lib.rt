@@ -21,7 +21,7 @@ use figures::{check_figures, greater};
 use lent::zero;
 use refusals::Refusal;
 
-// w, the three numbers of the cells, the tables held, and the place that the next one takes.
+// w, the three numbers of the cells, the tables held, and the place that the next one takes. Numbers alone: C keeps them, and lends the memory.
 #[derive(Clone, Copy, Debug, PartialEq, Eq)]
 pub struct Window {
     pub w: u32,
