@@ -1,17 +1,21 @@
 // One segment of a file: its header, its entries with their names, and its bodies. Each place is tested before a sum is formed from it.
 ghost use Rattle.std.specs.Prelude.{◌≡◌, ◌+◌, ◌≤◌, IfOk, length};
 ghost use Rattle.refusals.specs.Numbers.{fault_of};
-ghost use Rattle.contents.specs.Segments.{count, size, name_length, entry_end, mark_passes, header_holds, header_passes};
+ghost use Rattle.contents.specs.Segments.{count, size, name_length, entry_end, header_holds, header_passes};
 ghost use Rattle.contents.specs.Segments.{entry_holds, entry_passes, body_passes, body_at, grid_at, entries_fault, bodies_fault, segment_fault, segment_end};
 ghost use Rattle.contents.specs.Inner.{Passed};
 ghost use Rattle.refusals.specs.Faults.{unless};
 
 use crate::{Grid, Span};
+use layout::Field;
 use refusals::Refusal;
 
 const HEADER: usize = 16;
 
 const ENTRY: usize = 176;
+
+// "NanoVDB2".
+const MARK: u64 = 0x324244566f6e614e;
 
 // A header inside the file: a mark, a grid or more, and major version 32.
 #[derive(Clone, Copy)]
@@ -32,25 +36,18 @@ pub(crate) struct Segment<'a> {
     ghost ends: { end ≡ segment_end header.file.now header.at },
 }
 
-// "NanoVDB0" or "NanoVDB2".
-fn mark_passes(mark: u64) -> bool
-    ensures { result ≡ mark_passes mark }
-{
-    mark == 0x304244566f6e614e || mark == 0x324244566f6e614e
-}
-
 // The length of the body whose entry stands at `at`.
 fn size_at(file: &[u8], at: usize) -> usize
     ensures { result ≡ size file.now at }
 {
-    layout::u64_at(file, at) as usize
+    u64::at(file, at) as usize
 }
 
 fn name_length(file: &[u8], at: usize) -> usize
     requires { at + 176 ≤ length file.now }
     ensures { result ≡ name_length file.now at }
 {
-    layout::u32_at(file, at + 136) as usize
+    u32::at(file, at + 136) as usize
 }
 
 // The place after the name of the entry at `at`, both inside the file.
@@ -72,9 +69,9 @@ impl<'a> Header<'a> {
     fn holds(&self) -> bool
         ensures { result ≡ header_holds self.now.file.now self.now.at }
     {
-        mark_passes(layout::u64_at(self.file, self.at))
-            && 0 < layout::u16_at(self.file, self.at + 12)
-            && layout::u32_at(self.file, self.at + 8) / 2097152 == 32
+        layout::mark_passes(u64::at(self.file, self.at), MARK)
+            && 0 < u16::at(self.file, self.at + 12)
+            && u32::at(self.file, self.at + 8) / 2097152 == 32
     }
 
     // The header at `at`, which passes.
@@ -95,7 +92,7 @@ impl<'a> Header<'a> {
     fn grids(&self) -> usize
         ensures { result ≡ count self.now.file.now self.now.at }
     {
-        usize::from(layout::u16_at(self.file, self.at + 12))
+        usize::from(u16::at(self.file, self.at + 12))
     }
 
     #[tactic(auto, unfolding(crate::specs::Segments::entry_holds))]
@@ -104,8 +101,8 @@ impl<'a> Header<'a> {
         ensures { result ≡ entry_holds self.now.file.now self.now.at at }
     {
         let file = self.file;
-        let codec = layout::u16_at(file, at + 168) == layout::u16_at(file, self.at + 14);
-        let version = layout::u32_at(file, at + 172) == layout::u32_at(file, self.at + 8);
+        let codec = u16::at(file, at + 168) == u16::at(file, self.at + 14);
+        let version = u32::at(file, at + 172) == u32::at(file, self.at + 8);
         let name = name_length(file, at);
         codec && version && 0 < name && layout::inside(file.len(), at + ENTRY, name)
     }
@@ -161,7 +158,7 @@ impl<'a> Segment<'a> {
     {
         let header = Header::read(file, at)?;
         let bodies = header.entries()?;
-        if layout::u16_at(file, at + 14) != 0 {
+        if u16::at(file, at + 14) != 0 {
             return Err(Refusal::Codec);
         }
         let end = header.bodies(bodies)?;

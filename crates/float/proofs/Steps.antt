@@ -1,7 +1,8 @@
 -- The error of a product, a sum and 1 - t, in units of the format's smallest value. Sizes alone: a sum is at most that of the sizes,
 -- whatever the signs. Assumes nothing.
 use Rattle.std.specs.Prelude.{◌≡◌, ℕ, ◌+◌, ◌-◌, ◌*◌, ◌^◌, ◌<◌, ◌≤◌, Bool, true, false, not, refl, Float}
-use Rattle.std.proofs.Common.{sym, ap, ◌∙◌, subst, zero-le, le_refl, le_trans, lt_of_le_of_lt, mul-one, mul_comm, mul_assoc, mul_left_comm, mul_right_comm, mul-le-mul_right, mul-pos, add-mul, zero-mul, arith, lit<, pow_pos}
+use Rattle.std.proofs.Common.{sym, ap, ◌∙◌, subst, zero-le, le_refl, le_trans, lt_of_le_of_lt, mul-one, mul_comm, mul_assoc, mul_left_comm}
+use Rattle.std.proofs.Common.{mul_right_comm, mul-le-mul_right, mul-pos, add-mul, zero-mul, arith, lit<, pow_pos}
 use Rattle.std.proofs.Math.Nat.{mul-mul-mul_comm}
 use Rattle.std.specs.Bool.{beq}
 use Rattle.std.proofs.lemmas.Bool.{false≢true}

@@ -6,9 +6,7 @@ use Rattle.std.proofs.lemmas.Bool.Decides.{nat_tests}
 use Rattle.std.specs.Int.{int_max, int_min}
 use Rattle.std.specs.Int.Signed.{mag, le_z}
 use Rattle.std.specs.Float.{nan}
-use Rattle.refusals.specs.Faults.{unless}
 use Rattle.float.proofs.WholeLaws.{one_literal, one_literal_64}
-use Rattle.medium.specs.Medium.{Medium, map_fault}
 use Rattle.medium.specs.Record.{as_medium}
 use Rattle.medium.specs.declared.Medium as CodeMedium
 use Rattle.index.specs.Cells.{max_z, min_z}

@@ -6,12 +6,10 @@ use Rattle.refusals.specs.Results.{Result, ok, number_of, value_or}
 use Rattle.refusals.specs.Faults.{passing}
 use Rattle.medium.specs.Medium.{Point, Medium, x_axis, y_axis, z_axis, map_fault}
 use Rattle.index.specs.Index.{world_to_index}
-use Rattle.index.specs.Cells.{Ends}
 use Rattle.index.specs.Axes as Axes
 use Rattle.index.specs.Axes.{Both}
 use Rattle.index.specs.declared.bridge.Position.{Position}
 use Rattle.index.specs.declared.Line.{Line}
-use Rattle.index.specs.declared.bridge.Range.{Range}
 use Rattle.index.specs.declared.bridge.AxisEnds.{AxisEnds}
 
 -- the bits of a point's index position on each axis, after 13, an added step
@@ -35,9 +33,6 @@ as_line l =
       index_low = l.index_low;
       index_high = l.index_high;
     }
-
-abbrev pub ends_of : Range → Result Ends
-ends_of r = passing r.fault (ok (record { lo = r.lo; hi = r.hi }))
 
 -- what stands beside a refusal
 abbrev pub no_ends : Both

@@ -4,10 +4,9 @@ ghost use Rattle.medium.specs.Medium.{x_axis, y_axis, z_axis};
 ghost use Rattle.medium.specs.Record.{as_medium};
 ghost use Rattle.index.specs.Axes.{axis_ends, line_of};
 ghost use Rattle.index.specs.Found.{axis_cell};
-ghost use Rattle.index.specs.Sides.{sides_of};
-ghost use Rattle.index.specs.Answers.{index_bits, position_of, as_line, ends_of, axis_ends_of};
+ghost use Rattle.index.specs.Answers.{index_bits, position_of, as_line, axis_ends_of};
 
-use crate::{Axis, CellEnds, Ends, Line, index_position};
+use crate::{Axis, CellEnds, Line, index_position};
 use medium::Medium;
 
 // Bridge: smokegrid. A point's index position on each axis, as bits; after a refusal its number, and zeros.
@@ -15,14 +14,6 @@ use medium::Medium;
 pub struct Position {
     pub number: u32,
     pub bits: [u32; 3],
-}
-
-// Bridge: no crate any more. The ends of a box on one axis, or the fault.
-#[derive(Clone, Copy)]
-pub struct Range {
-    pub fault: u32,
-    pub lo: i32,
-    pub hi: i32,
 }
 
 // Bridge: majorant. The ends of a cell's two boxes on one axis; after a refusal its number, and zeros.
@@ -44,20 +35,6 @@ pub fn world_to_index_f(m: Medium, x: f32, y: f32, z: f32) -> Position
         Err(refusal) => Position {
             number: refusal.number(),
             bits: [0, 0, 0],
-        },
-    }
-}
-
-// Bridge: no crate any more.
-pub fn sides(v: f32) -> Range
-    ensures { ends_of result ≡ sides_of v }
-{
-    match Ends::around(v) {
-        Ok(Ends { lo, hi }) => Range { fault: 0, lo, hi },
-        Err(refusal) => Range {
-            fault: refusal.number(),
-            lo: 0,
-            hi: 0,
         },
     }
 }

@@ -21,8 +21,7 @@ use std::num::nearest_u64_to_f32;
 mod bridge;
 
 pub use bridge::{
-    AxisEnds, Position, Range, axis_cell, axis_ends, sides, world_to_index_f, x_line, y_line,
-    z_line,
+    AxisEnds, Position, axis_cell, axis_ends, world_to_index_f, x_line, y_line, z_line,
 };
 
 // One row of the map times a vector.

@@ -30,18 +30,6 @@ fn read_once<R: Read>(input: &mut R, bytes: &mut [u8]) -> io::Result<usize>
     Err(io::Error::from(ErrorKind::TimedOut))
 }
 
-// One read behind the first `at` bytes.
-fn read_at<R: Read>(input: &mut R, bytes: &mut [u8], at: usize) -> io::Result<usize>
-    requires { at < length bytes.old }
-    ensures front { take at bytes.new ≡ take at bytes.old }
-    ensures fits { IfOk result (λ n. at + n ≤ length bytes.new) }
-    ensures ok { IfOk result (λ n. Consumes (R.remaining input.old) (R.remaining input.new) (take n (drop at bytes.new))) }
-    ensures end { IfOk result (λ n. n ≡ 0 → IsAtEnd (R.remaining input.new)) }
-    ensures retried { IfErr result (λ e. error_kind e ≢ ErrorKind.Interrupted) }
-{
-    read_once(input, &mut bytes[at..])
-}
-
 // Reads until the bytes are full or the input ends, and says how many bytes the input gave. What it gave stands at the front of the bytes.
 pub fn read_full<R: Read>(input: &mut R, bytes: &mut [u8]) -> io::Result<usize>
     ensures within { IfOk result (λ n. n ≤ length bytes.old) }
@@ -51,7 +39,7 @@ pub fn read_full<R: Read>(input: &mut R, bytes: &mut [u8]) -> io::Result<usize>
 {
     let mut n: usize = 0;
     while n < bytes.len() {
-        let more = read_at(input, bytes, n)?;
+        let more = read_once(input, &mut bytes[n..])?;
         if more == 0 {
             return Ok(n);
         }

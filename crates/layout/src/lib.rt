@@ -2,7 +2,7 @@
 // `Field::at` counts a byte past the end as 0, for the loops over a node's slots; `read` refuses a field that passes the end.
 #![tactic(auto)]
 
-ghost use Rattle.std.specs.Prelude.{◌≡◌, ◌+◌, ◌<◌, ℕ, List, get_or, leb, slice_index};
+ghost use Rattle.std.specs.Prelude.{◌≡◌, ◌+◌, ◌<◌, ℕ, List, get_or, leb, eqb, ◌||◌, slice_index};
 ghost use Rattle.refusals.specs.Numbers.{said_by};
 ghost use Rattle.layout.specs.Bytes.{u16_at, u32_at, u64_at, i32_at, i64_at, f32_at, f64_at, mask_bit, mask_word};
 ghost use Rattle.layout.specs.Reads.{read_field};
@@ -10,7 +10,7 @@ ghost use Rattle.layout.specs.Reads.{read_field};
 mod bridge;
 mod coordinate;
 
-pub use bridge::{f32_at, f64_at, i32_at, u16_at, u32_at, u64_at};
+pub use bridge::{f32_at, f64_at, i32_at, u32_at, u64_at};
 pub use coordinate::Coordinate;
 use refusals::Refusal;
 
@@ -29,17 +29,28 @@ fn rest(b: &[u8], at: usize) -> &[u8]
     if at < b.len() { &b[at..] } else { &[] }
 }
 
+// The first N bytes, and zeros where there are fewer. Out of line: a field that lies inside is then a test and a load.
+#[cold]
+#[inline(never)]
+fn padded<const N: usize>(bytes: &[u8]) -> [u8; N]
+    ensures { (i : ℕ) → i < N → slice_index result i ≡ get_or bytes.now i 0 }
+{
+    let n = bytes.len().min(N);
+    let mut padded = [0; N];
+    padded[..n].copy_from_slice(&bytes[..n]);
+    padded
+}
+
 // The N bytes from `at` on.
 fn bytes_at<const N: usize>(b: &[u8], at: usize) -> [u8; N]
     ensures { (i : ℕ) → i < N → slice_index result i ≡ get_or b.now (at + i) 0 }
 {
-    let rest = rest(b, at);
-    if let Some(bytes) = rest.first_chunk() {
+    if inside(b.len(), at, N)
+        && let Some(bytes) = b[at..at + N].first_chunk()
+    {
         return *bytes;
     }
-    let mut bytes = [0; N];
-    bytes[..rest.len()].copy_from_slice(rest);
-    bytes
+    padded(rest(b, at))
 }
 
 // A field of a fixed width: what its bytes say.
@@ -151,6 +162,13 @@ pub fn read<T: Field>(b: &[u8], at: usize) -> Result<T, Refusal>
     } else {
         Err(Refusal::PastEnd)
     }
+}
+
+// "NanoVDB0", the mark of older files and grids, or the newer mark of what is read.
+pub fn mark_passes(mark: u64, newer: u64) -> bool
+    ensures { result ≡ (eqb mark 0x304244566f6e614e || eqb mark newer) }
+{
+    mark == 0x304244566f6e614e || mark == newer
 }
 
 // Bit i of the mask that stands at `at`: 0 or 1.

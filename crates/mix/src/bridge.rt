@@ -1,13 +1,13 @@
 // The functions over tables side by side, for what is not written over `Grid` yet.
-ghost use Rattle.std.specs.Prelude.{◌≡◌, length, replicate};
-ghost use Rattle.refusals.specs.Results.{number_of, value_or, said};
+ghost use Rattle.std.specs.Prelude.{◌≡◌};
+ghost use Rattle.refusals.specs.Results.{said};
 ghost use Rattle.float.specs.Zero.{+0};
 ghost use Rattle.sparse_grid.specs.Tables.{grid_of};
 ghost use Rattle.sparse_grid.specs.Answers.{answer};
 ghost use Rattle.medium.specs.Record.{as_medium};
-ghost use Rattle.mix.specs.Density.{density_at, densities_into};
+ghost use Rattle.mix.specs.Density.{density_at};
 
-use crate::{densities_into, density_at};
+use crate::density_at;
 use medium::Medium;
 use sparse_grid::{Answer, Entries, Grid};
 
@@ -53,49 +53,4 @@ pub fn mix(
         Ok(value) => Answer::Value(value),
         Err(e) => Answer::Refused(e.number()),
     }
-}
-
-// Bridge: tests/mix.
-pub fn mix_list(
-    background: f32,
-    blocks: &[i32],
-    root_links: &[u32],
-    root_values: &[f32],
-    upper_links: &[u32],
-    upper_values: &[f32],
-    lower_links: &[u32],
-    lower_values: &[f32],
-    leaf_values: &[f32],
-    m: Medium,
-    points: &[f32],
-    values: &mut [f32],
-) -> u32
-    ensures number { let g = grid_of background blocks.now root_links.now root_values.now
-        upper_links.now upper_values.now lower_links.now lower_values.now
-        leaf_values.now in
-        result ≡ number_of (densities_into g (as_medium m) points.now (length values.old)) }
-    ensures table { let g = grid_of background blocks.now root_links.now root_values.now
-        upper_links.now upper_values.now lower_links.now lower_values.now
-        leaf_values.now in
-        let n = length values.old in
-        values.new ≡ value_or (replicate n +0) (densities_into g (as_medium m) points.now n) }
-{
-    let grid = Grid {
-        background,
-        blocks,
-        roots: Entries {
-            links: root_links,
-            values: root_values,
-        },
-        upper: Entries {
-            links: upper_links,
-            values: upper_values,
-        },
-        lower: Entries {
-            links: lower_links,
-            values: lower_values,
-        },
-        leaf_values,
-    };
-    refusals::fault(densities_into(&grid, &m, points, values))
 }

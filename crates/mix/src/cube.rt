@@ -31,13 +31,8 @@ pub(crate) fn shares(a: Side) -> bool
 fn read(leaf_values: &[f32], spot: Result<Spot, Refusal>, c: Coordinate) -> f32
     ensures { result ≡ read_from (leaves_of leaf_values.now) spot (as_coord c) }
 {
-    match spot {
-        Ok(spot) => match spot.read(leaf_values, c) {
-            Ok(reading) => reading.value,
-            Err(_) => 0.0,
-        },
-        Err(_) => 0.0,
-    }
+    spot.and_then(|spot| spot.read(leaf_values, c))
+        .map_or(0.0, |reading| reading.value)
 }
 
 // The mix along z, at x and y, from where the lookups of its two voxels ended.

@@ -5,8 +5,10 @@ use Rattle.std.proofs.lemmas.Result.{err_from_is_err_and}
 use Rattle.refusals.specs.Results.{refused}
 use Rattle.refusals.specs.Numbers.{number, said_by, fault_of}
 use Rattle.refusals.specs.declared.Refusal.{Refusal}
-use Rattle.refusals.specs.declared.Refusal.TheVariants.{TooLong, TooShort, Header, WorldBox, PastEnd, Overlap, KeyBit, ChildTarget, NoPlace, NodeCounts, Record, NotFinite, Map, IndexBox}
-use Rattle.refusals.specs.declared.Refusal.TheVariants.{Negative, Coordinate, SecondBox, Tables, File, Codec, NoGrid, Ray, Cells, Outside, Classes, Window, Temperature, Layer}
+use Rattle.refusals.specs.declared.Refusal.TheVariants.{TooLong, TooShort, Header, WorldBox, PastEnd, Overlap, KeyBit, ChildTarget}
+use Rattle.refusals.specs.declared.Refusal.TheVariants.{NoPlace, NodeCounts, Record, NotFinite, Map, IndexBox}
+use Rattle.refusals.specs.declared.Refusal.TheVariants.{Negative, Coordinate, SecondBox, Tables, File, Codec, NoGrid}
+use Rattle.refusals.specs.declared.Refusal.TheVariants.{Ray, Cells, Outside, Classes, Window, Temperature, Layer}
 
 -- a refusal has a number
 pub number_some : (e : Refusal) → number e ≡ 0 → ⊥

@@ -2,8 +2,10 @@
 use Rattle.std.specs.Prelude.{ℕ, Ok, Err, Result as Answer}
 use Rattle.refusals.specs.Results.{Result, ok, refused}
 use Rattle.refusals.specs.declared.Refusal.{Refusal}
-use Rattle.refusals.specs.declared.Refusal.TheVariants.{TooLong, TooShort, Header, WorldBox, PastEnd, Overlap, KeyBit, ChildTarget, NoPlace, NodeCounts, Record, NotFinite, Map, IndexBox}
-use Rattle.refusals.specs.declared.Refusal.TheVariants.{Negative, Coordinate, SecondBox, Tables, File, Codec, NoGrid, Ray, Cells, Outside, Classes, Window, Temperature, Layer}
+use Rattle.refusals.specs.declared.Refusal.TheVariants.{TooLong, TooShort, Header, WorldBox, PastEnd, Overlap, KeyBit, ChildTarget}
+use Rattle.refusals.specs.declared.Refusal.TheVariants.{NoPlace, NodeCounts, Record, NotFinite, Map, IndexBox}
+use Rattle.refusals.specs.declared.Refusal.TheVariants.{Negative, Coordinate, SecondBox, Tables, File, Codec, NoGrid}
+use Rattle.refusals.specs.declared.Refusal.TheVariants.{Ray, Cells, Outside, Classes, Window, Temperature, Layer}
 
 -- the number that document 01 or 02 gives a refusal
 abbrev pub number : Refusal → ℕ

@@ -5,6 +5,7 @@
 
 ghost use Rattle.std.specs.Prelude.{◌≤◌, IfOk};
 
+use layout::Field;
 use replay::read_bytes;
 use std::io;
 use std::io::{Read, Write};
@@ -35,7 +36,7 @@ fn read_record<R: Read>(list: &mut R) -> io::Result<Option<(u64, u64)>> {
     if read_bytes(list, &mut record)? < 16 {
         return Ok(None);
     }
-    Ok(Some((layout::u64_at(&record, 0), layout::u64_at(&record, 8))))
+    Ok(Some((u64::at(&record, 0), u64::at(&record, 8))))
 }
 
 // How many records were read, and how many of their answers differ.

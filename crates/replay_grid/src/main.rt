@@ -5,18 +5,20 @@
 
 ghost use Rattle.std.specs.Prelude.{◌≤◌, IfOk};
 
-use layout::Coordinate;
+use layout::{Coordinate, Field};
 use refusals::Refusal;
 use replay::{fill, first, read_bytes, read_cases, report};
 use sparse_grid::{Entries, Grid};
 use std::io;
 use std::io::Read;
 
-// Whether a lookup gave this number and this pattern.
-fn answers(answer: Result<f32, Refusal>, number: u32, bits: u32) -> bool {
-    match answer {
-        Ok(value) => number == 0 && float::bits_of(value) == bits,
-        Err(e) => number == e.number(),
+// What the list has of a lookup: the pattern of its value, or the number of its refusal.
+fn listed(b: &[u8]) -> Result<u32, u32> {
+    let number = u32::at(b, 12);
+    if number == 0 {
+        Ok(u32::at(b, 16))
+    } else {
+        Err(number)
     }
 }
 
@@ -27,16 +29,13 @@ fn lookup<R: Read>(list: &mut R, grid: &Grid) -> io::Result<u32>
     let mut b = [0u8; 20];
     let n = read_bytes(list, &mut b)?;
     let b = &b[..n];
-    let answer = grid.value(Coordinate {
-        x: layout::i32_at(b, 0),
-        y: layout::i32_at(b, 4),
-        z: layout::i32_at(b, 8),
+    let found = grid.value(Coordinate {
+        x: i32::at(b, 0),
+        y: i32::at(b, 4),
+        z: i32::at(b, 8),
     });
-    if answers(answer, layout::u32_at(b, 12), layout::u32_at(b, 16)) {
-        Ok(0)
-    } else {
-        Ok(1)
-    }
+    let answer = found.map(|v| float::bits_of(v)).map_err(|e| e.number());
+    Ok(u32::from(answer != listed(b)))
 }
 
 // How many of the next n lookups differ.
@@ -48,12 +47,6 @@ fn lookups<R: Read>(list: &mut R, n: u32, grid: &Grid) -> io::Result<u32>
         differ += lookup(list, grid)?;
     }
     Ok(differ)
-}
-
-fn unlike(a: u32, b: u32) -> u32
-    ensures { result ≤ 1 }
-{
-    if a == b { 0 } else { 1 }
 }
 
 // The numbers at the head of a case.
@@ -72,7 +65,7 @@ impl Head {
     }
 
     fn word(&self, at: usize) -> u32 {
-        layout::u32_at(&self.bytes, at)
+        u32::at(&self.bytes, at)
     }
 
     fn count(&self, at: usize) -> usize {
@@ -93,7 +86,7 @@ fn checks(head: &Head, grid: &Grid) -> u32
 {
     let plain = refusals::fault(grid.validate());
     let density = refusals::fault(grid.validate_density());
-    unlike(plain, head.word(72)) + unlike(density, head.word(76))
+    u32::from(plain != head.word(72)) + u32::from(density != head.word(76))
 }
 
 // How many lookups were made, and how many answers differ.
@@ -145,7 +138,7 @@ impl Tables {
     // The parts of the tables that the head names.
     fn grid(&self, head: &Head) -> Grid {
         Grid {
-            background: layout::f32_at(&head.bytes, 64),
+            background: f32::at(&head.bytes, 64),
             blocks: first(&self.blocks, head.count(0)),
             roots: Entries {
                 links: first(&self.root_links, head.count(4)),

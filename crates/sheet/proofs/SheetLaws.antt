@@ -1,8 +1,9 @@
 -- How long a page is, and what its parts are made of. Assumes nothing.
 use Rattle.std.specs.Prelude.{◌≡◌, refl, Bool, true, false, cond, List, [], ◌∷◌, ◌++◌, ℕ, zero, suc, ◌+◌, ◌*◌, ◌/◌, ◌%◌, ◌≤◌, ◌<◌, T, ltb, length, drop, Float}
-use Rattle.std.proofs.Common.{sym, ap, ◌∙◌, zero-mul, suc-mul, le_trans, arith, length-append, length-drop, length-take-le, lt-ltb, le-ltb, ltb-true, ltb-false}
+use Rattle.std.proofs.Common.{sym, ap, ◌∙◌, subst, zero-mul, suc-mul, le_trans, arith, length-append, length-drop, length-take-le, lt-ltb, le-ltb, ltb-true, ltb-false}
 use Rattle.std.specs.Float.{binary32}
 use Rattle.std.specs.Float.Ieee.{to_bits, lt}
+use Rattle.std.specs.Float.Ieee.Bits.{is_true}
 use Rattle.std.specs.Float.Ieee.Scale.{finite}
 use Rattle.refusals.specs.TestLaws.{and_l, and_r}
 use Rattle.float.specs.Zero.{+0}
@@ -121,3 +122,6 @@ pub most_finite : (a : Float) (l : List Float) → T (finite a) → T (every fin
 unfolding most_of every
 most_finite a [] p t = p
 most_finite a (v ∷ l) p t = most_finite (greater a v) l (greater_finite a v p (and_l (finite v) (every finite l) t)) (and_r (finite v) (every finite l) t)
+
+pub greatest_real : (l : List Float) {g : Float} → T (every finite l) → g ≡ most_of +0 l → finite g ≡ true
+greatest_real l t e = is_true _ (subst (λ (v : Float). T (finite v)) (sym e) (most_finite +0 l tt t))

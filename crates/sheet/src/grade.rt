@@ -23,6 +23,7 @@ fn units(v: f32) -> Scaled
 }
 
 // a <= b × 2^s. Its twin below shifts the other side: one function would test again which side it is.
+// The bound is asked for here, below and in `at_most`: these two take bare numbers, for which a type that holds it is no plainer.
 #[tactic(auto, using(crate::proofs::Steps::some_far))]
 fn below_shifted(a: u64, b: u64, s: u64) -> bool
     requires { (a < 2 ^ 28) × (b < 2 ^ 28) }
@@ -86,7 +87,7 @@ fn grade(f: Scaled, g: Scaled) -> u64
     9
 }
 
-// The character of v where the layer's greatest is g.
+// The character of v where the layer's greatest is g: a scale of the paper's own, which no printing of std has.
 pub(crate) fn mark(v: f32, g: f32) -> u8
     requires { (finite v ≡ true) × (finite g ≡ true) }
     ensures { result ≡ mark_of v g }

@@ -1,17 +1,13 @@
 // A layer of a table of cells on paper: a heading, and a line for each y from the highest down, with a character for each x.
 #![tactic(auto)]
 
-ghost use Rattle.std.specs.Prelude.{◌≡◌, true, [], ◌+◌, ◌*◌, ◌≤◌, IfOk, length};
-ghost use Rattle.std.specs.Float.Ieee.Scale.{finite};
+ghost use Rattle.std.specs.Prelude.{◌≡◌, [], ◌+◌, ◌*◌, ◌≤◌, IfOk, length};
 ghost use Rattle.refusals.specs.Results.{value_or};
 ghost use Rattle.refusals.specs.Numbers.{fault_of, said_by};
-ghost use Rattle.float.specs.Zero.{+0};
 ghost use Rattle.lent.specs.Padded.{padded};
 ghost use Rattle.cells.specs.Record.{as_cells};
-ghost use Rattle.figures.specs.Figures.{every};
 ghost use Rattle.text.specs.Page.{page, puts};
-ghost use Rattle.text.specs.Written.{Writes};
-ghost use Rattle.sheet.specs.Sheet.{most_of, layer_of, page_of, sheet_fault, sheet};
+ghost use Rattle.sheet.specs.Sheet.{layer_of, page_of, sheet_fault, sheet};
 ghost use Rattle.sheet.specs.Answers.{length_of};
 
 mod bridge;
@@ -20,7 +16,8 @@ mod lines;
 
 pub use bridge::print_layer;
 use cells::Cells;
-use figures::{check_figures, greater};
+use figures::check_figures;
+use lines::Layer;
 use refusals::Refusal;
 use text::Page;
 
@@ -30,17 +27,6 @@ use text::Page;
 pub struct Printed {
     pub number: u32,
     pub written: u64,
-}
-
-// The greatest of +0.0 and the figures.
-fn most(layer: &[f32]) -> f32
-    ensures { result ≡ most_of +0 layer.now }
-{
-    let mut greatest = 0.0f32;
-    for figure in layer {
-        greatest = greater(greatest, *figure);
-    }
-    greatest
 }
 
 // The bytes of a page.
@@ -71,24 +57,12 @@ fn checked_layer(table: &[f32], cells: Cells, k: u32, room: usize) -> Result<&[f
     Ok(layer)
 }
 
-fn put_page(page: &mut Page<'_>, k: u32, layer: &[f32], x: u32, y: u32)
-    requires fits { y * x ≤ length layer.now }
-    requires real { every finite layer.now ≡ true }
-    ensures { Writes page.old (page_of x y k layer.now) page.new }
-{
-    let greatest = most(layer);
-    lines::put_head(page, k, greatest);
-    lines::put_rows(page, layer, x, y, greatest);
-}
-
 // The page at the front of `text`, and how many bytes it takes.
-fn write_page(text: &mut [u8], k: u32, layer: &[f32], x: u32, y: u32) -> usize
-    requires fits { y * x ≤ length layer.now }
-    requires real { every finite layer.now ≡ true }
-    ensures { page text.new result ≡ puts (page text.old 0) (page_of x y k layer.now) }
+fn write_page(text: &mut [u8], k: u32, layer: Layer<'_>) -> usize
+    ensures { page text.new result ≡ puts (page text.old 0) (page_of layer.entry.x layer.entry.y k layer.entry.figures.now) }
 {
     let mut page = Page { bytes: text, at: 0 };
-    put_page(&mut page, k, layer, x, y);
+    layer.put_page(&mut page, k);
     page.at
 }
 
@@ -99,6 +73,7 @@ pub fn write_layer(table: &[f32], cells: Cells, k: u32, text: &mut [u8]) -> Resu
         text.new ≡ padded n 0 (value_or [] (sheet (as_cells cells) k table.now n)) }
 {
     text.fill(0);
-    let layer = checked_layer(table, cells, k, text.len())?;
-    Ok(write_page(text, k, layer, cells.x, cells.y))
+    let figures = checked_layer(table, cells, k, text.len())?;
+    let layer = Layer::of(figures, cells.x, cells.y);
+    Ok(write_page(text, k, layer))
 }

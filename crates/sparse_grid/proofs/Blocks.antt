@@ -1,5 +1,6 @@
 -- Blocks of roots: a block above all before it is no earlier one, and what a scan finds; the fault of a root.
-use Rattle.std.proofs.Common.{◌≡◌, ℕ, zero, suc, ◌+◌, ◌/◌, ◌<◌, ◌≤◌, Bool, true, false, not, ◌&&◌, ◌||◌, length, get_or, sym, refl, ap, ◌∙◌, subst, inl, inr, le_refl, lt_of_lt_of_le, eq-or-lt_of_le, le_of_suc-le-suc, add-one, arith}
+use Rattle.std.proofs.Common.{◌≡◌, ℕ, zero, suc, ◌+◌, ◌/◌, ◌<◌, ◌≤◌, Bool, true, false, not, ◌&&◌, ◌||◌, length, get_or, sym, refl}
+use Rattle.std.proofs.Common.{ap, ◌∙◌, subst, inl, inr, le_refl, lt_of_lt_of_le, eq-or-lt_of_le, le_of_suc-le-suc, add-one, arith}
 use Rattle.std.specs.Prelude.{IsTrue}
 use lib.Ieee.{nan}
 use Rattle.refusals.specs.Faults.{◌then◌, unless}

@@ -1,5 +1,6 @@
 -- A lookup, step by step: the root whose block fits, and the nodes below it.
-use Rattle.std.proofs.Common.{◌≡◌, ℕ, zero, suc, ◌+◌, ◌-◌, ◌*◌, ◌<◌, ◌≤◌, Bool, true, false, cond, leb, List, length, ℤ, sym, refl, ap, ◌∙◌, arith, le-ltb, lt-ltb, eq-eqb, ne_eqb}
+use Rattle.std.proofs.Common.{◌≡◌, ℕ, zero, suc, ◌+◌, ◌-◌, ◌*◌, ◌<◌, ◌≤◌, Bool, true, false, cond, leb, List}
+use Rattle.std.proofs.Common.{length, ℤ, sym, refl, ap, ◌∙◌, arith, le-ltb, lt-ltb, eq-eqb, ne_eqb}
 use Rattle.refusals.specs.Results.{Result, ok, refused, need}
 use Rattle.layout.specs.Coordinates.{Coord, same_block, block_of}
 use Rattle.layout.specs.Walk.{of_background}

@@ -1,11 +1,9 @@
--- Coordinates of one cube of 8 have one block and one slot in each node above a leaf; from a spot on, only the leaves count. Assumes nothing.
-use Rattle.std.specs.Prelude.{◌≡◌, ℕ, ◌+◌, ◌-◌, ◌*◌, ◌/◌, ◌%◌, ℤ, pos, negsuc, refl}
+-- Coordinates of one cube of 8 have one block and one slot in each node above a leaf. Assumes nothing.
+use Rattle.std.specs.Prelude.{◌≡◌, ℕ, ◌+◌, ◌-◌, ◌*◌, ◌/◌, ◌%◌, ℤ, pos, negsuc}
 use Rattle.std.proofs.Common.{arith, sym, ap, ◌∙◌}
 use Rattle.std.specs.Int.Signed.{shr_z}
 use Rattle.layout.specs.Coordinates.{Coord, mod_z, slot, block_of}
-use Rattle.sparse_grid.specs.declared.Spot.{Spot}
-use Rattle.sparse_grid.specs.Tables.{Grid}
-use Rattle.sparse_grid.specs.Spots.{Cube, leaves_of, answer_from}
+use Rattle.sparse_grid.specs.Spots.{Cube}
 
 -- a slot and a block by the number of the cube
 in_lower : ℤ → ℕ
@@ -60,7 +58,3 @@ module _ {c d : Coord} (s : Cube c d) where
         y = along f in_block block_is c.y d.y s.y i;
         z = along f in_block block_is c.z d.z s.z i;
       }
-
--- what stands above the leaves does not count from a spot on
-pub from_leaves : (g : Grid) (s : Spot) (c : Coord) → answer_from (leaves_of g.leaf_values) s c ≡ answer_from g s c
-from_leaves g s c = refl

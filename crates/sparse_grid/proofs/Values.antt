@@ -1,6 +1,7 @@
 -- What a lookup of a grid reads is a value of its tables, its background, or +0. So where `density_fault` finds none that is negative,
 -- no lookup reads one. Assumes nothing.
-use Rattle.std.specs.Prelude.{◌≡◌, ℕ, zero, suc, ◌+◌, ◌*◌, Bool, true, false, cond, not, List, length, ◌==◌, nat_le, nat_lt, slice_index, slice_index_or, refl, Float}
+use Rattle.std.specs.Prelude.{◌≡◌, ℕ, zero, suc, ◌+◌, ◌*◌, Bool, true, false, cond, not, List, length}
+use Rattle.std.specs.Prelude.{◌==◌, nat_le, nat_lt, slice_index, slice_index_or, refl, Float}
 use Rattle.std.proofs.Common.{subst, sym, ltb-true, ltb-false}
 use Rattle.std.proofs.Math.ListN.{get_or-eq_default}
 use Rattle.std.specs.Float.Ieee.{lt}

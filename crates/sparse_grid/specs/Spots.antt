@@ -1,22 +1,9 @@
--- Where a lookup ends, as far as the coordinates of one cube of 8 share it: in a leaf, or at a value that is theirs all.
-use Rattle.std.specs.Prelude.{◌≡◌, cond, List, [], Float}
+-- What the coordinates of one cube of 8 share of a lookup: where it ends. The leaves alone are read from there on.
+use Rattle.std.specs.Prelude.{◌≡◌, List, [], Float}
 use Rattle.std.specs.Int.Signed.{shr_z}
-use Rattle.refusals.specs.Results.{Result, ok, value_or}
-use Rattle.refusals.specs.Faults.{passing}
 use Rattle.float.specs.Zero.{+0}
 use Rattle.layout.specs.Coordinates.{Coord}
-use Rattle.sparse_grid.specs.declared.Spot.{Spot}
 use Rattle.sparse_grid.specs.Tables.{Grid, grid_of}
-use Rattle.sparse_grid.specs.Lookup.{leaf_at}
-use Rattle.sparse_grid.specs.Answers.{value_only}
-
--- what a lookup gives at a coordinate from there on: a value, or its refusal
-abbrev pub answer_from : Grid → Spot → Coord → Result Float
-answer_from g s c = cond s.in_leaf (value_only (leaf_at g s.leaf c)) (passing s.number (ok s.value))
-
--- the value of that, and +0 where the lookup was refused
-abbrev pub read_from : Grid → Spot → Coord → Float
-read_from g s c = value_or +0 (answer_from g s c)
 
 -- the grid of these leaves: nothing above them counts
 abbrev pub leaves_of : List Float → Grid

@@ -1,19 +1,16 @@
 // The functions over tables side by side, for the crates above that are not written over `Grid` yet: a grid is its background and eight tables,
 // always in this order.
-ghost use Rattle.std.specs.Prelude.{◌≡◌, List, [], Float};
+ghost use Rattle.std.specs.Prelude.{◌≡◌};
 ghost use Rattle.refusals.specs.Results.{said};
 ghost use Rattle.refusals.specs.Numbers.{said_by};
 ghost use Rattle.float.specs.Zero.{+0};
-ghost use Rattle.layout.specs.Coordinates.{Coord};
 ghost use Rattle.sparse_grid.specs.Tables.{grid_of};
-ghost use Rattle.sparse_grid.specs.Validate.{validate as validate_s, density_fault, validate_density};
+ghost use Rattle.sparse_grid.specs.Validate.{validate as validate_s, validate_density};
 ghost use Rattle.sparse_grid.specs.Lookup.{lookup as lookup_s};
-ghost use Rattle.sparse_grid.specs.Spots.{leaves_of, answer_from, Cube};
 ghost use Rattle.sparse_grid.specs.Answers.{answer, outcome, value_only, saying, unspoken, spoken, at};
 ghost use Rattle.sparse_grid.specs.Record.{as_grid};
 
-use crate::lookup::Spot as End;
-use crate::{Answer, Entries, Grid, Reading, Spot};
+use crate::{Answer, Entries, Grid, Reading};
 use layout::Coordinate;
 use refusals::Refusal;
 
@@ -91,32 +88,6 @@ pub fn validate(
     refusals::fault(grid.validate())
 }
 
-// Bridge: no crate any more.
-pub fn density_fault(
-    background: f32,
-    root_values: &[f32],
-    upper_values: &[f32],
-    lower_values: &[f32],
-    leaf_values: &[f32],
-) -> u32
-    ensures { let g = grid_of background [] [] root_values.now [] upper_values.now []
-        lower_values.now leaf_values.now in
-        result ≡ density_fault g }
-{
-    let grid = grid(
-        background,
-        &[],
-        &[],
-        root_values,
-        &[],
-        upper_values,
-        &[],
-        lower_values,
-        leaf_values,
-    );
-    refusals::fault(grid.check_density())
-}
-
 // Bridge: majorant, smokegrid.
 pub fn validate_density(
     background: f32,
@@ -183,72 +154,6 @@ pub fn get_reading(
         Ok(reading) => Reading::Value(reading.value, reading.level),
         Err(e) => Reading::Refused(e.number()),
     }
-}
-
-// Bridge: no crate any more.
-pub fn get_spot(
-    background: f32,
-    blocks: &[i32],
-    root_links: &[u32],
-    root_values: &[f32],
-    upper_links: &[u32],
-    upper_values: &[f32],
-    lower_links: &[u32],
-    lower_values: &[f32],
-    x: i32,
-    y: i32,
-    z: i32,
-) -> Spot
-    ensures { (leaves : List Float) (c : Coord) → Cube c (at x y z)
-        → let g = grid_of background blocks.now root_links.now root_values.now
-        upper_links.now upper_values.now lower_links.now lower_values.now leaves in
-        answer_from g result c ≡ value_only (lookup_s g c) }
-{
-    let grid = grid(
-        background,
-        blocks,
-        root_links,
-        root_values,
-        upper_links,
-        upper_values,
-        lower_links,
-        lower_values,
-        &[],
-    );
-    let spot = Spot {
-        number: 0,
-        in_leaf: false,
-        leaf: 0,
-        value: 0.0,
-    };
-    match grid.spot(Coordinate { x, y, z }) {
-        Ok(End::Leaf(leaf)) => Spot {
-            in_leaf: true,
-            leaf,
-            ..spot
-        },
-        Ok(End::Value(value, _)) => Spot { value, ..spot },
-        Err(e) => Spot {
-            number: e.number(),
-            ..spot
-        },
-    }
-}
-
-// Bridge: no crate any more.
-pub fn read_spot(leaf_values: &[f32], spot: Spot, x: i32, y: i32, z: i32) -> Answer
-    ensures { answer result ≡ said +0 (answer_from (leaves_of leaf_values.now) spot (at x y z)) }
-{
-    if spot.in_leaf {
-        return match End::Leaf(spot.leaf).read(leaf_values, Coordinate { x, y, z }) {
-            Ok(reading) => Answer::Value(reading.value),
-            Err(e) => Answer::Refused(e.number()),
-        };
-    }
-    if spot.number == 0 {
-        return Answer::Value(spot.value);
-    }
-    Answer::Refused(spot.number)
 }
 
 // Bridge: claim, smokegrid.

@@ -60,6 +60,7 @@ fn all_pass<F: Fn(f32) -> bool>(values: &[f32], passes: F) -> bool
 {
     let mut sound = true;
     for v in values {
+        // `sound &= passes(*v)` says the same, and was half again slower.
         if !passes(*v) {
             sound = false;
         }

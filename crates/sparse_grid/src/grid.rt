@@ -4,14 +4,14 @@ ghost use Rattle.sparse_grid.specs.Tables.{entry_at};
 
 use crate::{Entry, entry_of};
 
-// Links and the value beside each: link 0 is a tile of that value, k + 1 is child k.
+// Links and the value beside each: link 0 is a tile of that value, k + 1 is child k. Two tables of numbers, since C lends them so.
 #[derive(Clone, Copy)]
 pub struct Entries<'a> {
     pub links: &'a [u32],
     pub values: &'a [f32],
 }
 
-// A background and the tables of roots, nodes and leaves: three numbers of `blocks` are the block of a root.
+// A background and the tables of roots, nodes and leaves: three numbers of `blocks` are the block of a root, as C lends them.
 #[derive(Clone, Copy)]
 pub struct Grid<'a> {
     pub background: f32,

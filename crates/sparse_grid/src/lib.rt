@@ -13,9 +13,7 @@ mod paired;
 mod place;
 mod roots;
 
-pub use bridge::{
-    density_fault, get_reading, get_spot, get_value, read_spot, validate, validate_density,
-};
+pub use bridge::{get_reading, get_value, validate, validate_density};
 pub use grid::{Entries, Grid};
 
 // What stands at a slot of a node or beside a root's block: the number of a child, or a value for every coordinate below it.
@@ -60,7 +58,7 @@ pub fn lifted(block: i32) -> u32
     biased(block).wrapping_add(2148007936)
 }
 
-// Bridge: claim, majorant, smokegrid, temperature. It and the two below stand here, since definitions and proofs above name them by this path.
+// Bridge: claim, majorant, smokegrid, temperature. It and the one below stand here, since definitions and proofs above name them by this path.
 #[derive(Clone, Copy)]
 pub enum Answer {
     Value(f32),
@@ -72,13 +70,4 @@ pub enum Answer {
 pub enum Reading {
     Value(f32, Level),
     Refused(u32),
-}
-
-// Bridge: no crate any more. The number of a refusal is not 0.
-#[derive(Clone, Copy)]
-pub struct Spot {
-    pub number: u32,
-    pub in_leaf: bool,
-    pub leaf: u32,
-    pub value: f32,
 }

@@ -1,6 +1,6 @@
 pub mod Digits
-pub mod Signs
 pub mod Examples
 pub mod NumeralLaws
 pub mod PageLaws
+pub mod Printed
 pub mod Writing

@@ -1,4 +1,5 @@
 // Text into lent bytes. What has no room is dropped.
+// Not by `write!`: it promises its bytes only where it answers Ok, and no contract says that it does, though a page never fails.
 #![tactic(auto)]
 
 ghost use Rattle.std.specs.Prelude.{◌≡◌, [], ◌∷◌, ◌<◌};
@@ -12,7 +13,7 @@ pub struct Page<'a> {
     pub at: usize,
 }
 
-// The digit d: `0` to `9`, then `a` to `f`.
+// The digit d: `0` to `9`, then `a` to `f`. `char::from_digit` answers an option of a char, of which the byte is to be taken again.
 fn digit(d: u64) -> u8
     requires { d < 16 }
     ensures { result ≡ digit_of d }
@@ -44,25 +45,21 @@ impl Page<'_> {
         }
     }
 
+    #[tactic(auto, using(crate::proofs::Printed::decimal_is))]
     pub fn put_decimal(&mut self, n: u64)
         ensures { Writes self.old (decimal n) self.new }
     {
-        if n >= 10 {
-            self.put_decimal(n / 10);
-        }
-        self.put_byte(digit(n % 10));
+        self.put_bytes(itoa::Buffer::new().format(n).as_bytes());
     }
 
-    pub fn put_signed(&mut self, n: i32)
-        ensures { Writes self.old (signed_text n) self.new }
+    #[tactic(auto, using(crate::proofs::Printed::signed_is))]
+    pub fn put_signed(&mut self, z: i32)
+        ensures { Writes self.old (signed_text z) self.new }
     {
-        if n < 0 {
-            self.put_byte(b'-');
-        }
-        self.put_decimal(u64::from(n.unsigned_abs()));
+        self.put_bytes(itoa::Buffer::new().format(z).as_bytes());
     }
 
-    // Eight digits in base sixteen.
+    // Eight digits in base sixteen. `hex::encode_to_slice` may refuse, which would need a branch that nothing reaches.
     #[tactic(auto, using(crate::proofs::Writing::nothing), unfolding(crate::specs::Numerals::sixteens))]
     pub fn put_hex8(&mut self, n: u32)
         ensures { Writes self.old (hex8 n) self.new }

@@ -21,7 +21,7 @@ use figures::{check_figures, greater};
 use lent::zero;
 use refusals::Refusal;
 
-// w, the three numbers of the cells, the tables held, and the place that the next one takes.
+// w, the three numbers of the cells, the tables held, and the place that the next one takes. Numbers alone: C keeps them, and lends the memory.
 #[derive(Clone, Copy, Debug, PartialEq, Eq)]
 pub struct Window {
     pub w: u32,
@@ -34,6 +34,7 @@ pub struct Window {
 
 // ---- the places of the ring
 
+// A place below w, here and below, is no invariant of Window: its fields are public, and C hands in any. The check of a push leaves it.
 fn before(w: usize, p: usize) -> usize
     requires { p < w }
     ensures { result ≡ before_of w p }
@@ -166,6 +167,7 @@ fn raise_four(answer: &mut [f32], a: &[f32], b: &[f32], c: &[f32], d: &[f32])
 }
 
 // The table in the place before `at`, and that place.
+// That w tables lie in the memory is asked for three times: C hands in the memory beside the window, and a struct of both is no plainer.
 fn raise_one_before(answer: &mut [f32], memory: &[f32], w: usize, at: usize) -> usize
     requires { (at < w) × (w * length answer.old ≤ length memory.now) }
     ensures place { result ≡ before_of w at }

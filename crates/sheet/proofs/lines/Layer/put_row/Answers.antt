@@ -1,7 +1,7 @@
 -- The parts of its line, one after another.
 use Rattle.text.proofs.Writing.{◌then◌}
 use Rattle.sheet.specs.Sheet.{row_line}
-use Rattle.sheet.proofs.lines.put_row.Goals as goal
+use Rattle.sheet.proofs.lines.Layer.put_row.Goals as goal
 
 pub returns : goal.returns
 unfolding row_line

@@ -2,7 +2,7 @@
 use Rattle.std.proofs.Common.{◌≡◌, drop}
 use Rattle.float.specs.Zero.{+0}
 use Rattle.sheet.specs.Sheet.{most_of}
-use Rattle.sheet.proofs.most.Given as goal
+use Rattle.sheet.proofs.lines.most.Given as goal
 
 abbrev pub invariant-loop-figure : goal.invariant-loop-figure
 invariant-loop-figure l = most_of l.greatest (drop l.figure-index l.layer) ≡ most_of +0 l.layer

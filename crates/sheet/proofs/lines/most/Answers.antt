@@ -1,6 +1,6 @@
 use Rattle.std.specs.Float.{nan}
 use Rattle.sheet.proofs.Pages.{most_more, most_end}
-use Rattle.sheet.proofs.most.Goals as goal
+use Rattle.sheet.proofs.lines.most.Goals as goal
 
 pub loop-figure-preserved : goal.loop-figure-preserved
 loop-figure-preserved c =
