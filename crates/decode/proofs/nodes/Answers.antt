@@ -10,10 +10,11 @@ use Rattle.layout.specs.Bytes.{u64_at, mask_bit}
 use Rattle.sparse_grid.specs.declared.Entry.{Entry}
 use Rattle.nanovdb.specs.Spans.{Span, nowhere, seen}
 use Rattle.nanovdb.specs.Nodes.{Places, State, claim, with_span, size_of, entries_of, mask_of, table_of, nodes_at, places_at, leaf_placed, placed, slots_read, node}
+use Rattle.nanovdb.specs.Lent.{Lent, Tables, tables, lengths}
 use Rattle.nanovdb.proofs.HeldNodes.{span_of, opening}
 use Rattle.decode.specs.Inner.WorkTable.{size, node_span, Pushed, EnterOut}
 use Rattle.decode.specs.Inner.Filled.{slot_target, count_in, places_of, room_in, grown_by, Tabs, Kept, Fit, Holds, Lends, Reads, NodeOut, OpenOut}
-use Rattle.decode.specs.Inner.Filled.{filling, numbered, with_work, NewNode}
+use Rattle.decode.specs.Inner.Filled.{filling, numbered, nodes_of, with_work, NewNode}
 use Rattle.decode.specs.Inner.Stored.{at_upper, at_lower, leaf_value, slot_value, Stored, TilesStored, NextChild}
 use Rattle.decode.specs.declared.spans.Spans.{Spans}
 use Rattle.decode.specs.declared.spans.Entered.{Entered}
@@ -141,6 +142,28 @@ module _ {b : List ℕ} {source level k : ℕ} {st : Progress.State} {w v : List
                     (holds_opened level source R.holds pushed);
               };
         }
+
+-- ---- the calls of `node`
+
+-- of the level below
+pub below_out : {l m : ℕ} (b : List ℕ) (source : ℕ) (t : Tabs) (st : Progress.State) (u : Tabs) (r : Answer Placed Refusal) → l ≡ suc m
+    → NodeOut m b source t st u r → NodeOut (l - 1) b source t st u r
+below_out b source t st u r e = subst (λ (k : ℕ). NodeOut k b source t st u r) (omega (arith, e))
+
+-- with the values of a run
+abbrev pub with_run : Tables → List Float → List Float → Tables
+with_run t uv lv = tables t.blocks t.root_links t.root_values t.upper_links uv t.lower_links lv t.leaf_values t.work
+
+-- tables that keep their lengths
+pub kept_of : (t u : Tables) → lengths u ≡ lengths t → Kept (nodes_of t) (nodes_of u)
+kept_of t u e = record {
+  work = ap (λ (l : Lent). l.work) e;
+  upper_links = ap (λ (l : Lent). l.upper_links) e;
+  upper_values = ap (λ (l : Lent). l.upper_values) e;
+  lower_links = ap (λ (l : Lent). l.lower_links) e;
+  lower_values = ap (λ (l : Lent). l.lower_values) e;
+  leaf_values = ap (λ (l : Lent). l.leaf_values) e;
+}
 
 -- ---- the answers of `node` where it is new
 

@@ -14,8 +14,8 @@ use Rattle.layout.specs.Bytes.{signed, u64_at, i64_at, f32_at}
 use Rattle.sparse_grid.specs.declared.Entry.TheVariants.{Child, Tile}
 use Rattle.nanovdb.specs.Nodes.{Places, State, Read, child_target, node}
 use Rattle.nanovdb.specs.Tree.{Roots, root_of, key_passes, tile_read, tiles_read}
+use Rattle.nanovdb.specs.Lent.{Lent, lengths}
 use Rattle.nanovdb.proofs.HeldTiles.{tiles_read_lem}
-use Rattle.nanovdb.proofs.Kept.{Kept, kept_on}
 use Rattle.decode.specs.Inner.Filled.{Tabs, Fit, Holds, Reads, NodeOut}
 use Rattle.decode.specs.Inner.Rooted.{RootTabs, RootsHeld, RootPut, TileOut, TilesOut}
 use Rattle.decode.specs.Inner.GridRead.{all_tables}
@@ -109,9 +109,9 @@ module _ {b : List ℕ} {root i key relative : ℕ} where
       says = λ p r R h s. tile_refused b p root i r (passed a.keyed) (is_some a) to (number e) (aimed a) (out.says p r.state [] [] R);
     }
 
-    pub tile_out_child : {c : Placed.Placed} {link : ℕ} {value : Float} {q v : RootTabs} → NodeOut 2 b to t st u (Ok c) → link ≡ c.number + 1
-        → value ≡ +0 → RootPut i key link value q v → TileOut b root i t q st u v (Ok c.state)
-    tile_out_child {c} out one nil put = record {
+    pub tile_out_child : {c : Placed.Placed} {link : ℕ} {value : Float} {q x v : RootTabs} → NodeOut 2 b to t st u (Ok c) → x ≡ q
+        → link ≡ c.number + 1 → value ≡ +0 → RootPut i key link value x v → TileOut b root i t q st u v (Ok c.state)
+    tile_out_child {c} out kept one nil put = record {
       fit = out.fit.0;
       says = λ p r R h size.
           let n = c.number in
@@ -120,7 +120,7 @@ module _ {b : List ℕ} {root i key relative : ℕ} where
             record { roots = r.roots ++ (root_of key (Child n) ∷ []); state = e },
             subst (λ (k : ℕ). tile_read b p root i r ≡ ok (record { roots = r.roots ++ (root_of k (Child n) ∷ []); state = e })) (sym a.keyed.is) child,
             holds,
-            put.put r.roots (Child n) h size (sym one) (sym nil),
+            put.put r.roots (Child n) (subst (λ (k : RootTabs). RootsHeld k r.roots) (sym kept) h) size (sym one) (sym nil),
           );
     }
 
@@ -130,7 +130,7 @@ module _ {b : List ℕ} {root i key relative : ℕ} where
 pub record Row (b : List ℕ) (root count : ℕ) (t₀ : Tabs) (q₀ : RootTabs) (st₀ : Progress.State) (t : Tabs) (q : RootTabs) (st : Progress.State) (i : ℕ)
     : Type 0 where
   pub turn : i ≤ count
-  pub kept : Kept (all_tables t₀ q₀) (all_tables t q)
+  pub kept : lengths (all_tables t q) ≡ lengths (all_tables t₀ q₀)
   pub fit : Fit (length b) t st
   pub says : (p : Places) (d : State) → Reads 2 b t₀ st₀ p d [] [] → RootsHeld q₀ []
       → (n : Roots) × (tiles_read b p root i d ≡ ok n) × Holds t st n.state [] [] × RootsHeld q n.roots
@@ -139,17 +139,7 @@ pub row_begins : {b : List ℕ} {root count : ℕ} {t : Tabs} {q : RootTabs} {st
 unfolding tiles_read
 row_begins f = record {
   turn = omega arith;
-  kept = record {
-    blocks = refl;
-    root_links = refl;
-    root_values = refl;
-    upper_links = refl;
-    upper_values = refl;
-    lower_links = refl;
-    lower_values = refl;
-    leaf_values = refl;
-    work = refl;
-  };
+  kept = refl;
   fit = f;
   says = λ p d R h. (record { roots = []; state = d }, refl, R.holds, h);
 }
@@ -170,10 +160,10 @@ module _ {b : List ℕ} {root count : ℕ} {t₀ t : Tabs} {q₀ q : RootTabs} {
         record {
           holds = holds;
           lends = record {
-            spans = R.lends.spans ∙ ap (λ (k : ℕ). k / 4) (sym row.kept.work);
-            upper = R.lends.upper ∙ ap (λ (k : ℕ). k / 32768) (sym row.kept.upper_links);
-            lower = R.lends.lower ∙ ap (λ (k : ℕ). k / 4096) (sym row.kept.lower_links);
-            leaf = R.lends.leaf ∙ ap (λ (k : ℕ). k / 512) (sym row.kept.leaf_values);
+            spans = R.lends.spans ∙ ap (λ (k : ℕ). k / 4) (sym (ap (λ (l : Lent). l.work) row.kept));
+            upper = R.lends.upper ∙ ap (λ (k : ℕ). k / 32768) (sym (ap (λ (l : Lent). l.upper_links) row.kept));
+            lower = R.lends.lower ∙ ap (λ (k : ℕ). k / 4096) (sym (ap (λ (l : Lent). l.lower_links) row.kept));
+            leaf = R.lends.leaf ∙ ap (λ (k : ℕ). k / 512) (sym (ap (λ (l : Lent). l.leaf_values) row.kept));
           };
           ready = tiled.keeps;
           shut = (refl, refl);
@@ -184,11 +174,11 @@ module _ {b : List ℕ} {root count : ℕ} {t₀ t : Tabs} {q₀ q : RootTabs} {
 
   -- tile i has been read into the tables u and v
   module _ {u : Tabs} {v : RootTabs} (more : i < count) where
-    pub row_more : {s : Progress.State} → TileOut b root i t q st u v (Ok s) → Kept (all_tables t q) (all_tables u v)
+    pub row_more : {s : Progress.State} → TileOut b root i t q st u v (Ok s) → lengths (all_tables u v) ≡ lengths (all_tables t q)
         → Row b root count t₀ q₀ st₀ u v s (i + 1)
     row_more out k = record {
       turn = omega arith;
-      kept = kept_on row.kept k;
+      kept = k ∙ row.kept;
       fit = out.fit;
       says = λ p d R g.
           let (n, read, reads, roots, size) = handed p d R g in
