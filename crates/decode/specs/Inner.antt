@@ -3,7 +3,6 @@ pub mod Kinds
 pub mod WorkTable
 pub mod Packed
 pub mod Stored
-pub mod Halves
 pub mod Filled
 pub mod Rooted
 pub mod TreeRead

@@ -25,10 +25,10 @@ fn key_field(bits: u64) -> i32
     ensures { result ≡ signed 20 bits }
 {
     if bits < 524288 {
-        return bits as i32;
+        bits as i32
+    } else {
+        bits as i32 - 1048576
     }
-    let below = (1048575 - bits) as i32;
-    -1 - below
 }
 
 // Root i: the block of its key, its link and its value.
