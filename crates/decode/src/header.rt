@@ -9,7 +9,7 @@ ghost use Rattle.nanovdb.specs.Decode.{mark_passes, header_passes, bound_at, med
 use medium::Medium;
 use refusals::Refusal;
 
-// "NanoVDB0" or "NanoVDB1".
+// "NanoVDB0" or "NanoVDB1". Not the test of `contents`: a segment of a file may begin with "NanoVDB2" and not with "NanoVDB1".
 fn mark_passes(mark: u64) -> bool
     ensures { result ≡ mark_passes mark }
 {

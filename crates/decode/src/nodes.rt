@@ -53,30 +53,15 @@ pub enum Opened {
 
 // ---- places in the bytes
 
-// A place that a node may have: a multiple of 32.
-fn child_place(to: usize) -> Result<usize, Refusal>
-    ensures { said_by result ≡ need (eqb (to % 32) 0) 8 (ok to) }
-{
-    if to % 32 == 0 {
-        Ok(to)
-    } else {
-        Err(Refusal::ChildTarget)
-    }
-}
-
-// A child's place: its parent's, moved by the signed number of these bits. Compared before it is added, so nothing wraps.
+// A child's place: its parent's, moved by the signed number of these bits, and a multiple of 32.
 pub(crate) fn child_target(base: usize, bits: u64) -> Result<usize, Refusal>
     requires { base < 4294967296 }
     ensures { said_by result ≡ child_target base (signed 64 bits) }
 {
-    if bits < 9223372036854775808 {
-        return child_place(base + (bits as usize));
+    match base.checked_add_signed((bits as usize).cast_signed()) {
+        Some(to) if to % 32 == 0 => Ok(to),
+        _ => Err(Refusal::ChildTarget),
     }
-    let back = (18446744073709551615 - bits) as usize;
-    if base <= back {
-        return Err(Refusal::ChildTarget);
-    }
-    child_place(base - back - 1)
 }
 
 // The place of the child whose slot has these bits: none of them set is no place.
@@ -164,14 +149,15 @@ impl State {
 }
 
 // The link of a child, one more than its number, at a place in the table of its parent's kind.
-fn link(kind: Kind, ul: &mut [u32], ll: &mut [u32], at: usize, child: u32)
-    requires { (at < room_in (level_of kind) (length ul.old) (length ll.old)) × (child < 4294967295) }
-    ensures { (ul.new ≡ at_upper (level_of kind) ul.old at (child + 1)) × (ll.new ≡ at_lower (level_of kind) ll.old at (child + 1)) }
+fn link(kind: Kind, upper_links: &mut [u32], lower_links: &mut [u32], at: usize, child: u32)
+    requires { (at < room_in (level_of kind) (length upper_links.old) (length lower_links.old)) × (child < 4294967295) }
+    ensures { let level = level_of kind in
+        (upper_links.new ≡ at_upper level upper_links.old at (child + 1)) × (lower_links.new ≡ at_lower level lower_links.old at (child + 1)) }
 {
     match kind {
         Kind::Leaf => {}
-        Kind::Lower => ll[at] = child + 1,
-        Kind::Upper => ul[at] = child + 1,
+        Kind::Lower => lower_links[at] = child + 1,
+        Kind::Upper => upper_links[at] = child + 1,
     }
 }
 
@@ -183,19 +169,19 @@ fn tiles_between(
     base: usize,
     from: usize,
     to: usize,
-    uv: &mut [f32],
-    lv: &mut [f32],
+    upper_values: &mut [f32],
+    lower_values: &mut [f32],
 )
     requires { (source + size_of (level_of kind) ≤ length bytes.now) × (from ≤ to) × (to ≤ entries_of (level_of kind))
-        × (base + entries_of (level_of kind) ≤ room_in (level_of kind) (length uv.old) (length lv.old)) }
+        × (base + entries_of (level_of kind) ≤ room_in (level_of kind) (length upper_values.old) (length lower_values.old)) }
     ensures { let value = slot_value bytes.now source (level_of kind) in
-        TilesStored (level_of kind) value base from uv.old lv.old to uv.new lv.new }
+        TilesStored (level_of kind) value base from upper_values.old lower_values.old to upper_values.new lower_values.new }
 {
     let table = source + kind.table();
     match kind {
         Kind::Leaf => {}
-        Kind::Lower => values::run(bytes, table, lv, base, from, to),
-        Kind::Upper => values::run(bytes, table, uv, base, from, to),
+        Kind::Lower => values::run(bytes, table, lower_values, base, from, to),
+        Kind::Upper => values::run(bytes, table, upper_values, base, from, to),
     }
 }
 

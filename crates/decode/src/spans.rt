@@ -1,4 +1,5 @@
-// The spans that a decoder has claimed, in lent words: four to a span. A node is found, and an overlap refused, by chains.
+// The spans that a decoder has claimed, in lent words: four to a span. A node is found, and an overlap refused, by chains, which stand in the same
+// words: by a rule of the project nothing is allocated, so there is no map.
 ghost use Rattle.std.specs.Prelude.{◌≡◌, Bool, true, false, ◌&&◌, List, [], ◌∷◌, ◌++◌, ℕ, ◌+◌, ◌-◌, ◌*◌, ◌/◌, ◌%◌, ◌<◌, ◌≤◌, ◌^◌, length, get_or, ltb, eqb, IfSome};
 ghost use Rattle.nanovdb.specs.Spans.{overlaps, seen};
 ghost use Rattle.decode.specs.Inner.WorkTable.{size, spans, header_span, root_span, chain_in, Rep, Searched, MetAt, seen_of};
@@ -47,8 +48,7 @@ fn chain(n: usize, kind: Kind, q: u64) -> usize
     ((q + kind.level()) % (n as u64)) as usize
 }
 
-// The place of a node of chain h that passes a test of its first two words, if there is one. A chain is a list in the lent words, since nothing is
-// allocated: a link is one more than a place, and 0 ends it.
+// The place of a node of chain h that passes a test of its first two words, if there is one. A link is one more than a place, and 0 ends a chain.
 fn search<F: Fn(u64, u64) -> bool>(work: &[u64], count: usize, h: usize, passes: F) -> Option<usize>
     requires callable { F.IsAlwaysCallable passes }
     requires rep { Rep work.now count }

@@ -34,23 +34,23 @@ fn key_field(bits: u64) -> i32
 // Root i: the block of its key, its link and its value.
 fn put_root(
     blocks: &mut [i32],
-    rl: &mut [u32],
-    rv: &mut [f32],
+    links: &mut [u32],
+    values: &mut [f32],
     i: usize,
     key: u64,
     link: u32,
     value: f32,
 )
-    requires { (3 * i + 3 ≤ length blocks.old) × (i < length rl.old) × (i < length rv.old) }
-    ensures { let before = root_tabs blocks.old rl.old rv.old in
-        let after = root_tabs blocks.new rl.new rv.new in
+    requires { (3 * i + 3 ≤ length blocks.old) × (i < length links.old) × (i < length values.old) }
+    ensures { let before = root_tabs blocks.old links.old values.old in
+        let after = root_tabs blocks.new links.new values.new in
         RootPut i key link value before after }
 {
     blocks[3 * i] = key_field(key / 4398046511104 % 1048576);
     blocks[3 * i + 1] = key_field(key / 2097152 % 1048576);
     blocks[3 * i + 2] = key_field(key % 1048576);
-    rl[i] = link;
-    rv[i] = value;
+    links[i] = link;
+    values[i] = value;
 }
 
 // Tile i of the root.

@@ -39,7 +39,7 @@ returns-in_err-to-clause-node t c =
     let a = c.args in
     let l = as_tables c.loop-kind.tables in
     let n = c.tiles_between.new in
-    subst (NodeOut (level_of a.kind) a.bytes.now a.source (nodes_of (as_tables a.tables.now)) a.st (with_values (nodes_of l) n.uv n.lv))
+    subst (NodeOut (level_of a.kind) a.bytes.now a.source (nodes_of (as_tables a.tables.now)) a.st (with_values (nodes_of l) n.upper_values n.lower_values))
     (sym (exit_is c.from_residual-in_err-to.result _ c.from_residual-in_err-to.ensures.1))
     (out-off (aimed c.loop-kind.invariant.read c.next_child-j.ensures c.tiles_between.ensures c.if-j-o.false c.in_err-to.ensures))
 
@@ -50,7 +50,7 @@ returns-in_err-child-clause-node t c =
     let n = c.tiles_between.new in
     let u = nodes_of (as_tables c.node.new.tables) in
     let k = aimed c.loop-kind.invariant.read c.next_child-j.ensures c.tiles_between.ensures c.if-j-o.false c.in_ok-to.ensures in
-    let out = below_out a.bytes.now c.in_ok-to.to (with_values (nodes_of l) n.uv n.lv) c.loop-kind.state u _ c.in-Some.ensures.some
+    let out = below_out a.bytes.now c.in_ok-to.to (with_values (nodes_of l) n.upper_values n.lower_values) c.loop-kind.state u _ c.in-Some.ensures.some
     c.in_err-child.ensures.node in
     subst (NodeOut (level_of a.kind) a.bytes.now a.source (nodes_of (as_tables a.tables.now)) a.st u)
     (sym (exit_is c.from_residual-in_err-child.result _ c.from_residual-in_err-child.ensures.1)) (out-refused k out)
@@ -60,7 +60,7 @@ loop-kind-preserved t c =
     let a = c.args in
     let l = as_tables c.loop-kind.tables in
     let n = c.tiles_between.new in
-    let run = with_run l n.uv n.lv in
+    let run = with_run l n.upper_values n.lower_values in
     let u = as_tables c.node.new.tables in
     let k = aimed c.loop-kind.invariant.read c.next_child-j.ensures c.tiles_between.ensures c.if-j-o.false c.in_ok-to.ensures in
     let out = below_out a.bytes.now c.in_ok-to.to (nodes_of run) c.loop-kind.state (nodes_of u) _ c.in-Some.ensures.some c.in_ok-child.ensures.node in

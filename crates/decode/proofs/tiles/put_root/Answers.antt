@@ -7,6 +7,6 @@ use Rattle.decode.proofs.tiles.put_root.Goals as goal
 pub returns : goal.returns
 returns c =
     let a = c.args in let (room, links, values) = c.requires in
-    root_put a.key a.link a.value (root_tabs a.blocks.now a.rl.now a.rv.now) room links values
+    root_put a.key a.link a.value (root_tabs a.blocks.now a.links.now a.values.now) room links values
     (i32_seen _ _ c.key_field.type_inv c.key_field.ensures) (i32_seen _ _ c.key_field-2.type_inv c.key_field-2.ensures)
     (i32_seen _ _ c.key_field-3.type_inv c.key_field-3.ensures)
