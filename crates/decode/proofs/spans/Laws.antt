@@ -3,12 +3,12 @@ use mathlib.Core.Path.{◌≡◌, refl, sym, ap, ◌∙◌}
 use mathlib.Core.Logic.{◌⊎◌, inl, inr, ⊎_elim}
 use mathlib.Core.Bool.{Bool, true, false, cond, ◌&&◌, ◌||◌}
 use mathlib.Core.List.{List, [], ◌∷◌, ◌++◌}
-use Prim.Native.Nat.{ℕ, zero, suc, ◌+◌, ◌-◌, ◌*◌, ◌/◌, ◌%◌, ◌<◌, ◌≤◌, ◌^◌}
-use native.Mathlib.Nat.{eq-or-lt_of_le, le-div_iff_mul-le, mul-div-le, mul_comm, zero-div, div-lt_iff_lt-mul}
+use Prim.Native.Nat.{ℕ, zero, suc, ◌+◌, ◌-◌, ◌*◌, ◌/◌, ◌<◌, ◌≤◌}
+use native.Mathlib.Nat.{eq-or-lt_of_le, le-div_iff_mul-le, mul-div-le, mul_comm}
 use native.Mathlib.Omega.{arith}
 use lib.ListN.{length}
 use lib.Dec.{ltb, eqb}
-use borrow.Author.Tests.{lt-ltb, le-ltb, ltb-true, ltb-false, ne_eqb, eqb-true}
+use borrow.Author.Tests.{lt-ltb, ltb-true, ltb-false, ne_eqb, eqb-true}
 use Rattle.std.specs.Prelude.{Option, None, Some}
 use Rattle.std.specs.Option.{is_some}
 use Rattle.nanovdb.specs.Spans.{Span, Seen, at, nowhere, overlaps, seen}
@@ -165,9 +165,6 @@ module _ {w : List ℕ} {count h : ℕ} {t : ℕ → Bool} where
   pub walk_start : Rep w count → h < length w / 4 → Walk w count h t (chain_head w h)
   walk_start rep l = let q = rep.head h l in record { below = q.below; here = q.here; past = λ i a b e. absurd (q.none i a b e) }
 
-  pub walk_less : {v : ℕ} → Rep w count → 0 < v → Walk w count h t v → chain_link w (v - 1) < v
-  walk_less {v} rep p k = let low : v - 1 < count = omega (arith, k.below) in omega (arith, (rep.link (v - 1) low).below)
-
   pub walk_next : {v : ℕ} → Rep w count → 0 < v → Walk w count h t v → t (v - 1) ≡ false → Walk w count h t (chain_link w (v - 1))
   walk_next {v} rep p k f =
       let low : v - 1 < count = omega (arith, k.below) in
@@ -286,70 +283,6 @@ size_pos (suc (suc l)) = omega arith
 
 pub both : (p q : Bool) → p ≡ true → q ≡ true → true ≡ (p && q)
 both p q a b = rw (a, b)
-
-pub left_no : (p q : Bool) → p ≡ false → false ≡ (p && q)
-left_no p q a = rw a
-
-pub right_no : (p q : Bool) → q ≡ false → false ≡ (p && q)
-right_no p q a = rw (a, and_no p)
-
-pub size_0 : (l : ℕ) → l ≡ 0 → 2144 ≡ size l
-unfolding size
-size_0 zero e = refl
-size_0 (suc l) e = absurd (omega arith)
-
-pub size_1 : (l : ℕ) → l ≡ 1 → 33856 ≡ size l
-unfolding size
-size_1 zero e = absurd (omega arith)
-size_1 (suc zero) e = refl
-size_1 (suc (suc l)) e = absurd (omega arith)
-
-pub size_2 : (l : ℕ) → (l ≡ 0 → ⊥) → (l ≡ 1 → ⊥) → 270400 ≡ size l
-unfolding size
-size_2 zero p n = absurd (p refl)
-size_2 (suc zero) p n = absurd (n refl)
-size_2 (suc (suc l)) p n = refl
-
--- (s + 1 - z) / z where s is less than z, and where it is not
-pub first_0 : (s z : ℕ) → 0 < z → s < z → 0 ≡ (s + 1 - z) / z
-first_0 s z p l = let e : s + 1 - z ≡ 0 = omega arith in rw (e, zero-div z)
-
-pub first_1 : (s z : ℕ) → z ≤ s → (s - z + 1) / z ≡ (s + 1 - z) / z
-first_1 s z l = let e : s - z + 1 ≡ s + 1 - z = omega arith in rw e
-
-module _ (root limit s e : ℕ) where
-  pub fixed_header : s < 736 → s < e → true ≡ overlaps (header_span ∷ (root_span root limit ∷ [])) s e
-  unfolding overlaps
-  fixed_header a b = rw (lt-ltb 0 e (omega arith), lt-ltb s 736 a)
-
-  pub fixed_root : 736 ≤ s → root < e → s < limit → true ≡ overlaps (header_span ∷ (root_span root limit ∷ [])) s e
-  unfolding overlaps
-  fixed_root a b c = rw (le-ltb s 736 a, and_no (ltb 0 e), lt-ltb root e b, lt-ltb s limit c)
-
-  pub fixed_before : 736 ≤ s → e ≤ root → false ≡ overlaps (header_span ∷ (root_span root limit ∷ [])) s e
-  unfolding overlaps
-  fixed_before a b = rw (le-ltb s 736 a, and_no (ltb 0 e), le-ltb root e b)
-
-  pub fixed_after : 736 ≤ s → limit ≤ s → false ≡ overlaps (header_span ∷ (root_span root limit ∷ [])) s e
-  unfolding overlaps
-  fixed_after a b = rw (le-ltb s 736 a, and_no (ltb 0 e), le-ltb s limit b, and_no (ltb root e))
-
-pub quot_small : (x k : ℕ) → x < 2 ^ 64 → 2144 ≤ k → x / k < 2 ^ 60
-quot_small x k p l = let q : 0 < k = omega arith in (div-lt_iff_lt-mul q).1 (omega arith)
-
--- `over` of the code, with z the size that was looked up
-module _ (a e s word : ℕ) {z : ℕ} (q : z ≡ size (word % 4)) where
-  pub over_near : a < e → s < z → true ≡ (ltb a e && ltb s (a + size (word % 4)))
-  over_near x y = both _ _ (lt-ltb a e x) (lt-ltb s (a + size (word % 4)) (omega arith))
-
-  pub over_in : a < e → z ≤ s → s - z < a → true ≡ (ltb a e && ltb s (a + size (word % 4)))
-  over_in x y h = both _ _ (lt-ltb a e x) (lt-ltb s (a + size (word % 4)) (omega arith))
-
-  pub over_past : z ≤ s → a ≤ s - z → false ≡ (ltb a e && ltb s (a + size (word % 4)))
-  over_past y h = right_no (ltb a e) _ (le-ltb s (a + size (word % 4)) (omega arith))
-
-  pub over_before : e ≤ a → false ≡ (ltb a e && ltb s (a + size (word % 4)))
-  over_before x = left_no _ _ (le-ltb a e x)
 
 or_right : (p q : Bool) → (p || q) ≡ false → q ≡ false
 or_right true q e = not_both true refl e

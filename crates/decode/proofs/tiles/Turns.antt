@@ -1,13 +1,13 @@
 -- The answers of `tile`, and the loop over the root's tiles. Assumes nothing.
 use mathlib.Core.Path.{◌≡◌, refl, sym, ap, ◌∙◌, subst}
 use mathlib.Core.List.{List, [], ◌∷◌, ◌++◌}
-use mathlib.Core.Bool.{true, false}
+use mathlib.Core.Bool.{true}
 use Prim.Native.Nat.{ℕ, suc, ◌+◌, ◌*◌, ◌/◌, ◌≤◌, ◌<◌}
 use native.Mathlib.Omega.{arith}
 use lib.ListN.{length}
 use lib.Ieee.{Float}
 use borrow.Author.Tests.{eq-eqb, ne_eqb}
-use Rattle.refusals.specs.Results.{ok, refused, bind}
+use Rattle.refusals.specs.Results.{ok, bind}
 use Rattle.refusals.specs.ResultLaws.{run_more, run_stop}
 use Rattle.float.specs.Zero.{+0}
 use Rattle.layout.specs.Bytes.{signed, u64_at, i64_at, f32_at}
@@ -24,27 +24,16 @@ use Rattle.decode.specs.declared.nodes.Placed as Placed
 use Rattle.std.specs.Prelude.{Ok, Err, Result as Answer}
 use Rattle.refusals.specs.Numbers.{number, said_by}
 use Rattle.refusals.specs.declared.Refusal.{Refusal}
-use Rattle.refusals.specs.declared.Refusal.TheVariants.{KeyBit}
 
 -- ---- the ways of the definition's tile
 
 module _ (b : List ℕ) (p : Places) (root i : ℕ) (r : Roots) where
-  tile_key : key_passes (u64_at b (root + 64 + 32 * i)) ≡ false → tile_read b p root i r ≡ refused 7
-  tile_key e = rw e
-
   module _ (passes : key_passes (u64_at b (root + 64 + 32 * i)) ≡ true) where
     tile_value : (v : Float) → u64_at b (root + 64 + 32 * i + 8) ≡ 0 → v ≡ f32_at b (root + 64 + 32 * i + 20)
         → tile_read b p root i r ≡ ok (record { roots = r.roots ++ (root_of (u64_at b (root + 64 + 32 * i)) (Tile v) ∷ []); state = r.state })
     tile_value v e is = rw (passes, eq-eqb (u64_at b (root + 64 + 32 * i + 8)) 0 e, is)
 
     module _ (some : u64_at b (root + 64 + 32 * i + 8) ≡ 0 → ⊥) where
-      tile_off : (e : ℕ) → refused e ≡ child_target root (i64_at b (root + 64 + 32 * i + 8)) → tile_read b p root i r ≡ refused e
-      tile_off e t = rw (passes, ne_eqb (u64_at b (root + 64 + 32 * i + 8)) 0 some, sym t)
-
-      tile_refused : (to e : ℕ) → ok to ≡ child_target root (i64_at b (root + 64 + 32 * i + 8)) → node 2 b p to r.state ≡ refused e
-          → tile_read b p root i r ≡ refused e
-      tile_refused to e t n = rw (passes, ne_eqb (u64_at b (root + 64 + 32 * i + 8)) 0 some, sym t, n)
-
       tile_child : (to : ℕ) (n : Read) → ok to ≡ child_target root (i64_at b (root + 64 + 32 * i + 8)) → node 2 b p to r.state ≡ ok n
           → tile_read b p root i r
           ≡ ok (record { roots = r.roots ++ (root_of (u64_at b (root + 64 + 32 * i)) (Child n.number) ∷ []); state = n.state })
@@ -63,10 +52,6 @@ pub record Aimed (b : List ℕ) (root i key relative : ℕ) (place : Answer ℕ 
   pub word : relative ≡ u64_at b (root + 64 + 32 * i + 8)
   pub some : relative ≡ 0 → ⊥
   pub aims : said_by place ≡ child_target root (signed 64 relative)
-
-pub tile_out_key : {b : List ℕ} {root i key : ℕ} {t u : Tabs} {q v : RootTabs} {st : Progress.State} → key ≡ u64_at b (root + 64 + 32 * i)
-    → key_passes key ≡ false → TileOut b root i t q st u v (Err KeyBit)
-tile_out_key {b} {root} {i} is fails = record { fit = tt; says = λ p r R h s. tile_key b p root i r (ap key_passes (sym is) ∙ fails) }
 
 module _ {b : List ℕ} {root i key : ℕ} (k : Keyed b root i key) where
   passed : key_passes (u64_at b (root + 64 + 32 * i)) ≡ true
@@ -94,21 +79,8 @@ module _ {b : List ℕ} {root i key relative : ℕ} where
     aimed : said_by place ≡ child_target root (i64_at b (root + 64 + 32 * i + 8))
     aimed = a.aims ∙ ap (λ (x : ℕ). child_target root (signed 64 x)) a.word
 
-  pub tile_out_off : {e : Refusal} {t u : Tabs} {q v : RootTabs} {st : Progress.State} → Aimed b root i key relative (Err e)
-      → TileOut b root i t q st u v (Err e)
-  tile_out_off {e} a = record {
-    fit = tt;
-    says = λ p r R h s. tile_off b p root i r (passed a.keyed) (is_some a) (number e) (aimed a);
-  }
-
   -- the node at `to` has been read into the tables u
   module _ {to : ℕ} (a : Aimed b root i key relative (Ok to)) {t u : Tabs} {st : Progress.State} where
-    pub tile_out_refused : {e : Refusal} {q v : RootTabs} → NodeOut 2 b to t st u (Err e) → TileOut b root i t q st u v (Err e)
-    tile_out_refused {e} out = record {
-      fit = tt;
-      says = λ p r R h s. tile_refused b p root i r (passed a.keyed) (is_some a) to (number e) (aimed a) (out.says p r.state [] [] R);
-    }
-
     pub tile_out_child : {c : Placed.Placed} {link : ℕ} {value : Float} {q x v : RootTabs} → NodeOut 2 b to t st u (Ok c) → x ≡ q
         → link ≡ c.number + 1 → value ≡ +0 → RootPut i key link value x v → TileOut b root i t q st u v (Ok c.state)
     tile_out_child {c} out kept one nil put = record {
