@@ -14,7 +14,7 @@ ghost use Rattle.decode.specs.Inner.Filled.{nodes_of, places_of, Few, Fit, OpenO
 ghost use Rattle.decode.specs.Inner.Rooted.{roots_of};
 
 use crate::kinds::Kind;
-use crate::spans::{Entered, Spans};
+use crate::spans::{Entered, Node, Spans};
 use crate::{Tables, spans, values};
 use refusals::Refusal;
 
@@ -205,8 +205,12 @@ fn open(
     let k = st.count(kind);
     let number = k as u32;
     let places = places_of(kind, tables);
-    let len = bytes.len() as u64;
-    match spans::enter(len, tables.work, st.spans, source as u64, kind, number)? {
+    let node = Node {
+        start: source as u64,
+        kind,
+        number,
+    };
+    match spans::enter(bytes.len() as u64, tables.work, st.spans, node)? {
         Entered::Again(n) => Ok(Opened::Again(n)),
         Entered::Fresh(next) => {
             if places <= k {

@@ -24,6 +24,14 @@ pub enum Entered {
     Fresh(Spans),
 }
 
+// A node that is to be read: where it starts, and the number that it has if it is new.
+#[derive(Clone, Copy)]
+pub struct Node {
+    pub start: u64,
+    pub kind: Kind,
+    pub number: u32,
+}
+
 fn over(a: u64, word: u64, start: u64, end: u64) -> bool
     ensures { result ≡ (ltb a end && ltb start (a + size (word % 4))) }
 {
@@ -142,35 +150,30 @@ fn put(work: &mut [u64], h: usize, count: usize, start: u64, word: u64)
 }
 
 // Claims a node, which no span overlaps.
-fn push(work: &mut [u64], st: Spans, start: u64, kind: Kind, number: u32) -> Spans
+fn push(work: &mut [u64], st: Spans, node: Node) -> Spans
     requires { (Rep work.old st.count × (st.count * 4 + 12 ≤ length work.old))
-        × ((number < 4294967295)
-        × (overlaps (spans work.old st.count st.root st.limit) start (start + size (level_of kind)) ≡ false)) }
-    ensures { Pushed work.old work.new st result start (level_of kind) number }
+        × ((node.number < 4294967295)
+        × (overlaps (spans work.old st.count st.root st.limit) node.start (node.start + size (level_of node.kind)) ≡ false)) }
+    ensures { Pushed work.old work.new st result node.start (level_of node.kind) node.number }
 {
     let n = work.len() / 4;
     let count = st.count;
-    let h = chain(n, kind, start / kind.size());
-    put(work, h, count, start, number as u64 * 4 + kind.level());
+    let h = chain(n, node.kind, node.start / node.kind.size());
+    let word = node.number as u64 * 4 + node.kind.level();
+    put(work, h, count, node.start, word);
     Spans {
         count: count + 1,
         ..st
     }
 }
 
-// Claims a node of len bytes, or says why not: 5 past the end, 6 an overlap, 9 no room.
-fn claim(
-    len: u64,
-    work: &mut [u64],
-    st: Spans,
-    start: u64,
-    kind: Kind,
-    number: u32,
-) -> Result<Spans, Refusal>
-    requires { Rep work.old st.count × (number < 4294967295) }
-    ensures { ClaimOut len work.old work.new st result start (level_of kind) number }
+// Claims a node in len bytes, or says why not: 5 past the end, 6 an overlap, 9 no room.
+fn claim(len: u64, work: &mut [u64], st: Spans, node: Node) -> Result<Spans, Refusal>
+    requires { Rep work.old st.count × (node.number < 4294967295) }
+    ensures { ClaimOut len work.old work.new st result node.start (level_of node.kind) node.number }
 {
-    let size = kind.size();
+    let start = node.start;
+    let size = node.kind.size();
     if len < start || len - start < size {
         return Err(Refusal::PastEnd);
     }
@@ -180,7 +183,7 @@ fn claim(
     if work.len() / 4 < st.count + 3 {
         return Err(Refusal::NoPlace);
     }
-    Ok(push(work, st, start, kind, number))
+    Ok(push(work, st, node))
 }
 
 // The words hold no node.
@@ -217,19 +220,12 @@ pub(crate) fn begin(len: u64, work: &mut [u64], root: u64, limit: u64) -> Result
 }
 
 // The node of this kind that starts here: one that has been claimed is used again, and any other is claimed.
-pub(crate) fn enter(
-    len: u64,
-    work: &mut [u64],
-    st: Spans,
-    start: u64,
-    kind: Kind,
-    number: u32,
-) -> Result<Entered, Refusal>
-    requires { Rep work.old st.count × (number < 4294967295) }
-    ensures { EnterOut len work.old work.new st result start (level_of kind) number }
+pub(crate) fn enter(len: u64, work: &mut [u64], st: Spans, node: Node) -> Result<Entered, Refusal>
+    requires { Rep work.old st.count × (node.number < 4294967295) }
+    ensures { EnterOut len work.old work.new st result node.start (level_of node.kind) node.number }
 {
-    match find(work, st, start, kind) {
+    match find(work, st, node.start, node.kind) {
         Some(n) => Ok(Entered::Again(n)),
-        None => Ok(Entered::Fresh(claim(len, work, st, start, kind, number)?)),
+        None => Ok(Entered::Fresh(claim(len, work, st, node)?)),
     }
 }

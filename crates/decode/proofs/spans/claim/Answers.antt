@@ -9,9 +9,9 @@ use Rattle.decode.proofs.spans.claim.Goals.{then-len-start-via-then-len-start, t
 pub returns-then-len-start : goal.returns-then-len-start
 returns-then-len-start c =
     let a = c.args in
-    let n : Node = record { len = a.len; words = a.work.now; spans = a.st; start = a.start; level = level_of a.kind; number = a.number } in
+    let n : Node = record { len = a.len; words = a.work.now; spans = a.st; start = a.node.start; level = level_of a.node.kind; number = a.node.number } in
     let z = c.size-size.ensures in
-    let past : a.len < a.start + size (level_of a.kind) = elim c.then-len-start.branch [
+    let past : a.len < a.node.start + size (level_of a.node.kind) = elim c.then-len-start.branch [
       | then-len-start-via-then-len-start w ↦ omega (arith, z.is, z.least)
       | then-len-start-via-else-len-start+then-len-start-2 w ↦ omega (arith, z.is)
     ] in
@@ -20,26 +20,26 @@ returns-then-len-start c =
 pub returns-then-meets : goal.returns-then-meets
 returns-then-meets c =
     let a = c.args in
-    let n : Node = record { len = a.len; words = a.work.now; spans = a.st; start = a.start; level = level_of a.kind; number = a.number } in
+    let n : Node = record { len = a.len; words = a.work.now; spans = a.st; start = a.node.start; level = level_of a.node.kind; number = a.node.number } in
     let z = c.size-size.ensures in
-    let inside : a.start + size (level_of a.kind) ≤ a.len = omega (arith, z.is) in
+    let inside : a.node.start + size (level_of a.node.kind) ≤ a.len = omega (arith, z.is) in
     let met = rw z.is at (sym c.meets.ensures ∙ c.if-meets.true) in
     (refl, says_6 n inside met)
 
 pub returns-then-work-st : goal.returns-then-work-st
 returns-then-work-st c =
     let a = c.args in
-    let n : Node = record { len = a.len; words = a.work.now; spans = a.st; start = a.start; level = level_of a.kind; number = a.number } in
+    let n : Node = record { len = a.len; words = a.work.now; spans = a.st; start = a.node.start; level = level_of a.node.kind; number = a.node.number } in
     let z = c.size-size.ensures in
-    let inside : a.start + size (level_of a.kind) ≤ a.len = omega (arith, z.is) in
+    let inside : a.node.start + size (level_of a.node.kind) ≤ a.len = omega (arith, z.is) in
     let apart = rw z.is at (sym c.meets.ensures ∙ c.if-meets.false) in
     (refl, says_9 n inside apart (omega arith))
 
 pub returns : goal.returns
 returns c =
     let a = c.args in
-    let n : Node = record { len = a.len; words = a.work.now; spans = a.st; start = a.start; level = level_of a.kind; number = a.number } in
+    let n : Node = record { len = a.len; words = a.work.now; spans = a.st; start = a.node.start; level = level_of a.node.kind; number = a.node.number } in
     let z = c.size-size.ensures in
-    let inside : a.start + size (level_of a.kind) ≤ a.len = omega (arith, z.is) in
+    let inside : a.node.start + size (level_of a.node.kind) ≤ a.len = omega (arith, z.is) in
     let apart = rw z.is at (sym c.meets.ensures ∙ c.if-meets.false) in
     (c.push.ensures, says_ok n inside apart (omega arith))
