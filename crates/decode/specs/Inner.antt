@@ -7,3 +7,4 @@ pub mod Filled
 pub mod Rooted
 pub mod TreeRead
 pub mod GridRead
+pub mod World

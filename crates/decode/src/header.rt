@@ -1,9 +1,10 @@
 // What the bytes say before the tree is read: length, header, world box; and the medium record.
-ghost use Rattle.std.specs.Prelude.{◌≡◌, ◌||◌, ◌+◌, ◌^◌, ◌<◌, eqb, [], ◌∷◌};
+ghost use Rattle.std.specs.Prelude.{◌≡◌, ◌||◌, ℕ, ◌+◌, ◌^◌, ◌<◌, eqb, [], ◌∷◌};
 ghost use Rattle.refusals.specs.Numbers.{fault_of};
 ghost use Rattle.float.specs.Fused.{narrow as narrow_s};
 ghost use Rattle.layout.specs.Bytes.{i32_at, f32_at, f64_at};
 ghost use Rattle.medium.specs.Record.{point_of, coord_of, nine_of, as_medium};
+ghost use Rattle.decode.specs.Inner.World.{SameWorld};
 ghost use Rattle.nanovdb.specs.Decode.{mark_passes, header_passes, bound_at, medium_at, bytes_fault};
 
 use medium::Medium;
@@ -117,7 +118,26 @@ pub(crate) fn medium_at(bytes: &[u8], root: usize) -> Medium
     )
 }
 
-// 1, 2, 3, 4. The world box does not depend on where the root stands.
+// The world box alone, with zeros in place of the rest: 4 is tested before the tree is read and looks at no more, and reading the rest takes time.
+#[tactic(auto, unfolding(nanovdb::specs::Decode::medium_at))]
+fn world_of(bytes: &[u8]) -> Medium
+    ensures { (root : ℕ) → SameWorld (as_medium result) (medium_at bytes.now root) }
+{
+    let low = bounds_at(bytes, 560);
+    let high = bounds_at(bytes, 584);
+    let corner = [0i32; 3];
+    medium::make_medium(
+        low,
+        high,
+        corner,
+        corner,
+        [0.0f32; 9],
+        [0.0f32; 3],
+        [64u32; 3],
+    )
+}
+
+// 1, 2, 3, 4.
 pub(crate) fn check_bytes(bytes: &[u8]) -> Result<(), Refusal>
     ensures { fault_of result ≡ bytes_fault bytes.now }
 {
@@ -131,5 +151,5 @@ pub(crate) fn check_bytes(bytes: &[u8]) -> Result<(), Refusal>
     if !header_passes(bytes) {
         return Err(Refusal::Header);
     }
-    medium_at(bytes, 0).check_bounds()
+    world_of(bytes).check_bounds()
 }

@@ -1,6 +1,4 @@
 -- The ways out of `check_bytes`: 1, 2, 3, and the world box. Assumes nothing.
-use Rattle.std.proofs.Common.{ap, ◌∙◌}
-use Rattle.medium.specs.Medium.{Medium, each, bounds_fault}
 use Rattle.decode.proofs.header.Faults.{fault_long, fault_short, fault_header, fault_bounds}
 use Rattle.decode.proofs.header.check_bytes.Goals as goal
 
@@ -17,4 +15,4 @@ returns-then-not-header_passes c =
 pub returns : goal.returns
 returns c =
     fault_bounds _ c.if-n-gt4294967295.false c.if-n-lt672.false c.header_passes.ensures c.if-not-header_passes.false
-    (c.check_bounds.ensures ∙ ap (λ (m : Medium). each (bounds_fault m)) c.medium_at.ensures)
+    (c.world_of.ensures 0) c.check_bounds.ensures
