@@ -6,7 +6,9 @@ ghost use Rattle.nanovdb.specs.Lent.{lengths};
 ghost use Rattle.decode.specs.Answers.{counts};
 ghost use Rattle.decode.specs.Record.{as_tables, SameSlices};
 ghost use Rattle.decode.specs.Inner.TreeRead.{Zeroed};
-ghost use Rattle.decode.specs.Inner.GridRead.{accepted, counts_of, GridOut, nodes_of, roots_of};
+ghost use Rattle.decode.specs.Inner.Filled.{nodes_of};
+ghost use Rattle.decode.specs.Inner.Rooted.{roots_of};
+ghost use Rattle.decode.specs.Inner.GridRead.{accepted, counts_of, GridOut};
 
 use crate::tree::{Tree, read_tree};
 use crate::{Decoded, Tables, header};
@@ -46,18 +48,7 @@ pub(crate) fn read_scalar(bytes: &[u8], tables: &mut Tables<'_>) -> Result<Decod
 {
     tables.check()?;
     header::check_bytes(bytes)?;
-    let tree = read_tree(
-        bytes,
-        tables.work,
-        tables.blocks,
-        tables.root_links,
-        tables.root_values,
-        tables.upper_links,
-        tables.upper_values,
-        tables.lower_links,
-        tables.lower_values,
-        tables.leaf_values,
-    )?;
+    let tree = read_tree(bytes, tables)?;
     let grid = decoded(bytes, tree);
     check_grid(tables, &grid)?;
     Ok(grid)

@@ -1,16 +1,16 @@
 // What the bytes say before the tree is read: length, header, world box; and the medium record.
-ghost use Rattle.std.specs.Prelude.{◌≡◌, ◌||◌, ℕ, ◌<◌, eqb};
+ghost use Rattle.std.specs.Prelude.{◌≡◌, ◌||◌, ℕ, ◌+◌, ◌^◌, ◌<◌, eqb, [], ◌∷◌};
 ghost use Rattle.refusals.specs.Numbers.{fault_of};
 ghost use Rattle.float.specs.Fused.{narrow as narrow_s};
-ghost use Rattle.layout.specs.Bytes.{f64_at};
-ghost use Rattle.medium.specs.Record.{as_medium};
+ghost use Rattle.layout.specs.Bytes.{i32_at, f32_at, f64_at};
+ghost use Rattle.medium.specs.Record.{point_of, coord_of, nine_of, as_medium};
+ghost use Rattle.decode.specs.Inner.World.{SameWorld};
 ghost use Rattle.nanovdb.specs.Decode.{mark_passes, header_passes, bound_at, medium_at, bytes_fault};
-ghost use Rattle.decode.specs.Inner.Halves.{SameWorld, SameFrame};
 
 use medium::Medium;
 use refusals::Refusal;
 
-// "NanoVDB0" or "NanoVDB1".
+// "NanoVDB0" or "NanoVDB1". Not the test of `contents`: a segment of a file may begin with "NanoVDB2" and not with "NanoVDB1".
 fn mark_passes(mark: u64) -> bool
     ensures { result ≡ mark_passes mark }
 {
@@ -45,81 +45,68 @@ fn bound_at(bytes: &[u8], at: usize) -> f32
     float::narrow(layout::f64_at(bytes, at))
 }
 
-// A medium that has the world box of the grid, and zeros in place of the rest.
-fn world_at(bytes: &[u8]) -> Medium
-    ensures { (root : ℕ) → SameWorld (as_medium result) (medium_at bytes.now root) }
+// Three of them in a row.
+fn bounds_at(bytes: &[u8], at: usize) -> [f32; 3]
+    requires { at < 2 ^ 63 }
+    ensures { let b = bytes.now in
+        point_of result ≡ record { x = bound_at b at; y = bound_at b (at + 8); z = bound_at b (at + 16) } }
 {
-    let low = [
-        bound_at(bytes, 560),
-        bound_at(bytes, 568),
-        bound_at(bytes, 576),
-    ];
-    let high = [
-        bound_at(bytes, 584),
-        bound_at(bytes, 592),
-        bound_at(bytes, 600),
-    ];
-    let none = [0.0f32; 3];
-    let corner = [0i32; 3];
-    medium::make_medium(low, high, corner, corner, [0.0f32; 9], none, [64u32; 3])
+    [
+        bound_at(bytes, at),
+        bound_at(bytes, at + 8),
+        bound_at(bytes, at + 16),
+    ]
 }
 
-// A medium that has the index box and the map of a grid whose root stands at `root`, and zeros in place of the world box.
-pub(crate) fn frame_at(bytes: &[u8], root: usize) -> Medium
-    requires { root < 4294967296 }
-    ensures { SameFrame (as_medium result) (medium_at bytes.now root) }
+// Three i32 in a row.
+fn corner_at(bytes: &[u8], at: usize) -> [i32; 3]
+    requires { at < 2 ^ 63 }
+    ensures { let b = bytes.now in
+        coord_of result ≡ record { x = i32_at b at; y = i32_at b (at + 4); z = i32_at b (at + 8) } }
 {
-    let index_low = [
-        layout::i32_at(bytes, root),
-        layout::i32_at(bytes, root + 4),
-        layout::i32_at(bytes, root + 8),
-    ];
-    let index_high = [
-        layout::i32_at(bytes, root + 12),
-        layout::i32_at(bytes, root + 16),
-        layout::i32_at(bytes, root + 20),
-    ];
-    let map = [
-        layout::f32_at(bytes, 332),
-        layout::f32_at(bytes, 336),
-        layout::f32_at(bytes, 340),
-        layout::f32_at(bytes, 344),
-        layout::f32_at(bytes, 348),
-        layout::f32_at(bytes, 352),
-        layout::f32_at(bytes, 356),
-        layout::f32_at(bytes, 360),
-        layout::f32_at(bytes, 364),
-    ];
-    let translation = [
-        layout::f32_at(bytes, 368),
-        layout::f32_at(bytes, 372),
-        layout::f32_at(bytes, 376),
-    ];
-    let none = [0.0f32; 3];
-    medium::make_medium(
-        none,
-        none,
-        index_low,
-        index_high,
-        map,
-        translation,
-        [64u32; 3],
-    )
+    [
+        layout::i32_at(bytes, at),
+        layout::i32_at(bytes, at + 4),
+        layout::i32_at(bytes, at + 8),
+    ]
+}
+
+// Three f32 in a row.
+fn row_at(bytes: &[u8], at: usize) -> [f32; 3]
+    requires { at < 2 ^ 63 }
+    ensures { let b = bytes.now in
+        point_of result ≡ record { x = f32_at b at; y = f32_at b (at + 4); z = f32_at b (at + 8) } }
+{
+    [
+        layout::f32_at(bytes, at),
+        layout::f32_at(bytes, at + 4),
+        layout::f32_at(bytes, at + 8),
+    ]
+}
+
+// The inverse map, row after row.
+fn map_of(bytes: &[u8]) -> [f32; 9]
+    ensures { let b = bytes.now in nine_of result ≡ f32_at b 332 ∷ f32_at b 336 ∷ f32_at b 340 ∷ f32_at b 344 ∷ f32_at b 348
+        ∷ f32_at b 352 ∷ f32_at b 356 ∷ f32_at b 360 ∷ f32_at b 364 ∷ [] }
+{
+    let [a, b, c] = row_at(bytes, 332);
+    let [d, e, f] = row_at(bytes, 344);
+    let [g, h, i] = row_at(bytes, 356);
+    [a, b, c, d, e, f, g, h, i]
 }
 
 // The medium of a grid whose root stands at `root`.
+#[tactic(auto, unfolding(nanovdb::specs::Decode::medium_at))]
 pub(crate) fn medium_at(bytes: &[u8], root: usize) -> Medium
     requires { root < 4294967296 }
     ensures { as_medium result ≡ medium_at bytes.now root }
 {
-    let world = world_at(bytes);
-    let frame = frame_at(bytes, root);
-    let low = world.low;
-    let high = world.high;
-    let index_low = frame.index_low;
-    let index_high = frame.index_high;
-    let map = frame.map;
-    let translation = frame.translation;
+    let low = bounds_at(bytes, 560);
+    let high = bounds_at(bytes, 584);
+    let index_low = corner_at(bytes, root);
+    let index_high = corner_at(bytes, root + 12);
+    let map = map_of(bytes);
+    let translation = row_at(bytes, 368);
     medium::make_medium(
         low,
         high,
@@ -131,7 +118,26 @@ pub(crate) fn medium_at(bytes: &[u8], root: usize) -> Medium
     )
 }
 
-// 1, 2, 3, 4. The world box does not depend on where the root stands.
+// The world box alone, with zeros in place of the rest: 4 is tested before the tree is read and looks at no more, and reading the rest takes time.
+#[tactic(auto, unfolding(nanovdb::specs::Decode::medium_at))]
+fn world_of(bytes: &[u8]) -> Medium
+    ensures { (root : ℕ) → SameWorld (as_medium result) (medium_at bytes.now root) }
+{
+    let low = bounds_at(bytes, 560);
+    let high = bounds_at(bytes, 584);
+    let corner = [0i32; 3];
+    medium::make_medium(
+        low,
+        high,
+        corner,
+        corner,
+        [0.0f32; 9],
+        [0.0f32; 3],
+        [64u32; 3],
+    )
+}
+
+// 1, 2, 3, 4.
 pub(crate) fn check_bytes(bytes: &[u8]) -> Result<(), Refusal>
     ensures { fault_of result ≡ bytes_fault bytes.now }
 {
@@ -145,5 +151,5 @@ pub(crate) fn check_bytes(bytes: &[u8]) -> Result<(), Refusal>
     if !header_passes(bytes) {
         return Err(Refusal::Header);
     }
-    world_at(bytes).check_bounds()
+    world_of(bytes).check_bounds()
 }

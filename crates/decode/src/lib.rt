@@ -9,6 +9,7 @@ ghost use Rattle.decode.specs.Record.{as_tables, SameSlices};
 
 mod grid;
 mod header;
+mod kinds;
 mod nodes;
 mod spans;
 mod tables;

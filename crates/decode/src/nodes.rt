@@ -1,20 +1,24 @@
-// The node reader: a node of level 2, 1 or 0 (upper, lower, leaf) is read with its children, depth first, slots rising.
+// The node reader: a node is read with its children, depth first, slots rising.
 // The child mask is read a word at a time: the slots up to the next child are values, and are read in one run.
 ghost use Rattle.std.specs.Prelude.{◌≡◌, ◌+◌, ◌*◌, ◌%◌, ◌<◌, ◌≤◌, eqb, length};
-ghost use Rattle.layout.specs.Bytes.{signed, u64_at};
-ghost use Rattle.nanovdb.specs.Nodes.{size_of, entries_of, mask_of, table_of, child_target};
-ghost use Rattle.decode.specs.Inner.Stored.{at_upper, at_lower, slot_value, TilesStored, NextChild};
-ghost use Rattle.decode.specs.Inner.WorkTable.{Rep};
 ghost use Rattle.refusals.specs.Results.{ok, need};
 ghost use Rattle.refusals.specs.Numbers.{said_by};
-ghost use Rattle.decode.specs.Inner.Filled.{slot_target, count_in, places_in, grown_by, room_in};
-ghost use Rattle.decode.specs.Inner.Filled.{Tabs, tabs, with_work, places_of, Few, Fit, OpenOut, NodeOut};
+ghost use Rattle.layout.specs.Bytes.{signed, u64_at};
+ghost use Rattle.nanovdb.specs.Nodes.{size_of, entries_of, table_of, child_target};
+ghost use Rattle.nanovdb.specs.Lent.{lengths};
+ghost use Rattle.decode.specs.Record.{as_tables, SameSlices};
+ghost use Rattle.decode.specs.Inner.Kinds.{level_of};
+ghost use Rattle.decode.specs.Inner.Stored.{at_upper, at_lower, slot_value, TilesStored, NextChild};
+ghost use Rattle.decode.specs.Inner.Filled.{slot_target, count_in, grown_by, room_in};
+ghost use Rattle.decode.specs.Inner.Filled.{nodes_of, places_of, Few, Fit, OpenOut, NodeOut};
+ghost use Rattle.decode.specs.Inner.Rooted.{roots_of};
 
-use crate::spans::{Entered, Spans};
-use crate::{spans, values};
+use crate::kinds::Kind;
+use crate::spans::{Entered, Node, Spans};
+use crate::{Tables, spans, values};
 use refusals::Refusal;
 
-// How far the reader has come: the spans that it has claimed, and how many nodes of each level it has numbered.
+// How far the reader has come: the spans that it has claimed, and how many nodes of each kind it has numbered.
 #[derive(Clone, Copy)]
 pub struct State {
     pub spans: Spans,
@@ -49,64 +53,15 @@ pub enum Opened {
 
 // ---- places in the bytes
 
-fn entries_of(level: u64) -> usize
-    ensures { result ≡ entries_of level }
-{
-    match level {
-        0 => 512,
-        1 => 4096,
-        _ => 32768,
-    }
-}
-
-// Where an internal node's child mask stands.
-fn mask_at(source: usize, level: u64) -> usize
-    requires { source < 4294967296 }
-    ensures { result ≡ source + mask_of level }
-{
-    match level {
-        0 => source,
-        1 => source + 544,
-        _ => source + 4128,
-    }
-}
-
-// Where its slot i stands.
-fn slot_at(source: usize, level: u64, i: usize) -> usize
-    requires { (0 < level) × (source < 4294967296) × (i < 32768) }
-    ensures { result ≡ source + table_of level + 8 * i }
-{
-    if level == 1 {
-        source + 1088 + 8 * i
-    } else {
-        source + 8256 + 8 * i
-    }
-}
-
-// A place that a node may have: a multiple of 32.
-fn child_place(to: usize) -> Result<usize, Refusal>
-    ensures { said_by result ≡ need (eqb (to % 32) 0) 8 (ok to) }
-{
-    if to % 32 == 0 {
-        Ok(to)
-    } else {
-        Err(Refusal::ChildTarget)
-    }
-}
-
-// A child's place: its parent's, moved by the signed number of these bits. Compared before it is added, so nothing wraps.
+// A child's place: its parent's, moved by the signed number of these bits, and a multiple of 32.
 pub(crate) fn child_target(base: usize, bits: u64) -> Result<usize, Refusal>
     requires { base < 4294967296 }
     ensures { said_by result ≡ child_target base (signed 64 bits) }
 {
-    if bits < 9223372036854775808 {
-        return child_place(base + (bits as usize));
+    match base.checked_add_signed((bits as usize).cast_signed()) {
+        Some(to) if to % 32 == 0 => Ok(to),
+        _ => Err(Refusal::ChildTarget),
     }
-    let back = (18446744073709551615 - bits) as usize;
-    if base <= back {
-        return Err(Refusal::ChildTarget);
-    }
-    child_place(base - back - 1)
 }
 
 // The place of the child whose slot has these bits: none of them set is no place.
@@ -121,11 +76,11 @@ fn slot_target(source: usize, bits: u64) -> Result<usize, Refusal>
 }
 
 // The place of the child in slot i of the node at source.
-fn child_at(bytes: &[u8], source: usize, level: u64, i: usize) -> Result<usize, Refusal>
-    requires { (0 < level) × (source < 4294967296) × (i < 32768) }
-    ensures { said_by result ≡ slot_target source (u64_at bytes.now (source + table_of level + 8 * i)) }
+fn child_at(bytes: &[u8], source: usize, kind: Kind, i: usize) -> Result<usize, Refusal>
+    requires { (source < 4294967296) × (i < 32768) }
+    ensures { said_by result ≡ slot_target source (u64_at bytes.now (source + table_of (level_of kind) + 8 * i)) }
 {
-    slot_target(source, layout::u64_at(bytes, slot_at(source, level, i)))
+    slot_target(source, layout::u64_at(bytes, source + kind.table() + 8 * i))
 }
 
 // The first slot from i on, below n, that has a child, or n. A word of the mask is shifted so that slot `at` is its lowest bit.
@@ -146,170 +101,183 @@ fn next_child(bytes: &[u8], mask: usize, i: usize, n: usize) -> usize
 
 // ---- places in the lent tables
 
-fn count_of(level: u64, st: State) -> usize
-    ensures { result ≡ count_in st level }
+// How many whole nodes of a kind its table holds.
+fn places_of(kind: Kind, tables: &Tables<'_>) -> usize
+    ensures { result ≡ places_of (level_of kind) (nodes_of (as_tables tables.now)) }
 {
-    match level {
-        0 => st.leaves,
-        1 => st.lowers,
-        _ => st.uppers,
+    match kind {
+        Kind::Leaf => tables.leaf_values.len() / 512,
+        Kind::Lower => tables.lower_links.len() / 4096,
+        Kind::Upper => tables.upper_links.len() / 32768,
     }
 }
 
-// How many whole nodes of a level its table holds.
-fn places_of(level: u64, upper: usize, lower: usize, leaf: usize) -> usize
-    ensures { result ≡ places_in level upper lower leaf }
-{
-    match level {
-        0 => leaf / 512,
-        1 => lower / 4096,
-        _ => upper / 32768,
+impl State {
+    fn count(self, kind: Kind) -> usize
+        ensures { result ≡ count_in self (level_of kind) }
+    {
+        match kind {
+            Kind::Leaf => self.leaves,
+            Kind::Lower => self.lowers,
+            Kind::Upper => self.uppers,
+        }
+    }
+
+    // The state with one node more of a kind.
+    fn grown(self, kind: Kind, spans: Spans) -> State
+        requires { Few self }
+        ensures { result ≡ grown_by (level_of kind) self spans }
+    {
+        match kind {
+            Kind::Leaf => State {
+                spans,
+                leaves: self.leaves + 1,
+                ..self
+            },
+            Kind::Lower => State {
+                spans,
+                lowers: self.lowers + 1,
+                ..self
+            },
+            Kind::Upper => State {
+                spans,
+                uppers: self.uppers + 1,
+                ..self
+            },
+        }
     }
 }
 
-// The state with one node more of a level.
-fn grown(level: u64, st: State, spans: Spans) -> State
-    requires { (st.uppers < 4294967296) × (st.lowers < 4294967296) × (st.leaves < 4294967296) }
-    ensures { result ≡ grown_by level st spans }
+// The link of a child, one more than its number, at a place in the table of its parent's kind.
+fn link(kind: Kind, upper_links: &mut [u32], lower_links: &mut [u32], at: usize, child: u32)
+    requires { (at < room_in (level_of kind) (length upper_links.old) (length lower_links.old)) × (child < 4294967295) }
+    ensures { let level = level_of kind in
+        (upper_links.new ≡ at_upper level upper_links.old at (child + 1)) × (lower_links.new ≡ at_lower level lower_links.old at (child + 1)) }
 {
-    match level {
-        0 => State {
-            spans,
-            leaves: st.leaves + 1,
-            ..st
-        },
-        1 => State {
-            spans,
-            lowers: st.lowers + 1,
-            ..st
-        },
-        _ => State {
-            spans,
-            uppers: st.uppers + 1,
-            ..st
-        },
-    }
-}
-
-// The child in slot i of a node whose entries begin at base: its link is one more than its number.
-fn link(level: u64, ul: &mut [u32], ll: &mut [u32], base: usize, i: usize, child: u32)
-    requires { (base + i < room_in level (length ul.old) (length ll.old)) × (child < 4294967295) }
-    ensures { (ul.new ≡ at_upper level ul.old (base + i) (child + 1))
-        × (ll.new ≡ at_lower level ll.old (base + i) (child + 1)) }
-{
-    if level == 1 {
-        ll[base + i] = child + 1;
-    } else {
-        ul[base + i] = child + 1;
+    match kind {
+        Kind::Leaf => {}
+        Kind::Lower => lower_links[at] = child + 1,
+        Kind::Upper => upper_links[at] = child + 1,
     }
 }
 
 // The values of the slots `from` to `to` of a node at source, none of which has a child.
 fn tiles_between(
-    level: u64,
+    kind: Kind,
     bytes: &[u8],
     source: usize,
     base: usize,
     from: usize,
     to: usize,
-    uv: &mut [f32],
-    lv: &mut [f32],
+    upper_values: &mut [f32],
+    lower_values: &mut [f32],
 )
-    requires { (0 < level) × (source + size_of level ≤ length bytes.now) × (from ≤ to) × (to ≤ entries_of level)
-        × (base + entries_of level ≤ room_in level (length uv.old) (length lv.old)) }
-    ensures { let value = slot_value bytes.now source level in
-        TilesStored level value base from uv.old lv.old to uv.new lv.new }
+    requires { (source + size_of (level_of kind) ≤ length bytes.now) × (from ≤ to) × (to ≤ entries_of (level_of kind))
+        × (base + entries_of (level_of kind) ≤ room_in (level_of kind) (length upper_values.old) (length lower_values.old)) }
+    ensures { let value = slot_value bytes.now source (level_of kind) in
+        TilesStored (level_of kind) value base from upper_values.old lower_values.old to upper_values.new lower_values.new }
 {
-    if level == 1 {
-        values::run(bytes, source + 1088, lv, base, from, to);
-    } else {
-        values::run(bytes, source + 8256, uv, base, from, to);
+    let table = source + kind.table();
+    match kind {
+        Kind::Leaf => {}
+        Kind::Lower => values::run(bytes, table, lower_values, base, from, to),
+        Kind::Upper => values::run(bytes, table, upper_values, base, from, to),
     }
 }
 
 // ---- the reader
 
-// The node of a level at source: one that has been read is used again; a new one is claimed, and numbered where one of its places is left.
+// The node of a kind at source: one that has been read is used again; a new one is claimed, and numbered where one of its places is left.
 fn open(
     bytes: &[u8],
     source: usize,
-    level: u64,
+    kind: Kind,
     st: State,
-    work: &mut [u64],
-    places: usize,
+    tables: &mut Tables<'_>,
 ) -> Result<Opened, Refusal>
-    requires { (length bytes.now < 4294967296) × (level < 3) × Rep work.old st.spans.count × Few st }
-    ensures { (t : Tabs) →
-        let before = with_work t work.old in
-        let after = with_work t work.new in
-        places ≡ places_of level t → Fit (length bytes.now) before st → OpenOut level bytes.now source before st after result }
+    requires short { length bytes.now < 4294967296 }
+    requires fit { Fit (length bytes.now) (nodes_of (as_tables tables.old)) st }
+    ensures open { OpenOut (level_of kind) bytes.now source (nodes_of (as_tables tables.old)) st (nodes_of (as_tables tables.new)) result }
+    ensures roots { roots_of (as_tables tables.new) ≡ roots_of (as_tables tables.old) }
+    ensures lengths { lengths (as_tables tables.new) ≡ lengths (as_tables tables.old) }
+    ensures same { SameSlices tables.old tables.new }
 {
-    let k = count_of(level, st);
-    match spans::enter(
-        bytes.len() as u64,
-        work,
-        st.spans,
-        source as u64,
-        level,
-        k as u32,
-    )? {
+    let k = st.count(kind);
+    let number = k as u32;
+    let places = places_of(kind, tables);
+    let node = Node {
+        start: source as u64,
+        kind,
+        number,
+    };
+    match spans::enter(bytes.len() as u64, tables.work, st.spans, node)? {
         Entered::Again(n) => Ok(Opened::Again(n)),
         Entered::Fresh(next) => {
             if places <= k {
                 return Err(Refusal::NoPlace);
             }
-            let entries = entries_of(level);
+            let entries = kind.entries();
             Ok(Opened::Fresh(Opening {
-                number: k as u32,
-                mask: mask_at(source, level),
+                number,
+                mask: source + kind.mask(),
                 entries,
                 base: k * entries,
-                now: grown(level, st, next),
+                now: st.grown(kind, next),
             }))
         }
     }
 }
 
-// The node of a level at source, with all that stands below it: its number, and the state after it.
+// The node of a kind at source, with all that stands below it: its number, and the state after it.
 pub(crate) fn node(
     bytes: &[u8],
     source: usize,
-    level: u64,
+    kind: Kind,
     st: State,
-    work: &mut [u64],
-    ul: &mut [u32],
-    uv: &mut [f32],
-    ll: &mut [u32],
-    lv: &mut [f32],
-    leaves: &mut [f32],
+    tables: &mut Tables<'_>,
 ) -> Result<Placed, Refusal>
-    requires { (length bytes.now < 4294967296) × (level < 3)
-        × Fit (length bytes.now) (tabs work.old ul.old uv.old ll.old lv.old leaves.old) st }
-    ensures { let before = tabs work.old ul.old uv.old ll.old lv.old leaves.old in
-        let after = tabs work.new ul.new uv.new ll.new lv.new leaves.new in
-        NodeOut level bytes.now source before st after result }
+    requires short { length bytes.now < 4294967296 }
+    requires fit { Fit (length bytes.now) (nodes_of (as_tables tables.old)) st }
+    ensures node { NodeOut (level_of kind) bytes.now source (nodes_of (as_tables tables.old)) st (nodes_of (as_tables tables.new)) result }
+    ensures roots { roots_of (as_tables tables.new) ≡ roots_of (as_tables tables.old) }
+    ensures lengths { lengths (as_tables tables.new) ≡ lengths (as_tables tables.old) }
+    ensures same { SameSlices tables.old tables.new }
 {
-    let places = places_of(level, ul.len(), ll.len(), leaves.len());
-    let o = match open(bytes, source, level, st, work, places)? {
+    let o = match open(bytes, source, kind, st, tables)? {
         Opened::Again(number) => return Ok(Placed { number, state: st }),
         Opened::Fresh(o) => o,
     };
     let number = o.number;
     let mut state = o.now;
-    if level == 0 {
-        values::leaf(bytes, source, leaves, o.base);
+    let Some(below) = kind.below() else {
+        values::leaf(bytes, source, tables.leaf_values, o.base);
         return Ok(Placed { number, state });
-    }
+    };
     let mut i: usize = 0;
     loop {
         let j = next_child(bytes, o.mask, i, o.entries);
-        tiles_between(level, bytes, source, o.base, i, j, uv, lv);
+        tiles_between(
+            kind,
+            bytes,
+            source,
+            o.base,
+            i,
+            j,
+            tables.upper_values,
+            tables.lower_values,
+        );
         if j == o.entries {
             return Ok(Placed { number, state });
         }
-        let to = child_at(bytes, source, level, j)?;
-        let child = node(bytes, to, level - 1, state, work, ul, uv, ll, lv, leaves)?;
-        link(level, ul, ll, o.base, j, child.number);
+        let to = child_at(bytes, source, kind, j)?;
+        let child = node(bytes, to, below, state, tables)?;
+        link(
+            kind,
+            tables.upper_links,
+            tables.lower_links,
+            o.base + j,
+            child.number,
+        );
         state = child.state;
         i = j + 1;
     }

@@ -1,9 +1,12 @@
-// The spans that a decoder has claimed, in lent words: four to a span. A node is found, and an overlap refused, by chains.
-ghost use Rattle.std.specs.Prelude.{◌≡◌, true, false, ◌&&◌, List, [], ◌∷◌, ◌++◌, ℕ, ◌+◌, ◌-◌, ◌*◌, ◌/◌, ◌%◌, ◌<◌, ◌≤◌, ◌^◌, length, get_or, ltb, eqb};
+// The spans that a decoder has claimed, in lent words: four to a span. A node is found, and an overlap refused, by chains, which stand in the same
+// words: by a rule of the project nothing is allocated, so there is no map.
+ghost use Rattle.std.specs.Prelude.{◌≡◌, Bool, true, false, ◌&&◌, List, [], ◌∷◌, ◌++◌, ℕ, ◌+◌, ◌-◌, ◌*◌, ◌/◌, ◌%◌, ◌<◌, ◌≤◌, ◌^◌, length, get_or, ltb, eqb, IfSome};
 ghost use Rattle.nanovdb.specs.Spans.{overlaps, seen};
-ghost use Rattle.decode.specs.Inner.WorkTable.{size, spans, nodes, header_span, root_span, chain_in, Rep, MetIn, MetAt, FoundIn, seen_of};
+ghost use Rattle.decode.specs.Inner.WorkTable.{size, spans, header_span, root_span, chain_in, Rep, Searched, MetAt, seen_of};
+ghost use Rattle.decode.specs.Inner.Kinds.{level_of};
 ghost use Rattle.decode.specs.Inner.WorkTable.{Small, put_s, Pushed, ClaimOut, RootOut, EnterOut};
 
+use crate::kinds::{Kind, size_of};
 use refusals::Refusal;
 
 // How many nodes have been claimed, and where the root stands.
@@ -21,15 +24,12 @@ pub enum Entered {
     Fresh(Spans),
 }
 
-#[tactic(auto, unfolding(crate::specs::Inner::WorkTable::size))]
-fn size_of(level: u64) -> u64
-    ensures { (result ≡ size level) × ((2144 ≤ result) × (result ≤ 270400)) }
-{
-    match level {
-        0 => 2144,
-        1 => 33856,
-        _ => 270400,
-    }
+// A node that is to be read: where it starts, and the number that it has if it is new.
+#[derive(Clone, Copy)]
+pub struct Node {
+    pub start: u64,
+    pub kind: Kind,
+    pub number: u32,
 }
 
 fn over(a: u64, word: u64, start: u64, end: u64) -> bool
@@ -37,12 +37,6 @@ fn over(a: u64, word: u64, start: u64, end: u64) -> bool
 {
     let s = size_of(word % 4);
     a < end && (start < s || start - s < a)
-}
-
-fn hit(a: u64, word: u64, start: u64, level: u64) -> bool
-    ensures { result ≡ (eqb a start && eqb (word % 4) level) }
-{
-    a == start && word % 4 == level
 }
 
 // Whether the header or the root is met.
@@ -54,41 +48,32 @@ fn fixed(root: u64, limit: u64, start: u64, end: u64) -> bool
     start < 736 || (root < end && start < limit)
 }
 
-fn chain(n: usize, level: u64, q: u64) -> usize
-    requires { (0 < n) × ((q < 2 ^ 60) × (level < 3)) }
-    ensures { (result ≡ chain_in n level q) × (result < n) }
+#[tactic(auto, unfolding(crate::specs::Inner::WorkTable::chain_in))]
+fn chain(n: usize, kind: Kind, q: u64) -> usize
+    requires { (0 < n) × (q < 2 ^ 60) }
+    ensures { (result ≡ chain_in n (level_of kind) q) × (result < n) }
 {
-    ((q + level) % (n as u64)) as usize
+    ((q + kind.level()) % (n as u64)) as usize
 }
 
-fn find_in(work: &[u64], count: usize, h: usize, start: u64, level: u64) -> u64
-    requires { Rep work.now count × ((h < length work.now / 4) × (h ≡ chain_in (length work.now / 4) level (start / size level))) }
-    ensures { FoundIn work.now count start level result }
+// The place of a node of chain h that passes a test of its first two words, if there is one. A link is one more than a place, and 0 ends a chain.
+fn search<F: Fn(u64, u64) -> bool>(work: &[u64], count: usize, h: usize, passes: F) -> Option<usize>
+    requires callable { F.IsAlwaysCallable passes }
+    requires rep { Rep work.now count }
+    requires chain { h < length work.now / 4 }
+    ensures place { IfSome result (λ j. j < count) }
+    ensures found { (test : ℕ → Bool) → ((i : ℕ) (b : Bool) → F.post passes (get_or work.now (i * 4) 0) (get_or work.now (i * 4 + 1) 0) b → b ≡ test i)
+        → Searched work.now count h test result }
 {
     let mut v = work[h * 4 + 3];
     while 0 < v {
         let j = (v - 1) as usize;
-        if hit(work[j * 4], work[j * 4 + 1], start, level) {
-            return v;
+        if passes(work[j * 4], work[j * 4 + 1]) {
+            return Some(j);
         }
         v = work[j * 4 + 2];
     }
-    0
-}
-
-fn meets_in(work: &[u64], count: usize, h: usize, start: u64, end: u64) -> bool
-    requires { Rep work.now count × (h < length work.now / 4) }
-    ensures { MetIn work.now count h start end result }
-{
-    let mut v = work[h * 4 + 3];
-    while 0 < v {
-        let j = (v - 1) as usize;
-        if over(work[j * 4], work[j * 4 + 1], start, end) {
-            return true;
-        }
-        v = work[j * 4 + 2];
-    }
-    false
+    None
 }
 
 // The first stretch of a level with a node that can reach start.
@@ -103,56 +88,56 @@ fn first(start: u64, size: u64) -> u64
     }
 }
 
-fn meets_at(work: &[u64], count: usize, level: u64, start: u64, end: u64) -> bool
-    requires { Rep work.now count × ((level < 3) × (start < end)) }
-    ensures { MetAt work.now count level start end result }
+fn meets_at(work: &[u64], count: usize, kind: Kind, start: u64, end: u64) -> bool
+    requires { Rep work.now count × (start < end) }
+    ensures { MetAt work.now count (level_of kind) start end result }
 {
     let n = work.len() / 4;
-    let size = size_of(level);
+    let size = kind.size();
     let last = (end - 1) / size;
     for q in first(start, size)..last + 1 {
-        let h = chain(n, level, q);
-        if meets_in(work, count, h, start, end) {
+        let h = chain(n, kind, q);
+        let met = search(
+            work,
+            count,
+            h,
+            |a: u64, word: u64| over(a, word, start, end),
+        );
+        if met.is_some() {
             return true;
         }
     }
     false
 }
 
-// The number of the node of this level that starts here, if it has been claimed.
-pub(crate) fn find(work: &[u64], st: Spans, start: u64, level: u64) -> Option<u32>
-    requires { Rep work.now st.count × (level < 3) }
-    ensures { (seen_of result ≡ seen (spans work.now st.count st.root st.limit) start level) × Small result }
+// The number of the node of this kind that starts here, if it has been claimed.
+fn find(work: &[u64], st: Spans, start: u64, kind: Kind) -> Option<u32>
+    requires { Rep work.now st.count }
+    ensures { (seen_of result ≡ seen (spans work.now st.count st.root st.limit) start (level_of kind)) × Small result }
 {
-    let n = work.len() / 4;
-    let size = size_of(level);
-    let h = chain(n, level, start / size);
-    let r = find_in(work, st.count, h, start, level);
-    if r == 0 {
-        return None;
-    }
-    let j = (r - 1) as usize;
+    let level = kind.level();
+    let h = chain(work.len() / 4, kind, start / kind.size());
+    let j = search(
+        work,
+        st.count,
+        h,
+        |a: u64, word: u64| a == start && word % 4 == level,
+    )?;
     Some((work[j * 4 + 1] / 4) as u32)
 }
 
 // Whether some span overlaps the bytes from start to end.
-pub(crate) fn meets(work: &[u64], st: Spans, start: u64, end: u64) -> bool
+fn meets(work: &[u64], st: Spans, start: u64, end: u64) -> bool
     requires { Rep work.now st.count × (start < end) }
     ensures { result ≡ overlaps (spans work.now st.count st.root st.limit) start end }
 {
-    if fixed(st.root, st.limit, start, end) {
-        return true;
-    }
-    let count = st.count;
-    if meets_at(work, count, 0, start, end) {
-        return true;
-    }
-    if meets_at(work, count, 1, start, end) {
-        return true;
-    }
-    meets_at(work, count, 2, start, end)
+    fixed(st.root, st.limit, start, end)
+        || meets_at(work, st.count, Kind::Leaf, start, end)
+        || meets_at(work, st.count, Kind::Lower, start, end)
+        || meets_at(work, st.count, Kind::Upper, start, end)
 }
 
+#[tactic(auto, unfolding(crate::specs::Inner::WorkTable::put_s))]
 fn put(work: &mut [u64], h: usize, count: usize, start: u64, word: u64)
     requires { (count * 4 + 4 ≤ length work.old) × (h < length work.old / 4) }
     ensures { work.new ≡ put_s work.old h count start word }
@@ -165,36 +150,30 @@ fn put(work: &mut [u64], h: usize, count: usize, start: u64, word: u64)
 }
 
 // Claims a node, which no span overlaps.
-pub(crate) fn push(work: &mut [u64], st: Spans, start: u64, level: u64, number: u32) -> Spans
+fn push(work: &mut [u64], st: Spans, node: Node) -> Spans
     requires { (Rep work.old st.count × (st.count * 4 + 12 ≤ length work.old))
-        × ((level < 3) × (number < 4294967295)
-        × (overlaps (spans work.old st.count st.root st.limit) start (start + size level) ≡ false)) }
-    ensures { Pushed work.old work.new st result start level number }
+        × ((node.number < 4294967295)
+        × (overlaps (spans work.old st.count st.root st.limit) node.start (node.start + size (level_of node.kind)) ≡ false)) }
+    ensures { Pushed work.old work.new st result node.start (level_of node.kind) node.number }
 {
     let n = work.len() / 4;
     let count = st.count;
-    let size = size_of(level);
-    let h = chain(n, level, start / size);
-    put(work, h, count, start, number as u64 * 4 + level);
+    let h = chain(n, node.kind, node.start / node.kind.size());
+    let word = node.number as u64 * 4 + node.kind.level();
+    put(work, h, count, node.start, word);
     Spans {
         count: count + 1,
         ..st
     }
 }
 
-// Claims a node of len bytes, or says why not: 5 past the end, 6 an overlap, 9 no room.
-pub(crate) fn claim(
-    len: u64,
-    work: &mut [u64],
-    st: Spans,
-    start: u64,
-    level: u64,
-    number: u32,
-) -> Result<Spans, Refusal>
-    requires { Rep work.old st.count × (level < 3) × (number < 4294967295) }
-    ensures { ClaimOut len work.old work.new st result start level number }
+// Claims a node in len bytes, or says why not: 5 past the end, 6 an overlap, 9 no room.
+fn claim(len: u64, work: &mut [u64], st: Spans, node: Node) -> Result<Spans, Refusal>
+    requires { Rep work.old st.count × (node.number < 4294967295) }
+    ensures { ClaimOut len work.old work.new st result node.start (level_of node.kind) node.number }
 {
-    let size = size_of(level);
+    let start = node.start;
+    let size = node.kind.size();
     if len < start || len - start < size {
         return Err(Refusal::PastEnd);
     }
@@ -204,11 +183,11 @@ pub(crate) fn claim(
     if work.len() / 4 < st.count + 3 {
         return Err(Refusal::NoPlace);
     }
-    Ok(push(work, st, start, level, number))
+    Ok(push(work, st, node))
 }
 
 // The words hold no node.
-pub(crate) fn clear(work: &mut [u64])
+fn clear(work: &mut [u64])
     requires { 8 ≤ length work.old }
     ensures { (Rep work.new 0) × (length work.new ≡ length work.old) }
 {
@@ -240,20 +219,13 @@ pub(crate) fn begin(len: u64, work: &mut [u64], root: u64, limit: u64) -> Result
     })
 }
 
-// The node of this level that starts here: one that has been claimed is used again, and any other is claimed.
-pub(crate) fn enter(
-    len: u64,
-    work: &mut [u64],
-    st: Spans,
-    start: u64,
-    level: u64,
-    number: u32,
-) -> Result<Entered, Refusal>
-    requires { Rep work.old st.count × (level < 3) × (number < 4294967295) }
-    ensures { EnterOut len work.old work.new st result start level number }
+// The node of this kind that starts here: one that has been claimed is used again, and any other is claimed.
+pub(crate) fn enter(len: u64, work: &mut [u64], st: Spans, node: Node) -> Result<Entered, Refusal>
+    requires { Rep work.old st.count × (node.number < 4294967295) }
+    ensures { EnterOut len work.old work.new st result node.start (level_of node.kind) node.number }
 {
-    match find(work, st, start, level) {
+    match find(work, st, node.start, node.kind) {
         Some(n) => Ok(Entered::Again(n)),
-        None => Ok(Entered::Fresh(claim(len, work, st, start, level, number)?)),
+        None => Ok(Entered::Fresh(claim(len, work, st, node)?)),
     }
 }

@@ -1,13 +1,15 @@
 // The tiles of the root, in turn: a block from the tile's key, and a value or the node that stands below it.
-// `rl` and `rv` are the links and values of the roots; `ul`, `uv`, `ll`, `lv` those of upper and lower nodes.
 ghost use Rattle.std.specs.Prelude.{◌≡◌, ◌&&◌, ℕ, ◌+◌, ◌*◌, ◌/◌, ◌%◌, ◌<◌, ◌≤◌, ◌^◌, length};
 ghost use Rattle.layout.specs.Bytes.{signed};
 ghost use Rattle.nanovdb.specs.Tree.{key_passes};
-ghost use Rattle.decode.specs.Inner.Filled.{tabs, Fit};
-ghost use Rattle.decode.specs.Inner.Rooted.{root_tabs, RootPut, TileOut, TilesOut};
+ghost use Rattle.nanovdb.specs.Lent.{lengths};
+ghost use Rattle.decode.specs.Record.{as_tables, SameSlices};
+ghost use Rattle.decode.specs.Inner.Filled.{nodes_of, Fit};
+ghost use Rattle.decode.specs.Inner.Rooted.{root_tabs, roots_of, RootPut, TileOut, TilesOut};
 
-use crate::nodes;
+use crate::kinds::Kind;
 use crate::nodes::State;
+use crate::{Tables, nodes};
 use refusals::Refusal;
 
 // Every bit outside the three fields is 0: 20, 41, 62 and 63.
@@ -23,32 +25,32 @@ fn key_field(bits: u64) -> i32
     ensures { result ≡ signed 20 bits }
 {
     if bits < 524288 {
-        return bits as i32;
+        bits as i32
+    } else {
+        bits as i32 - 1048576
     }
-    let below = (1048575 - bits) as i32;
-    -1 - below
 }
 
 // Root i: the block of its key, its link and its value.
 fn put_root(
     blocks: &mut [i32],
-    rl: &mut [u32],
-    rv: &mut [f32],
+    links: &mut [u32],
+    values: &mut [f32],
     i: usize,
     key: u64,
     link: u32,
     value: f32,
 )
-    requires { (3 * i + 3 ≤ length blocks.old) × (i < length rl.old) × (i < length rv.old) }
-    ensures { let before = root_tabs blocks.old rl.old rv.old in
-        let after = root_tabs blocks.new rl.new rv.new in
+    requires { (3 * i + 3 ≤ length blocks.old) × (i < length links.old) × (i < length values.old) }
+    ensures { let before = root_tabs blocks.old links.old values.old in
+        let after = root_tabs blocks.new links.new values.new in
         RootPut i key link value before after }
 {
     blocks[3 * i] = key_field(key / 4398046511104 % 1048576);
     blocks[3 * i + 1] = key_field(key / 2097152 % 1048576);
     blocks[3 * i + 2] = key_field(key % 1048576);
-    rl[i] = link;
-    rv[i] = value;
+    links[i] = link;
+    values[i] = value;
 }
 
 // Tile i of the root.
@@ -57,24 +59,16 @@ fn tile(
     root: usize,
     i: usize,
     st: State,
-    work: &mut [u64],
-    blocks: &mut [i32],
-    rl: &mut [u32],
-    rv: &mut [f32],
-    ul: &mut [u32],
-    uv: &mut [f32],
-    ll: &mut [u32],
-    lv: &mut [f32],
-    leaves: &mut [f32],
+    tables: &mut Tables<'_>,
 ) -> Result<State, Refusal>
-    requires { (length bytes.now < 4294967296) × (root < 4294967296) × (i < 4294967296) × (3 * i + 3 ≤ length blocks.old)
-        × (i < length rl.old) × (length rv.old ≡ length rl.old)
-        × Fit (length bytes.now) (tabs work.old ul.old uv.old ll.old lv.old leaves.old) st }
-    ensures { let before = tabs work.old ul.old uv.old ll.old lv.old leaves.old in
-        let roots = root_tabs blocks.old rl.old rv.old in
-        let after = tabs work.new ul.new uv.new ll.new lv.new leaves.new in
-        let left = root_tabs blocks.new rl.new rv.new in
-        TileOut bytes.now root i before roots st after left result }
+    requires near { (length bytes.now < 4294967296) × (root < 4294967296) × (i < 4294967296) }
+    requires room { let t = as_tables tables.old in
+        (3 * i + 3 ≤ length t.blocks) × (i < length t.root_links) × (length t.root_values ≡ length t.root_links) }
+    requires fit { Fit (length bytes.now) (nodes_of (as_tables tables.old)) st }
+    ensures tile { let t = as_tables tables.old in let u = as_tables tables.new in
+        TileOut bytes.now root i (nodes_of t) (roots_of t) st (nodes_of u) (roots_of u) result }
+    ensures lengths { lengths (as_tables tables.new) ≡ lengths (as_tables tables.old) }
+    ensures same { SameSlices tables.old tables.new }
 {
     let at = root + 64 + 32 * i;
     let key = layout::u64_at(bytes, at);
@@ -83,12 +77,29 @@ fn tile(
     }
     let relative = layout::u64_at(bytes, at + 8);
     if relative == 0 {
-        put_root(blocks, rl, rv, i, key, 0, layout::f32_at(bytes, at + 20));
+        let value = layout::f32_at(bytes, at + 20);
+        put_root(
+            tables.blocks,
+            tables.root_links,
+            tables.root_values,
+            i,
+            key,
+            0,
+            value,
+        );
         return Ok(st);
     }
     let to = nodes::child_target(root, relative)?;
-    let node = nodes::node(bytes, to, 2, st, work, ul, uv, ll, lv, leaves)?;
-    put_root(blocks, rl, rv, i, key, node.number + 1, 0.0);
+    let node = nodes::node(bytes, to, Kind::Upper, st, tables)?;
+    put_root(
+        tables.blocks,
+        tables.root_links,
+        tables.root_values,
+        i,
+        key,
+        node.number + 1,
+        0.0,
+    );
     Ok(node.state)
 }
 
@@ -98,30 +109,20 @@ pub(crate) fn tiles(
     root: usize,
     count: usize,
     st: State,
-    work: &mut [u64],
-    blocks: &mut [i32],
-    rl: &mut [u32],
-    rv: &mut [f32],
-    ul: &mut [u32],
-    uv: &mut [f32],
-    ll: &mut [u32],
-    lv: &mut [f32],
-    leaves: &mut [f32],
+    tables: &mut Tables<'_>,
 ) -> Result<State, Refusal>
-    requires { (length bytes.now < 4294967296) × (root < 4294967296) × (count < 4294967296)
-        × (length blocks.old ≡ 3 * length rl.old) × (count ≤ length rl.old) × (length rv.old ≡ length rl.old)
-        × Fit (length bytes.now) (tabs work.old ul.old uv.old ll.old lv.old leaves.old) st }
-    ensures { let before = tabs work.old ul.old uv.old ll.old lv.old leaves.old in
-        let roots = root_tabs blocks.old rl.old rv.old in
-        let after = tabs work.new ul.new uv.new ll.new lv.new leaves.new in
-        let left = root_tabs blocks.new rl.new rv.new in
-        TilesOut bytes.now root count before roots st after left result }
+    requires near { (length bytes.now < 4294967296) × (root < 4294967296) × (count < 4294967296) }
+    requires room { let t = as_tables tables.old in
+        (length t.blocks ≡ 3 * length t.root_links) × (count ≤ length t.root_links) × (length t.root_values ≡ length t.root_links) }
+    requires fit { Fit (length bytes.now) (nodes_of (as_tables tables.old)) st }
+    ensures tiles { let t = as_tables tables.old in let u = as_tables tables.new in
+        TilesOut bytes.now root count (nodes_of t) (roots_of t) st (nodes_of u) (roots_of u) result }
+    ensures lengths { lengths (as_tables tables.new) ≡ lengths (as_tables tables.old) }
+    ensures same { SameSlices tables.old tables.new }
 {
     let mut now = st;
     for i in 0..count {
-        now = tile(
-            bytes, root, i, now, work, blocks, rl, rv, ul, uv, ll, lv, leaves,
-        )?;
+        now = tile(bytes, root, i, now, tables)?;
     }
     Ok(now)
 }

@@ -1,12 +1,14 @@
 // The tree: the spans of the header and the root, the tiles, and the node counts.
 ghost use Rattle.std.specs.Prelude.{◌≡◌, ◌&&◌, ◌*◌, ◌<◌, ◌≤◌, eqb, length};
 ghost use Rattle.layout.specs.Bytes.{u32_at};
-ghost use Rattle.decode.specs.Inner.Filled.{tabs};
-ghost use Rattle.decode.specs.Inner.Rooted.{root_tabs};
-ghost use Rattle.decode.specs.Inner.TreeRead.{TreeOut};
+ghost use Rattle.nanovdb.specs.Lent.{lengths};
+ghost use Rattle.decode.specs.Record.{as_tables, SameSlices};
+ghost use Rattle.decode.specs.Inner.Filled.{nodes_of};
+ghost use Rattle.decode.specs.Inner.Rooted.{roots_of};
+ghost use Rattle.decode.specs.Inner.TreeRead.{Paired, TreeOut};
 
 use crate::nodes::State;
-use crate::{spans, tiles};
+use crate::{Tables, spans, tiles};
 use refusals::Refusal;
 
 // Where the root stands, how many tiles it has, and how many nodes were reached.
@@ -28,31 +30,19 @@ fn counts_pass(bytes: &[u8], st: State) -> bool
     st.leaves == leaves && st.lowers == lowers && st.uppers == uppers
 }
 
-pub(crate) fn read_tree(
-    bytes: &[u8],
-    work: &mut [u64],
-    blocks: &mut [i32],
-    rl: &mut [u32],
-    rv: &mut [f32],
-    ul: &mut [u32],
-    uv: &mut [f32],
-    ll: &mut [u32],
-    lv: &mut [f32],
-    leaves: &mut [f32],
-) -> Result<Tree, Refusal>
-    requires { (length bytes.now < 4294967296) × (length blocks.old ≡ 3 * length rl.old) × (length rv.old ≡ length rl.old)
-        × (length uv.old ≡ length ul.old) × (length lv.old ≡ length ll.old) }
-    ensures { let before = tabs work.old ul.old uv.old ll.old lv.old leaves.old in
-        let roots = root_tabs blocks.old rl.old rv.old in
-        let after = tabs work.new ul.new uv.new ll.new lv.new leaves.new in
-        let left = root_tabs blocks.new rl.new rv.new in
-        TreeOut bytes.now before roots after left result }
+pub(crate) fn read_tree(bytes: &[u8], tables: &mut Tables<'_>) -> Result<Tree, Refusal>
+    requires short { length bytes.now < 4294967296 }
+    requires paired { Paired (lengths (as_tables tables.old)) }
+    ensures tree { let t = as_tables tables.old in let u = as_tables tables.new in
+        TreeOut bytes.now (nodes_of t) (roots_of t) (nodes_of u) (roots_of u) result }
+    ensures lengths { lengths (as_tables tables.new) ≡ lengths (as_tables tables.old) }
+    ensures same { SameSlices tables.old tables.new }
 {
     let n = bytes.len();
     if n < 736 {
         return Err(Refusal::PastEnd);
     }
-    if work.len() < 4 {
+    if tables.work.len() < 4 {
         return Err(Refusal::NoPlace);
     }
     let offset = layout::u64_at(bytes, 696) as usize;
@@ -62,8 +52,8 @@ pub(crate) fn read_tree(
     let root = 672 + offset;
     let count = layout::u32_at(bytes, root + 24) as usize;
     let limit = root + 64 + 32 * count;
-    let spans = spans::begin(n as u64, work, root as u64, limit as u64)?;
-    if rl.len() < count {
+    let spans = spans::begin(n as u64, tables.work, root as u64, limit as u64)?;
+    if tables.root_links.len() < count {
         return Err(Refusal::NoPlace);
     }
     let st = State {
@@ -72,9 +62,7 @@ pub(crate) fn read_tree(
         lowers: 0,
         leaves: 0,
     };
-    let nodes = tiles::tiles(
-        bytes, root, count, st, work, blocks, rl, rv, ul, uv, ll, lv, leaves,
-    )?;
+    let nodes = tiles::tiles(bytes, root, count, st, tables)?;
     if !counts_pass(bytes, nodes) {
         return Err(Refusal::NodeCounts);
     }

@@ -1,27 +1,15 @@
 // Runs of values. The whole node lies inside the bytes, so no value is read with a test of the end, and the compiler makes the loops wide.
 ghost use Rattle.std.specs.Prelude.{◌≡◌, ℕ, ◌+◌, ◌*◌, ◌<◌, ◌≤◌, length};
-ghost use Rattle.layout.specs.Bytes.{le, f32_at};
+ghost use Rattle.layout.specs.Bytes.{f32_at};
 ghost use Rattle.decode.specs.Inner.Stored.{leaf_value, Stored, zero_behind};
 
-fn wide(x: u8) -> u32
-    ensures { (result ≡ x) × (result < 256) }
-{
-    x as u32
-}
-
-// Two bytes, the lower one first. A value is two pairs: the compiler joins those to one load, and four bytes in a row it does not.
-fn pair(bytes: &[u8], at: usize) -> u32
-    requires { at + 2 ≤ length bytes.now }
-    ensures { (result ≡ le 2 bytes.now at) × (result < 65536) }
-{
-    wide(bytes[at]) + wide(bytes[at + 1]) * 256
-}
-
+#[tactic(auto, unfolding(layout::specs::Bytes::le))]
 fn value_at(bytes: &[u8], at: usize) -> f32
     requires { at + 4 ≤ length bytes.now }
     ensures { result ≡ f32_at bytes.now at }
 {
-    float::float_of(pair(bytes, at) + pair(bytes, at + 2) * 65536)
+    let four = [bytes[at], bytes[at + 1], bytes[at + 2], bytes[at + 3]];
+    float::float_of(u32::from_le_bytes(four))
 }
 
 // The values of the leaf at source, behind those of the leaves before it.
@@ -29,10 +17,8 @@ pub(crate) fn leaf(bytes: &[u8], source: usize, leaves: &mut [f32], base: usize)
     requires { (source + 2144 ≤ length bytes.now) × (base + 512 ≤ length leaves.old) }
     ensures { Stored (leaf_value bytes.now source) base 0 leaves.old 512 leaves.new }
 {
-    let mut i: usize = 0;
-    while i < 512 {
+    for i in 0..512usize {
         leaves[base + i] = value_at(bytes, source + 96 + 4 * i);
-        i += 1;
     }
 }
 
@@ -48,10 +34,8 @@ pub(crate) fn run(
     requires { (from ≤ to) × (table + 8 * to ≤ length bytes.now) × (base + to ≤ length values.old) }
     ensures { Stored (λ (i : ℕ). f32_at bytes.now (table + 8 * i)) base from values.old to values.new }
 {
-    let mut i = from;
-    while i < to {
+    for i in from..to {
         values[base + i] = value_at(bytes, table + 8 * i);
-        i += 1;
     }
 }
 
@@ -61,6 +45,6 @@ pub(crate) fn zero_behind(values: &mut [f32], leaves: usize)
 {
     if leaves <= values.len() / 512 {
         let used = 512 * leaves;
-        lent::zero_f32(&mut values[used..]);
+        lent::zero(&mut values[used..]);
     }
 }

@@ -17,22 +17,16 @@ use Rattle.nanovdb.specs.Decode.{Accepted, bytes_fault, tree_fault, root_place, 
 use Rattle.nanovdb.specs.Lent.{Answer, Lent, Tables, lengths, lent_fault, places_of, decode_into, answer_of, filled, used_of}
 use Rattle.nanovdb.proofs.HeldTiles.{tree_holds}
 use Rattle.decode.specs.Answers.{counts}
-use Rattle.decode.specs.Inner.Filled.{Holds}
-use Rattle.decode.specs.Inner.Rooted.{RootsHeld}
-use Rattle.decode.specs.Inner.TreeRead.{Zeroed, LendsAll, TreeOut}
-use Rattle.decode.specs.Inner.GridRead.{nodes_of, roots_of, tidied, counts_of, accepted, GridIn}
+use Rattle.decode.specs.Inner.Filled.{nodes_of, Holds}
+use Rattle.decode.specs.Inner.Rooted.{roots_of, RootsHeld}
+use Rattle.decode.specs.Inner.TreeRead.{Paired, Zeroed, LendsAll, TreeOut}
+use Rattle.decode.specs.Inner.GridRead.{tidied, counts_of, accepted, GridIn}
 use Rattle.decode.specs.declared.Decoded.{Decoded}
 use Rattle.decode.specs.declared.tree.Tree.{Tree}
 use Rattle.decode.proofs.grid.Ways.{accepted_of, of_bytes, of_tree, of_fault, of_accepted, into_lent, into_places, of_scalar}
 use Rattle.decode.proofs.grid.Parts.{accepted_by, parts, left, answers}
 
 -- ---- what the first two tests say
-
-pub record Paired (l : Lent) : Type 0 where
-  pub blocks : l.blocks ≡ 3 * l.root_links
-  pub roots : l.root_values ≡ l.root_links
-  pub upper : l.upper_values ≡ l.upper_links
-  pub lower : l.lower_values ≡ l.lower_links
 
 pub pairs : (l : Lent) → lent_fault l ≡ 0 → Paired l
 unfolding lent_fault
@@ -72,12 +66,6 @@ pub record Begun (b : List ℕ) (t : Tables) : Type 0 where
   pub paired : 0 ≡ lent_fault (lengths t)
   pub passed : 0 ≡ bytes_fault b
   pub zeroed : Zeroed (nodes_of t) (roots_of t)
-
--- what the tree reader asks
-pub tree-asks : {b : List ℕ} {t : Tables} → Begun b t
-    → (length b < 4294967296) × (length t.blocks ≡ 3 * length t.root_links) × (length t.root_values ≡ length t.root_links)
-    × (length t.upper_values ≡ length t.upper_links) × (length t.lower_values ≡ length t.lower_links)
-tree-asks {b} {t} begun = let two = pairs (lengths t) (sym begun.paired) in (short b (sym begun.passed), two.blocks, two.roots, two.upper, two.lower)
 
 -- the tree reader has answered `read`, and left the tables u
 pub record Got (b : List ℕ) (t u : Tables) (read : Outcome Tree Refusal) : Type 0 where
@@ -147,11 +135,13 @@ module _ {b : List ℕ} {t u : Tables} {x : Tree} (got : Got b t u (Ok x)) where
 -- ---- a density grid
 
 module _ (b : List ℕ) (t : Tables) where
-  pub dense-refused : (e : Refusal) → decode_into decode_scalar b (lengths t) ≡ refused (number e) → decode_into decode_density b (lengths t) ≡ refused (number e)
+  pub dense-refused : (e : Refusal) → decode_into decode_scalar b (lengths t) ≡ refused (number e)
+      → decode_into decode_density b (lengths t) ≡ refused (number e)
   dense-refused e is = of_scalar b (lengths t) is
 
   module _ (u : Tables) (d : Decoded) (out : GridIn decode_scalar b t u d) where
-    pub dense-fault : (e : Refusal) → number e ≡ density_fault (used_of (counts d) u) → decode_into decode_density b (lengths t) ≡ refused (number e)
+    pub dense-fault : (e : Refusal) → number e ≡ density_fault (used_of (counts d) u)
+        → decode_into decode_density b (lengths t) ≡ refused (number e)
     dense-fault e fault =
         of_scalar b (lengths t) out.is ∙ passing_stop (density_fault (used_of (counts d) u)) (ok (accepted d u)) (λ z. number_some e (fault ∙ z))
         ∙ ap refused (sym fault)

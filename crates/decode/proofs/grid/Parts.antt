@@ -13,10 +13,10 @@ use Rattle.nanovdb.specs.Tree.{Root, Roots}
 use Rattle.nanovdb.specs.Decode.{Accepted, link_of, value_of, blocks_of, tables_of, medium_at, medium_of, root_place}
 use Rattle.nanovdb.specs.Lent.{Answer, Tables, lengths, answer_of, filled, used_of}
 use Rattle.nanovdb.proofs.HeldNodes.{Inv2}
-use Rattle.decode.specs.Inner.Filled.{Starts, Holds}
+use Rattle.decode.specs.Inner.Filled.{nodes_of, Starts, Holds}
 use Rattle.decode.specs.Inner.Stored.{zero_behind}
-use Rattle.decode.specs.Inner.Rooted.{RootsHeld}
-use Rattle.decode.specs.Inner.GridRead.{nodes_of, roots_of, tidied, counts_of}
+use Rattle.decode.specs.Inner.Rooted.{roots_of, RootsHeld}
+use Rattle.decode.specs.Inner.GridRead.{tidied, counts_of}
 use Rattle.decode.specs.declared.tree.Tree.{Tree}
 use Rattle.decode.proofs.tiles.Roots.{blocks_length}
 use Rattle.decode.proofs.grid.Ways.{accepted_of}

@@ -1,7 +1,7 @@
 -- The answers of `open` and of `node`, one for each way out. Assumes nothing.
 use mathlib.Core.Path.{◌≡◌, refl, sym, ap, ◌∙◌, subst}
 use mathlib.Core.List.{List}
-use Prim.Native.Nat.{ℕ, zero, suc, ◌+◌, ◌-◌, ◌*◌, ◌%◌, ◌≤◌, ◌<◌}
+use Prim.Native.Nat.{ℕ, zero, suc, ◌+◌, ◌-◌, ◌*◌, ◌≤◌, ◌<◌}
 use native.Mathlib.Omega.{arith}
 use lib.ListN.{length}
 use lib.Ieee.{Float}
@@ -10,10 +10,11 @@ use Rattle.layout.specs.Bytes.{u64_at, mask_bit}
 use Rattle.sparse_grid.specs.declared.Entry.{Entry}
 use Rattle.nanovdb.specs.Spans.{Span, nowhere, seen}
 use Rattle.nanovdb.specs.Nodes.{Places, State, claim, with_span, size_of, entries_of, mask_of, table_of, nodes_at, places_at, leaf_placed, placed, slots_read, node}
+use Rattle.nanovdb.specs.Lent.{Lent, Tables, tables, lengths}
 use Rattle.nanovdb.proofs.HeldNodes.{span_of, opening}
 use Rattle.decode.specs.Inner.WorkTable.{size, node_span, Pushed, EnterOut}
-use Rattle.decode.specs.Inner.Filled.{slot_target, count_in, places_of, room_in, grown_by, Tabs, Kept, Fit, Holds, Lends, Reads, NodeOut, OpenOut}
-use Rattle.decode.specs.Inner.Filled.{filling, numbered, with_work, NewNode}
+use Rattle.decode.specs.Inner.Filled.{slot_target, count_in, places_of, grown_by, Tabs, Kept, Fit, Holds, Lends, Reads, NodeOut, OpenOut}
+use Rattle.decode.specs.Inner.Filled.{filling, numbered, nodes_of, with_work, NewNode}
 use Rattle.decode.specs.Inner.Stored.{at_upper, at_lower, leaf_value, slot_value, Stored, TilesStored, NextChild}
 use Rattle.decode.specs.declared.spans.Spans.{Spans}
 use Rattle.decode.specs.declared.spans.Entered.{Entered}
@@ -28,16 +29,11 @@ use Rattle.refusals.specs.Numbers.{said_by}
 use Rattle.refusals.specs.declared.Refusal.TheVariants.{NoPlace}
 use Rattle.refusals.specs.declared.Refusal.{Refusal}
 use Rattle.decode.proofs.nodes.Steps.{node_again, node_stops, node_full, node_filled, filled_leaf, filled_broke, filled_ends}
-use Rattle.decode.proofs.nodes.Fits.{room_of, room_of_lem, room_kept, entries_most, leaf_room, fresh_inside, fit_fresh, fit_kept}
+use Rattle.decode.proofs.nodes.Fits.{room_of, room_of_lem, room_kept, leaf_room, fresh_inside, fit_fresh, fit_kept}
 use Rattle.decode.proofs.nodes.Levels.{less_one}
 use Rattle.decode.proofs.nodes.Tables.{with_links, with_values, with_leaves, holds_opened, holds_leaf, holds_placed, holds_begun, slots_ready, leaf_base}
 use Rattle.decode.proofs.nodes.Turns.{Slot, Stops, stops_off, stops_child, passes_child, kept_on, lends_kept}
 use Rattle.decode.proofs.nodes.Turns.{Begins, Turn, turn_more, turn_stops, turn_tiles}
-
--- a number that comes back is small enough for a link
-pub node-number : {level : ℕ} {b : List ℕ} {source : ℕ} {t u : Tabs} {st : Progress.State} {n : Placed} → NodeOut level b source t st u (Ok n)
-    → n.number < 4294967295
-node-number out = out.fit.1
 
 -- the number of the next node, in the code and in the definition
 counts : (level : ℕ) {t : Tabs} {st : Progress.State} {d : State} {lower upper : List Entry} → Holds t st d lower upper
@@ -142,16 +138,34 @@ module _ {b : List ℕ} {source level k : ℕ} {st : Progress.State} {w v : List
               };
         }
 
+-- ---- the calls of `node`
+
+-- of the level below
+pub below_out : {l m : ℕ} (b : List ℕ) (source : ℕ) (t : Tabs) (st : Progress.State) (u : Tabs) (r : Answer Placed Refusal) → l ≡ suc m
+    → NodeOut m b source t st u r → NodeOut (l - 1) b source t st u r
+below_out b source t st u r e = subst (λ (k : ℕ). NodeOut k b source t st u r) (omega (arith, e))
+
+-- with the values of a run
+abbrev pub with_run : Tables → List Float → List Float → Tables
+with_run t uv lv = tables t.blocks t.root_links t.root_values t.upper_links uv t.lower_links lv t.leaf_values t.work
+
+-- tables that keep their lengths
+pub kept_of : (t u : Tables) → lengths u ≡ lengths t → Kept (nodes_of t) (nodes_of u)
+kept_of t u e = record {
+  work = ap (λ (l : Lent). l.work) e;
+  upper_links = ap (λ (l : Lent). l.upper_links) e;
+  upper_values = ap (λ (l : Lent). l.upper_values) e;
+  lower_links = ap (λ (l : Lent). l.lower_links) e;
+  lower_values = ap (λ (l : Lent). l.lower_values) e;
+  leaf_values = ap (λ (l : Lent). l.leaf_values) e;
+}
+
 -- ---- the answers of `node` where it is new
 
 module _ {level : ℕ} {b : List ℕ} {source : ℕ} {t : Tabs} {st : Progress.State} {u : Tabs} {o : Opening} (new : NewNode level b source t st u o) where
   -- the entries of the nodes before it
   from : (p : Places) (d : State) {lower upper : List Entry} → Reads level b t st p d lower upper → nodes_at d level * entries_of level ≡ o.base
   from p d R = ap (λ (n : ℕ). n * entries_of level) (new.says p d _ _ R).number ∙ sym new.base
-
-  -- its entries are whole words of a mask
-  pub whole_words : (o.entries ≤ 32768) × (o.entries % 64 ≡ 0)
-  whole_words = entries_most level new.entries
 
   pub leaf-place : level ≡ 0 → o.base + 512 ≤ length u.leaf_values
   leaf-place z = omega (arith, leaf_room level t z new.room new.base, new.kept.leaf_values)
@@ -193,9 +207,6 @@ module _ {level : ℕ} {b : List ℕ} {source : ℕ} {t : Tabs} {st : Progress.S
   -- each of its entries has its place
   place : o.base + entries_of level ≤ room_of level v
   place = room_kept level turn-keeps.upper_links turn-keeps.lower_links (room_of_lem level t n.above n.new.room n.new.base)
-
-  pub value_room : o.base + entries_of level ≤ room_in level (length v.upper_values) (length v.lower_values)
-  value_room = room_kept level turn.fit.upper_pair turn.fit.lower_pair place
 
   -- the values up to the next child
   pub run-to : {j : ℕ} {uv lv : List Float} → NextChild b o.mask i o.entries j
@@ -268,9 +279,6 @@ module _ {level : ℕ} {b : List ℕ} {source : ℕ} {t : Tabs} {st : Progress.S
 
     set : mask_bit b (source + mask_of level) j ≡ 1
     set = subst (λ (m : ℕ). mask_bit b m j ≡ 1) a.node.new.mask a.set
-
-    pub link-room : {x : Tabs} → Kept v x → o.base + j < room_of level x
-    link-room kept = room_kept level kept.upper_links kept.lower_links slot.room
 
   pub out-off : {e : Refusal} {x : Tabs} → Aimed level b source t st u o v s j (Err e) → NodeOut level b source t st x (Err e)
   out-off a = out-broke a.node a.turn a.here (stops_off (slot a) (set a) a.aims)

@@ -20,17 +20,6 @@ pub record Passed (b : List ℕ) (mask i n at : ℕ) : Type 0 where
   pub to : at ≤ n
   pub clear : (j : ℕ) → i ≤ j → j < at → mask_bit b mask j ≡ 0
 
-pub passed_none : {b : List ℕ} {mask i n : ℕ} → i ≤ n → Passed b mask i n i
-passed_none h = record { from = omega arith; to = h; clear = λ j p q. absurd (omega arith) }
-
-pub passed_all : {b : List ℕ} {mask i n at : ℕ} → Passed b mask i n at → n ≤ at → NextChild b mask i n n
-passed_all p h = record {
-  from = omega (arith, p.from, p.to);
-  to = omega arith;
-  clear = λ j f t. p.clear j f (omega arith);
-  found = λ t. absurd (omega arith);
-}
-
 module _ {b : List ℕ} (bytes : Bytes b) {mask i n at left : ℕ} (p : Passed b mask i n at) (here : at < n) (whole : n % 64 ≡ 0)
     (is : left ≡ mask_word b mask (at / 64) / 2 ^ (at % 64)) where
   -- the bits of a word that is shifted so that slot `at` is its lowest

@@ -2,14 +2,14 @@
 use mathlib.Core.Path.{◌≡◌, refl, sym, ap, ◌∙◌, subst}
 use mathlib.Core.List.{List, [], ◌∷◌, ◌++◌}
 use mathlib.Core.Bool.{Bool, true, false, not}
-use Prim.Native.Nat.{ℕ, zero, suc, ◌+◌, ◌*◌, ◌/◌, ◌%◌, ◌≤◌, ◌<◌}
+use Prim.Native.Nat.{ℕ, zero, suc, ◌+◌, ◌*◌, ◌/◌, ◌≤◌, ◌<◌}
 use native.Mathlib.Omega.{arith}
 use lib.Dec.{T, leb, ltb}
 use lib.ListN.{length, drop, replicate, length-replicate}
 use Rattle.refusals.specs.Results.{ok, need}
 use Rattle.refusals.specs.ResultLaws.{need_ok}
 use Rattle.nanovdb.specs.Spans.{overlaps}
-use Rattle.nanovdb.specs.Nodes.{Places, State, claim, with_span, size_of, entries_of}
+use Rattle.nanovdb.specs.Nodes.{Places, State, claim, with_span, entries_of}
 use Rattle.decode.specs.Inner.WorkTable.{Rep, nodes, spans, size, header_span, root_span, node_span, ClaimOut}
 use Rattle.decode.specs.Inner.Packed.{Packed, packed_more, packed_few, no_either}
 use Rattle.decode.specs.Inner.Filled.{Tabs, with_work, Few, Fit, count_in, grown_by, places_of, room_in}
@@ -147,23 +147,6 @@ room_of_lem (suc (suc n)) t p h e = omega arith
 pub leaf_room : (level : ℕ) (t : Tabs) {k base : ℕ} → level ≡ 0 → k < places_of level t → base ≡ k * entries_of level → base + 512 ≤ length t.leaf_values
 leaf_room zero t z h e = omega arith
 leaf_room (suc n) t z h e = absurd (omega arith)
-
--- a leaf's bytes
-pub leaf_inside : (level source : ℕ) {len : ℕ} → level ≡ 0 → source + size_of level ≤ len → source + 2144 ≤ len
-leaf_inside zero source e h = h
-leaf_inside (suc n) source e h = absurd (omega arith)
-
--- its entries are whole words of a mask
-pub entries_most : (level : ℕ) {n : ℕ} → n ≡ entries_of level → (n ≤ 32768) × (n % 64 ≡ 0)
-entries_most zero e = (omega arith, omega arith)
-entries_most (suc zero) e = (omega arith, omega arith)
-entries_most (suc (suc n)) e = (omega arith, omega arith)
-
--- where they begin fits a usize
-pub base_fits : (level : ℕ) {k entries : ℕ} → entries ≡ entries_of level → k < 4294967295 → k * entries < 18446744073709551616
-base_fits zero e h = rw e (omega arith)
-base_fits (suc zero) e h = rw e (omega arith)
-base_fits (suc (suc n)) e h = rw e (omega arith)
 
 -- the room of tables of the same lengths
 pub room_kept : (level : ℕ) {ul ul' ll ll' at : ℕ} → ul' ≡ ul → ll' ≡ ll → at ≤ room_in level ul ll → at ≤ room_in level ul' ll'

@@ -8,9 +8,12 @@ use lib.ListN.{length, set, length-append, length-set}
 use lib.Seq.{set-append_seam}
 use lib.Ieee.{Float}
 use Rattle.layout.specs.Bytes.{f32_at}
-use Rattle.nanovdb.specs.Nodes.{size_of, entries_of, leaf_values}
+use Rattle.nanovdb.specs.Nodes.{table_of, leaf_values}
 use Rattle.nanovdb.proofs.Held.{leaf_values_length}
-use Rattle.decode.specs.Inner.Filled.{room_in, Starts}
+use Rattle.decode.specs.Inner.Kinds.{level_of}
+use Rattle.decode.specs.declared.kinds.Kind.{Kind}
+use Rattle.decode.specs.declared.kinds.Kind.TheVariants.{Lower, Upper}
+use Rattle.decode.specs.Inner.Filled.{Starts}
 use Rattle.decode.specs.Inner.Stored.{leaf_value, slot_value, Stored, stored_none, stored_more, at_upper, at_lower, TilesStored, tiles_none, tiles_more}
 
 module _ {f : ℕ → Float} {base from : ℕ} where
@@ -37,32 +40,21 @@ module _ {f : ℕ → Float} {base from : ℕ} where
   tiles_from tiles_none = omega arith
   tiles_from (tiles_more s) = let h = tiles_from s in omega arith
 
--- the run of a level: inside the bytes and the table, and where its values go
-module _ (b : List ℕ) (source : ℕ) {base from to : ℕ} where
-  pub lower_run : (level : ℕ) {uv l m : List Float} → level ≡ 1 → Stored (λ (i : ℕ). f32_at b (source + 1088 + 8 * i)) base from l to m
-      → TilesStored level (slot_value b source level) base from uv l to uv m
-  lower_run zero e s = absurd (omega arith)
-  lower_run (suc zero) e s = tiles_lower s
-  lower_run (suc (suc n)) e s = absurd (omega arith)
+-- the run of a kind: where its values go
+module _ (b : List ℕ) (source : ℕ) {base from to at : ℕ} (k : Kind) (place : at ≡ table_of (level_of k)) where
+  placed : {n : ℕ} {l m : List Float} → level_of k ≡ n → Stored (λ (i : ℕ). f32_at b (source + at + 8 * i)) base from l to m
+      → Stored (slot_value b source n) base from l to m
+  placed {l = l} {m} e s = subst (λ (t : ℕ). Stored (λ (i : ℕ). f32_at b (source + t + 8 * i)) base from l to m) (place ∙ ap table_of e) s
 
-  pub upper_run : (level : ℕ) {lv l m : List Float} → 0 < level → (level ≡ 1 → ⊥)
-      → Stored (λ (i : ℕ). f32_at b (source + 8256 + 8 * i)) base from l to m → TilesStored level (slot_value b source level) base from l lv to m lv
-  upper_run zero a e s = absurd (omega arith)
-  upper_run (suc zero) a e s = absurd (e refl)
-  upper_run (suc (suc n)) a e s = tiles_upper s
+  pub lower_run : {uv l m : List Float} → k ≡ Lower → Stored (λ (i : ℕ). f32_at b (source + at + 8 * i)) base from l to m
+      → TilesStored (level_of k) (slot_value b source (level_of k)) base from uv l to uv m
+  lower_run {uv} {l} {m} e s =
+      subst (λ (n : ℕ). TilesStored n (slot_value b source n) base from uv l to uv m) (sym (ap level_of e)) (tiles_lower (placed (ap level_of e) s))
 
-module _ (len source base to upper lower : ℕ) where
-  pub lower_inside : (level : ℕ) → level ≡ 1 → source + size_of level ≤ len → to ≤ entries_of level → base + entries_of level ≤ room_in level upper lower
-      → (source + 1088 + 8 * to ≤ len) × (base + to ≤ lower)
-  lower_inside zero e whole last room = absurd (omega arith)
-  lower_inside (suc zero) e whole last room = (omega arith, omega arith)
-  lower_inside (suc (suc n)) e whole last room = absurd (omega arith)
-
-  pub upper_inside : (level : ℕ) → 0 < level → (level ≡ 1 → ⊥) → source + size_of level ≤ len → to ≤ entries_of level
-      → base + entries_of level ≤ room_in level upper lower → (source + 8256 + 8 * to ≤ len) × (base + to ≤ upper)
-  upper_inside zero a e whole last room = absurd (omega arith)
-  upper_inside (suc zero) a e whole last room = absurd (e refl)
-  upper_inside (suc (suc n)) a e whole last room = (omega arith, omega arith)
+  pub upper_run : {lv l m : List Float} → k ≡ Upper → Stored (λ (i : ℕ). f32_at b (source + at + 8 * i)) base from l to m
+      → TilesStored (level_of k) (slot_value b source (level_of k)) base from l lv to m lv
+  upper_run {lv} {l} {m} e s =
+      subst (λ (n : ℕ). TilesStored n (slot_value b source n) base from l lv to m lv) (sym (ap level_of e)) (tiles_upper (placed (ap level_of e) s))
 
 -- a store by the level keeps the lengths
 pub upper_kept : {A : Type 0} (level : ℕ) (l : List A) (at : ℕ) (x : A) → length (at_upper level l at x) ≡ length l

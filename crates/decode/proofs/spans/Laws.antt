@@ -3,15 +3,17 @@ use mathlib.Core.Path.{◌≡◌, refl, sym, ap, ◌∙◌}
 use mathlib.Core.Logic.{◌⊎◌, inl, inr, ⊎_elim}
 use mathlib.Core.Bool.{Bool, true, false, cond, ◌&&◌, ◌||◌}
 use mathlib.Core.List.{List, [], ◌∷◌, ◌++◌}
-use Prim.Native.Nat.{ℕ, zero, suc, ◌+◌, ◌-◌, ◌*◌, ◌/◌, ◌%◌, ◌<◌, ◌≤◌, ◌^◌}
-use native.Mathlib.Nat.{eq-or-lt_of_le, le-div_iff_mul-le, mul-div-le, mul_comm, zero-div, div-lt_iff_lt-mul}
+use Prim.Native.Nat.{ℕ, zero, suc, ◌+◌, ◌-◌, ◌*◌, ◌/◌, ◌<◌, ◌≤◌}
+use native.Mathlib.Nat.{eq-or-lt_of_le, le-div_iff_mul-le, mul-div-le, mul_comm}
 use native.Mathlib.Omega.{arith}
 use lib.ListN.{length}
 use lib.Dec.{ltb, eqb}
-use borrow.Author.Tests.{lt-ltb, le-ltb, ltb-true, ltb-false, ne_eqb, eqb-true}
+use borrow.Author.Tests.{lt-ltb, ltb-true, ltb-false, ne_eqb, eqb-true}
+use Rattle.std.specs.Prelude.{Option, None, Some}
+use Rattle.std.specs.Option.{is_some}
 use Rattle.nanovdb.specs.Spans.{Span, Seen, at, nowhere, overlaps, seen}
 use Rattle.decode.specs.Inner.WorkTable.{node_start, node_level, node_number, chain_link, chain_head, size, span_at, nodes, header_span, root_span}
-use Rattle.decode.specs.Inner.WorkTable.{spans, chain_in, chain_of, Rep, over, hits, MetIn, MetAt, FoundIn}
+use Rattle.decode.specs.Inner.WorkTable.{spans, chain_in, chain_of, Rep, over, hits, Searched, MetAt}
 use Rattle.decode.specs.declared.spans.Spans.{Spans}
 
 -- ---- tests
@@ -134,17 +136,23 @@ hits_parts w i s l t = let b = and_both _ _ t in (eqb-true _ _ b.0, eqb-true _ _
 
 -- ---- what a search says of the list
 
-module _ {w : List ℕ} {count s l r : ℕ} (f : FoundIn w count s l r) (root limit : ℕ) where
-  pub seen_at : Rep w count → l < 3 → 0 < r → at (node_number w (r - 1)) ≡ seen (spans w count root limit) s l
-  seen_at rep p q =
-      let t = hits_parts w (r - 1) s l (f.yes q) in
-      let low : r - 1 < count = omega (arith, f.below) in
-      let alone : (j : ℕ) → j < r - 1 → hits w j s l ≡ false
-      = λ j m. false_of _ (λ u. let v = hits_parts w j s l u in rep.apart j (r - 1) m low (v.0 ∙ sym t.0) (v.1 ∙ sym t.1)) in
-      sym (seen_spans w count root limit s l p ∙ seen_first w count (r - 1) s l low (f.yes q) alone)
+pub chain_hit : (w : List ℕ) (i s l : ℕ) → hits w i s l ≡ true → chain_of w i ≡ chain_in (length w / 4) l (s / size l)
+unfolding chain_of
+chain_hit w i s l t = let b = hits_parts w i s l t in rw (b.0, b.1)
 
-  pub seen_no : l < 3 → r ≡ 0 → nowhere ≡ seen (spans w count root limit) s l
-  seen_no p q = sym (seen_spans w count root limit s l p ∙ seen_none w count s l (f.no q))
+module _ {w : List ℕ} {count : ℕ} (s : ℕ) {l : ℕ} (rep : Rep w count) (root limit : ℕ) (three : l < 3) where
+  pub seen_at : (i : ℕ) → i < count → hits w i s l ≡ true → at (node_number w i) ≡ seen (spans w count root limit) s l
+  seen_at i low hit =
+      let t = hits_parts w i s l hit in
+      let alone : (j : ℕ) → j < i → hits w j s l ≡ false
+      = λ j m. false_of _ (λ u. let v = hits_parts w j s l u in rep.apart j i m low (v.0 ∙ sym t.0) (v.1 ∙ sym t.1)) in
+      sym (seen_spans w count root limit s l three ∙ seen_first w count i s l low hit alone)
+
+  pub seen_no : {h : ℕ} → h ≡ chain_in (length w / 4) l (s / size l) → Searched w count h (λ (i : ℕ). hits w i s l) None
+      → nowhere ≡ seen (spans w count root limit) s l
+  seen_no e none =
+      sym (seen_spans w count root limit s l three
+      ∙ seen_none w count s l (λ i m. false_of _ (λ u. not_both _ u (none i m (chain_hit w i s l u ∙ sym e)))))
 
 -- ---- the walk of a chain
 
@@ -156,9 +164,6 @@ pub record Walk (w : List ℕ) (count h : ℕ) (t : ℕ → Bool) (v : ℕ) : Ty
 module _ {w : List ℕ} {count h : ℕ} {t : ℕ → Bool} where
   pub walk_start : Rep w count → h < length w / 4 → Walk w count h t (chain_head w h)
   walk_start rep l = let q = rep.head h l in record { below = q.below; here = q.here; past = λ i a b e. absurd (q.none i a b e) }
-
-  pub walk_less : {v : ℕ} → Rep w count → 0 < v → Walk w count h t v → chain_link w (v - 1) < v
-  walk_less {v} rep p k = let low : v - 1 < count = omega (arith, k.below) in omega (arith, (rep.link (v - 1) low).below)
 
   pub walk_next : {v : ℕ} → Rep w count → 0 < v → Walk w count h t v → t (v - 1) ≡ false → Walk w count h t (chain_link w (v - 1))
   walk_next {v} rep p k f =
@@ -178,27 +183,12 @@ module _ {w : List ℕ} {count h : ℕ} {t : ℕ → Bool} where
             (split (ltb i v));
       }
 
-pub chain_hit : (w : List ℕ) (i s l : ℕ) → hits w i s l ≡ true → chain_of w i ≡ chain_in (length w / 4) l (s / size l)
-unfolding chain_of
-chain_hit w i s l t = let b = hits_parts w i s l t in rw (b.0, b.1)
+module _ {w : List ℕ} {count h v : ℕ} {t : ℕ → Bool} (k : Walk w count h t v) where
+  pub search_here : 0 < v → t (v - 1) ≡ true → Searched w count h t (Some (v - 1))
+  search_here p f = (omega (arith, k.below), f)
 
-module _ {w : List ℕ} {count s l : ℕ} {h v : ℕ} (k : Walk w count h (λ (i : ℕ). hits w i s l) v) where
-  pub found_here : 0 < v → hits w (v - 1) s l ≡ true → FoundIn w count s l v
-  found_here p t = record { below = k.below; yes = λ _. t; no = λ e. absurd (omega arith) }
-
-  pub found_none : v ≤ 0 → h ≡ chain_in (length w / 4) l (s / size l) → FoundIn w count s l 0
-  found_none p e = record {
-    below = omega arith;
-    yes = λ q. absurd (omega arith);
-    no = λ _ i m. false_of _ (λ u. not_both _ u (k.past i (omega arith) m (chain_hit w i s l u ∙ sym e)));
-  }
-
-module _ {w : List ℕ} {count h s e v : ℕ} (k : Walk w count h (λ (i : ℕ). over w i s e) v) where
-  pub met_here : 0 < v → over w (v - 1) s e ≡ true → MetIn w count h s e true
-  met_here p t = record { yes = λ _. over_some w count (v - 1) s e (omega (arith, k.below)) t; no = λ f. not_both true refl f }
-
-  pub met_none : v ≤ 0 → MetIn w count h s e false
-  met_none p = record { yes = λ f. not_both false f refl; no = λ _ i m c. k.past i (omega arith) m c }
+  pub search_none : v ≤ 0 → Searched w count h t None
+  search_none p = λ i m e. k.past i (omega arith) m e
 
 -- ---- the stretches of one level
 
@@ -213,12 +203,12 @@ module _ (w : List ℕ) (count level s e : ℕ) (pos : 0 < size level) where
       let c : s < node_start w i + size level = rw l at b.1 in
       div_mono _ _ _ pos (omega arith)
 
-  pub from_next : (q : ℕ) {h : ℕ} {r : Bool} → h ≡ chain_in (length w / 4) level q → r ≡ false → MetIn w count h s e r → From w count level s e q
+  pub from_next : (q : ℕ) {h : ℕ} → h ≡ chain_in (length w / 4) level q → Searched w count h (λ (i : ℕ). over w i s e) None → From w count level s e q
       → From w count level s e (q + 1)
   unfolding chain_of
-  from_next q c g k f i m l t =
+  from_next q c none f i m l t =
       ⊎_elim
-      (λ (x : q ≡ node_start w i / size level). not_both _ t (k.no g i m (rw (l, sym x) (sym c))))
+      (λ (x : q ≡ node_start w i / size level). not_both _ t (none i m (rw (l, sym x) (sym c))))
       (λ (x : q < node_start w i / size level). omega arith)
       (eq-or-lt_of_le (f i m l t))
 
@@ -231,16 +221,16 @@ module _ (w : List ℕ) (count level s e : ℕ) (pos : 0 < size level) where
         omega (arith, f i m l t));
   }
 
-pub met_at : {w : List ℕ} {count h level s e : ℕ} {r : Bool} → r ≡ true → MetIn w count h s e r → MetAt w count level s e true
-met_at t k = record { yes = λ _. k.yes t; no = λ f. not_both true refl f }
+module _ (w : List ℕ) (count h s e : ℕ) where
+  pub some_met : {level : ℕ} (r : Option ℕ) → is_some r ≡ true → Searched w count h (λ (i : ℕ). over w i s e) r → MetAt w count level s e true
+  some_met (Some i) t (low, met) = record { yes = λ _. over_some w count i s e low met; no = λ f. not_both true refl f }
+  some_met None t f = not_both false t refl
+
+  pub none_met : (r : Option ℕ) → is_some r ≡ false → Searched w count h (λ (i : ℕ). over w i s e) r → Searched w count h (λ (i : ℕ). over w i s e) None
+  none_met (Some i) t f = not_both true refl t
+  none_met None t f = f
 
 -- ---- the whole list
-
-three : (l : ℕ) → l < 3 → (l ≡ 0) ⊎ ((l ≡ 1) ⊎ (l ≡ 2))
-three zero p = inl refl
-three (suc zero) p = inr (inl refl)
-three (suc (suc zero)) p = inr (inr refl)
-three (suc (suc (suc l))) p = absurd (omega arith)
 
 -- r says whether the header or the root is met
 module _ (w : List ℕ) (s : Spans) (start e : ℕ) {r : Bool} (fixed : r ≡ overlaps (header_span ∷ (root_span s.root s.limit ∷ [])) start e) where
@@ -250,16 +240,38 @@ module _ (w : List ℕ) (s : Spans) (start e : ℕ) {r : Bool} (fixed : r ≡ ov
   pub whole_nodes : r ≡ false → {x : Bool} → x ≡ overlaps (nodes w s.count) start e → x ≡ overlaps (spans w s.count s.root s.limit) start e
   whole_nodes t y = y ∙ sym (overlaps_spans w s.count s.root s.limit start e ∙ rw (sym fixed, t))
 
-pub levels : {w : List ℕ} {count s e : ℕ} {a b c : Bool} → Rep w count → MetAt w count 0 s e a → a ≡ false → MetAt w count 1 s e b → b ≡ false
-    → MetAt w count 2 s e c → c ≡ overlaps (nodes w count) s e
-levels {w} {count} {s} {e} {c = c} rep x p y q z = ⊎_elim (λ t. t ∙ sym (z.yes t)) (λ f. f ∙ sym (over_none w count s e (none f))) (split c)
-  where
-    none : c ≡ false → (i : ℕ) → i < count → over w i s e ≡ false
-    none f i m =
-        ⊎_elim
-        (λ g. x.no p i m g)
-        (λ u. ⊎_elim (λ g. y.no q i m g) (λ g. z.no f i m g) u)
-        (three (node_level w i) (rep.level i m))
+-- v says whether the header, the root or a node of a level below n is met
+pub record MetBelow (w : List ℕ) (s : Spans) (start e n : ℕ) (v : Bool) : Type 0 where
+  pub yes : v ≡ true → overlaps (spans w s.count s.root s.limit) start e ≡ true
+  pub no : v ≡ false
+      → (overlaps (header_span ∷ (root_span s.root s.limit ∷ [])) start e ≡ false)
+      × ((i : ℕ) → i < s.count → node_level w i < n → over w i start e ≡ false)
+
+module _ (w : List ℕ) (s : Spans) (start e : ℕ) where
+  pub met_fixed : {v : Bool} → v ≡ overlaps (header_span ∷ (root_span s.root s.limit ∷ [])) start e → MetBelow w s start e 0 v
+  met_fixed f = record { yes = λ t. sym (whole_fixed w s start e f t); no = λ x. (sym f ∙ x, λ i m l. absurd (omega arith)) }
+
+  pub met_already : {n : ℕ} {v x : Bool} → MetBelow w s start e n v → v ≡ true → x ≡ v → MetBelow w s start e (n + 1) x
+  met_already b t y = record { yes = λ _. b.yes t; no = λ f. not_both _ t (sym y ∙ f) }
+
+  pub met_more : {n : ℕ} {v r x : Bool} → MetBelow w s start e n v → v ≡ false → MetAt w s.count n start e r → x ≡ r → MetBelow w s start e (n + 1) x
+  met_more {n} b f m is = record {
+    yes = λ t. sym (whole_nodes w s start e (sym (b.no f).0) refl (sym (m.yes (sym is ∙ t))));
+    no = λ t. (
+      (b.no f).0,
+      λ i low level.
+          ⊎_elim (λ (x : node_level w i ≡ n). m.no (sym is ∙ t) i low x) (λ (x : node_level w i < n). (b.no f).1 i low x)
+          (eq-or-lt_of_le (omega (arith, level))),
+    );
+  }
+
+  pub met_all : {v : Bool} → Rep w s.count → MetBelow w s start e 3 v → v ≡ overlaps (spans w s.count s.root s.limit) start e
+  met_all {v} rep b =
+      ⊎_elim (λ t. t ∙ sym (b.yes t))
+      (λ f.
+      let all = over_none w s.count start e (λ i low. (b.no f).1 i low (rep.level i low)) in
+      f ∙ whole_nodes w s start e (sym (b.no f).0) refl (sym all))
+      (split v)
 
 pub size_pos : (l : ℕ) → 0 < size l
 unfolding size
@@ -271,70 +283,6 @@ size_pos (suc (suc l)) = omega arith
 
 pub both : (p q : Bool) → p ≡ true → q ≡ true → true ≡ (p && q)
 both p q a b = rw (a, b)
-
-pub left_no : (p q : Bool) → p ≡ false → false ≡ (p && q)
-left_no p q a = rw a
-
-pub right_no : (p q : Bool) → q ≡ false → false ≡ (p && q)
-right_no p q a = rw (a, and_no p)
-
-pub size_0 : (l : ℕ) → l ≡ 0 → 2144 ≡ size l
-unfolding size
-size_0 zero e = refl
-size_0 (suc l) e = absurd (omega arith)
-
-pub size_1 : (l : ℕ) → l ≡ 1 → 33856 ≡ size l
-unfolding size
-size_1 zero e = absurd (omega arith)
-size_1 (suc zero) e = refl
-size_1 (suc (suc l)) e = absurd (omega arith)
-
-pub size_2 : (l : ℕ) → (l ≡ 0 → ⊥) → (l ≡ 1 → ⊥) → 270400 ≡ size l
-unfolding size
-size_2 zero p n = absurd (p refl)
-size_2 (suc zero) p n = absurd (n refl)
-size_2 (suc (suc l)) p n = refl
-
--- (s + 1 - z) / z where s is less than z, and where it is not
-pub first_0 : (s z : ℕ) → 0 < z → s < z → 0 ≡ (s + 1 - z) / z
-first_0 s z p l = let e : s + 1 - z ≡ 0 = omega arith in rw (e, zero-div z)
-
-pub first_1 : (s z : ℕ) → z ≤ s → (s - z + 1) / z ≡ (s + 1 - z) / z
-first_1 s z l = let e : s - z + 1 ≡ s + 1 - z = omega arith in rw e
-
-module _ (root limit s e : ℕ) where
-  pub fixed_header : s < 736 → s < e → true ≡ overlaps (header_span ∷ (root_span root limit ∷ [])) s e
-  unfolding overlaps
-  fixed_header a b = rw (lt-ltb 0 e (omega arith), lt-ltb s 736 a)
-
-  pub fixed_root : 736 ≤ s → root < e → s < limit → true ≡ overlaps (header_span ∷ (root_span root limit ∷ [])) s e
-  unfolding overlaps
-  fixed_root a b c = rw (le-ltb s 736 a, and_no (ltb 0 e), lt-ltb root e b, lt-ltb s limit c)
-
-  pub fixed_before : 736 ≤ s → e ≤ root → false ≡ overlaps (header_span ∷ (root_span root limit ∷ [])) s e
-  unfolding overlaps
-  fixed_before a b = rw (le-ltb s 736 a, and_no (ltb 0 e), le-ltb root e b)
-
-  pub fixed_after : 736 ≤ s → limit ≤ s → false ≡ overlaps (header_span ∷ (root_span root limit ∷ [])) s e
-  unfolding overlaps
-  fixed_after a b = rw (le-ltb s 736 a, and_no (ltb 0 e), le-ltb s limit b, and_no (ltb root e))
-
-pub quot_small : (x k : ℕ) → x < 2 ^ 64 → 2144 ≤ k → x / k < 2 ^ 60
-quot_small x k p l = let q : 0 < k = omega arith in (div-lt_iff_lt-mul q).1 (omega arith)
-
--- `over` of the code, with z the size that was looked up
-module _ (a e s word : ℕ) {z : ℕ} (q : z ≡ size (word % 4)) where
-  pub over_near : a < e → s < z → true ≡ (ltb a e && ltb s (a + size (word % 4)))
-  over_near x y = both _ _ (lt-ltb a e x) (lt-ltb s (a + size (word % 4)) (omega arith))
-
-  pub over_in : a < e → z ≤ s → s - z < a → true ≡ (ltb a e && ltb s (a + size (word % 4)))
-  over_in x y h = both _ _ (lt-ltb a e x) (lt-ltb s (a + size (word % 4)) (omega arith))
-
-  pub over_past : z ≤ s → a ≤ s - z → false ≡ (ltb a e && ltb s (a + size (word % 4)))
-  over_past y h = right_no (ltb a e) _ (le-ltb s (a + size (word % 4)) (omega arith))
-
-  pub over_before : e ≤ a → false ≡ (ltb a e && ltb s (a + size (word % 4)))
-  over_before x = left_no _ _ (le-ltb a e x)
 
 or_right : (p q : Bool) → (p || q) ≡ false → q ≡ false
 or_right true q e = not_both true refl e
@@ -351,6 +299,3 @@ clear_of w k root limit s l i f m a b =
     let t : over w i s (s + size l) ≡ true = sym (both _ _ begins ends) in
     not_both _ (over_some w k i s (s + size l) m t)
     (or_right (overlaps (header_span ∷ (root_span root limit ∷ [])) s (s + size l)) _ (sym (overlaps_spans w k root limit s (s + size l)) ∙ f))
-
-pub number_small : {w : List ℕ} {count s l r : ℕ} → Rep w count → 0 < r → FoundIn w count s l r → node_number w (r - 1) < 4294967295
-number_small {r = r} rep p f = rep.number (r - 1) (omega (arith, f.below))

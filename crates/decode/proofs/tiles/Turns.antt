@@ -1,21 +1,21 @@
 -- The answers of `tile`, and the loop over the root's tiles. Assumes nothing.
 use mathlib.Core.Path.{◌≡◌, refl, sym, ap, ◌∙◌, subst}
 use mathlib.Core.List.{List, [], ◌∷◌, ◌++◌}
-use mathlib.Core.Bool.{true, false}
+use mathlib.Core.Bool.{true}
 use Prim.Native.Nat.{ℕ, suc, ◌+◌, ◌*◌, ◌/◌, ◌≤◌, ◌<◌}
 use native.Mathlib.Omega.{arith}
 use lib.ListN.{length}
 use lib.Ieee.{Float}
 use borrow.Author.Tests.{eq-eqb, ne_eqb}
-use Rattle.refusals.specs.Results.{ok, refused, bind}
+use Rattle.refusals.specs.Results.{ok, bind}
 use Rattle.refusals.specs.ResultLaws.{run_more, run_stop}
 use Rattle.float.specs.Zero.{+0}
 use Rattle.layout.specs.Bytes.{signed, u64_at, i64_at, f32_at}
 use Rattle.sparse_grid.specs.declared.Entry.TheVariants.{Child, Tile}
 use Rattle.nanovdb.specs.Nodes.{Places, State, Read, child_target, node}
 use Rattle.nanovdb.specs.Tree.{Roots, root_of, key_passes, tile_read, tiles_read}
+use Rattle.nanovdb.specs.Lent.{Lent, lengths}
 use Rattle.nanovdb.proofs.HeldTiles.{tiles_read_lem}
-use Rattle.nanovdb.proofs.Kept.{Kept, kept_on}
 use Rattle.decode.specs.Inner.Filled.{Tabs, Fit, Holds, Reads, NodeOut}
 use Rattle.decode.specs.Inner.Rooted.{RootTabs, RootsHeld, RootPut, TileOut, TilesOut}
 use Rattle.decode.specs.Inner.GridRead.{all_tables}
@@ -24,27 +24,16 @@ use Rattle.decode.specs.declared.nodes.Placed as Placed
 use Rattle.std.specs.Prelude.{Ok, Err, Result as Answer}
 use Rattle.refusals.specs.Numbers.{number, said_by}
 use Rattle.refusals.specs.declared.Refusal.{Refusal}
-use Rattle.refusals.specs.declared.Refusal.TheVariants.{KeyBit}
 
 -- ---- the ways of the definition's tile
 
 module _ (b : List ℕ) (p : Places) (root i : ℕ) (r : Roots) where
-  tile_key : key_passes (u64_at b (root + 64 + 32 * i)) ≡ false → tile_read b p root i r ≡ refused 7
-  tile_key e = rw e
-
   module _ (passes : key_passes (u64_at b (root + 64 + 32 * i)) ≡ true) where
     tile_value : (v : Float) → u64_at b (root + 64 + 32 * i + 8) ≡ 0 → v ≡ f32_at b (root + 64 + 32 * i + 20)
         → tile_read b p root i r ≡ ok (record { roots = r.roots ++ (root_of (u64_at b (root + 64 + 32 * i)) (Tile v) ∷ []); state = r.state })
     tile_value v e is = rw (passes, eq-eqb (u64_at b (root + 64 + 32 * i + 8)) 0 e, is)
 
     module _ (some : u64_at b (root + 64 + 32 * i + 8) ≡ 0 → ⊥) where
-      tile_off : (e : ℕ) → refused e ≡ child_target root (i64_at b (root + 64 + 32 * i + 8)) → tile_read b p root i r ≡ refused e
-      tile_off e t = rw (passes, ne_eqb (u64_at b (root + 64 + 32 * i + 8)) 0 some, sym t)
-
-      tile_refused : (to e : ℕ) → ok to ≡ child_target root (i64_at b (root + 64 + 32 * i + 8)) → node 2 b p to r.state ≡ refused e
-          → tile_read b p root i r ≡ refused e
-      tile_refused to e t n = rw (passes, ne_eqb (u64_at b (root + 64 + 32 * i + 8)) 0 some, sym t, n)
-
       tile_child : (to : ℕ) (n : Read) → ok to ≡ child_target root (i64_at b (root + 64 + 32 * i + 8)) → node 2 b p to r.state ≡ ok n
           → tile_read b p root i r
           ≡ ok (record { roots = r.roots ++ (root_of (u64_at b (root + 64 + 32 * i)) (Child n.number) ∷ []); state = n.state })
@@ -63,10 +52,6 @@ pub record Aimed (b : List ℕ) (root i key relative : ℕ) (place : Answer ℕ 
   pub word : relative ≡ u64_at b (root + 64 + 32 * i + 8)
   pub some : relative ≡ 0 → ⊥
   pub aims : said_by place ≡ child_target root (signed 64 relative)
-
-pub tile_out_key : {b : List ℕ} {root i key : ℕ} {t u : Tabs} {q v : RootTabs} {st : Progress.State} → key ≡ u64_at b (root + 64 + 32 * i)
-    → key_passes key ≡ false → TileOut b root i t q st u v (Err KeyBit)
-tile_out_key {b} {root} {i} is fails = record { fit = tt; says = λ p r R h s. tile_key b p root i r (ap key_passes (sym is) ∙ fails) }
 
 module _ {b : List ℕ} {root i key : ℕ} (k : Keyed b root i key) where
   passed : key_passes (u64_at b (root + 64 + 32 * i)) ≡ true
@@ -94,24 +79,11 @@ module _ {b : List ℕ} {root i key relative : ℕ} where
     aimed : said_by place ≡ child_target root (i64_at b (root + 64 + 32 * i + 8))
     aimed = a.aims ∙ ap (λ (x : ℕ). child_target root (signed 64 x)) a.word
 
-  pub tile_out_off : {e : Refusal} {t u : Tabs} {q v : RootTabs} {st : Progress.State} → Aimed b root i key relative (Err e)
-      → TileOut b root i t q st u v (Err e)
-  tile_out_off {e} a = record {
-    fit = tt;
-    says = λ p r R h s. tile_off b p root i r (passed a.keyed) (is_some a) (number e) (aimed a);
-  }
-
   -- the node at `to` has been read into the tables u
   module _ {to : ℕ} (a : Aimed b root i key relative (Ok to)) {t u : Tabs} {st : Progress.State} where
-    pub tile_out_refused : {e : Refusal} {q v : RootTabs} → NodeOut 2 b to t st u (Err e) → TileOut b root i t q st u v (Err e)
-    tile_out_refused {e} out = record {
-      fit = tt;
-      says = λ p r R h s. tile_refused b p root i r (passed a.keyed) (is_some a) to (number e) (aimed a) (out.says p r.state [] [] R);
-    }
-
-    pub tile_out_child : {c : Placed.Placed} {link : ℕ} {value : Float} {q v : RootTabs} → NodeOut 2 b to t st u (Ok c) → link ≡ c.number + 1
-        → value ≡ +0 → RootPut i key link value q v → TileOut b root i t q st u v (Ok c.state)
-    tile_out_child {c} out one nil put = record {
+    pub tile_out_child : {c : Placed.Placed} {link : ℕ} {value : Float} {q x v : RootTabs} → NodeOut 2 b to t st u (Ok c) → x ≡ q
+        → link ≡ c.number + 1 → value ≡ +0 → RootPut i key link value x v → TileOut b root i t q st u v (Ok c.state)
+    tile_out_child {c} out kept one nil put = record {
       fit = out.fit.0;
       says = λ p r R h size.
           let n = c.number in
@@ -120,7 +92,7 @@ module _ {b : List ℕ} {root i key relative : ℕ} where
             record { roots = r.roots ++ (root_of key (Child n) ∷ []); state = e },
             subst (λ (k : ℕ). tile_read b p root i r ≡ ok (record { roots = r.roots ++ (root_of k (Child n) ∷ []); state = e })) (sym a.keyed.is) child,
             holds,
-            put.put r.roots (Child n) h size (sym one) (sym nil),
+            put.put r.roots (Child n) (subst (λ (k : RootTabs). RootsHeld k r.roots) (sym kept) h) size (sym one) (sym nil),
           );
     }
 
@@ -130,7 +102,7 @@ module _ {b : List ℕ} {root i key relative : ℕ} where
 pub record Row (b : List ℕ) (root count : ℕ) (t₀ : Tabs) (q₀ : RootTabs) (st₀ : Progress.State) (t : Tabs) (q : RootTabs) (st : Progress.State) (i : ℕ)
     : Type 0 where
   pub turn : i ≤ count
-  pub kept : Kept (all_tables t₀ q₀) (all_tables t q)
+  pub kept : lengths (all_tables t q) ≡ lengths (all_tables t₀ q₀)
   pub fit : Fit (length b) t st
   pub says : (p : Places) (d : State) → Reads 2 b t₀ st₀ p d [] [] → RootsHeld q₀ []
       → (n : Roots) × (tiles_read b p root i d ≡ ok n) × Holds t st n.state [] [] × RootsHeld q n.roots
@@ -139,17 +111,7 @@ pub row_begins : {b : List ℕ} {root count : ℕ} {t : Tabs} {q : RootTabs} {st
 unfolding tiles_read
 row_begins f = record {
   turn = omega arith;
-  kept = record {
-    blocks = refl;
-    root_links = refl;
-    root_values = refl;
-    upper_links = refl;
-    upper_values = refl;
-    lower_links = refl;
-    lower_values = refl;
-    leaf_values = refl;
-    work = refl;
-  };
+  kept = refl;
   fit = f;
   says = λ p d R h. (record { roots = []; state = d }, refl, R.holds, h);
 }
@@ -170,10 +132,10 @@ module _ {b : List ℕ} {root count : ℕ} {t₀ t : Tabs} {q₀ q : RootTabs} {
         record {
           holds = holds;
           lends = record {
-            spans = R.lends.spans ∙ ap (λ (k : ℕ). k / 4) (sym row.kept.work);
-            upper = R.lends.upper ∙ ap (λ (k : ℕ). k / 32768) (sym row.kept.upper_links);
-            lower = R.lends.lower ∙ ap (λ (k : ℕ). k / 4096) (sym row.kept.lower_links);
-            leaf = R.lends.leaf ∙ ap (λ (k : ℕ). k / 512) (sym row.kept.leaf_values);
+            spans = R.lends.spans ∙ ap (λ (k : ℕ). k / 4) (sym (ap (λ (l : Lent). l.work) row.kept));
+            upper = R.lends.upper ∙ ap (λ (k : ℕ). k / 32768) (sym (ap (λ (l : Lent). l.upper_links) row.kept));
+            lower = R.lends.lower ∙ ap (λ (k : ℕ). k / 4096) (sym (ap (λ (l : Lent). l.lower_links) row.kept));
+            leaf = R.lends.leaf ∙ ap (λ (k : ℕ). k / 512) (sym (ap (λ (l : Lent). l.leaf_values) row.kept));
           };
           ready = tiled.keeps;
           shut = (refl, refl);
@@ -184,11 +146,11 @@ module _ {b : List ℕ} {root count : ℕ} {t₀ t : Tabs} {q₀ q : RootTabs} {
 
   -- tile i has been read into the tables u and v
   module _ {u : Tabs} {v : RootTabs} (more : i < count) where
-    pub row_more : {s : Progress.State} → TileOut b root i t q st u v (Ok s) → Kept (all_tables t q) (all_tables u v)
+    pub row_more : {s : Progress.State} → TileOut b root i t q st u v (Ok s) → lengths (all_tables u v) ≡ lengths (all_tables t q)
         → Row b root count t₀ q₀ st₀ u v s (i + 1)
     row_more out k = record {
       turn = omega arith;
-      kept = kept_on row.kept k;
+      kept = k ∙ row.kept;
       fit = out.fit;
       says = λ p d R g.
           let (n, read, reads, roots, size) = handed p d R g in

@@ -16,13 +16,11 @@ use Rattle.nanovdb.specs.Nodes.{Places, State, empty, with_span, claim}
 use Rattle.nanovdb.specs.Tree.{tree}
 use Rattle.nanovdb.specs.Decode.{root_place, blocks_of}
 use Rattle.nanovdb.proofs.HeldTiles.{start, tiles_read_lem}
-use Rattle.nanovdb.proofs.Kept.{Kept}
 use Rattle.decode.specs.Inner.WorkTable.{header_span, root_span, nodes, RootOut}
 use Rattle.decode.specs.Inner.Packed.{Packed}
 use Rattle.decode.specs.Inner.Filled.{Tabs, Fit, Holds, Reads, with_work}
 use Rattle.decode.specs.Inner.Rooted.{RootTabs, RootsHeld, TilesSay, TilesOut}
 use Rattle.decode.specs.Inner.TreeRead.{Zeroed, LendsAll, TreeOut}
-use Rattle.decode.specs.Inner.GridRead.{all_tables}
 use Rattle.decode.specs.declared.spans.Spans.{Spans}
 use Rattle.std.specs.Prelude.{Ok, Err, Result as Answer}
 use Rattle.refusals.specs.Numbers.{number}
@@ -72,20 +70,6 @@ pub asks : (t : Tabs) (w : List ℕ) (r : Answer Spans Refusal) {b : List ℕ} {
 asks t w r long words is near are says = record {
   root = record { long = long; words = words; offset-is = is; near = near; tiles-are = are };
   says = says;
-}
-
--- other words of the same length
-pub words-kept : (t : Tabs) (q : RootTabs) (w : List ℕ) → length w ≡ length t.work → Kept (all_tables t q) (all_tables (with_work t w) q)
-words-kept t q w e = record {
-  blocks = refl;
-  root_links = refl;
-  root_values = refl;
-  upper_links = refl;
-  upper_values = refl;
-  lower_links = refl;
-  lower_values = refl;
-  leaf_values = refl;
-  work = e;
 }
 
 -- ---- before the root is claimed

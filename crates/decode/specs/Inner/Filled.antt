@@ -9,6 +9,7 @@ use Rattle.layout.specs.Bytes.{signed}
 use Rattle.sparse_grid.specs.declared.Entry.{Entry}
 use Rattle.nanovdb.specs.Nodes.{by_level, size_of, entries_of, mask_of, nodes_at, Places, State, Read, Slots, child_target, slots_read, leaf_placed, placed, node}
 use Rattle.nanovdb.specs.Decode.{link_of, value_of}
+use Rattle.nanovdb.specs.Lent.{Tables}
 use Rattle.nanovdb.specs.InTables.{Inv0, Inv1, Inv2, opening}
 use Rattle.decode.specs.Inner.WorkTable.{Rep, nodes, spans}
 use Rattle.decode.specs.Inner.Packed.{Packed}
@@ -58,6 +59,10 @@ tabs work upper_links upper_values lower_links lower_values leaf_values = record
   lower_values = lower_values;
   leaf_values = leaf_values;
 }
+
+-- the lent tables, but for those of the roots
+abbrev pub nodes_of : Tables → Tabs
+nodes_of t = tabs t.work t.upper_links t.upper_values t.lower_links t.lower_values t.leaf_values
 
 -- the same tables beside other words
 abbrev pub with_work : Tabs → List ℕ → Tabs

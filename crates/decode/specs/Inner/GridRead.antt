@@ -9,18 +9,11 @@ use Rattle.nanovdb.specs.Nodes.{Places}
 use Rattle.nanovdb.specs.Decode.{Accepted, medium_at}
 use Rattle.nanovdb.specs.Lent.{Answer, Tables, tables, lengths, decode_into, answer_of, filled, zeros, used_of}
 use Rattle.decode.specs.Answers.{counts}
-use Rattle.decode.specs.Inner.Filled.{Tabs, tabs}
+use Rattle.decode.specs.Inner.Filled.{Tabs}
 use Rattle.decode.specs.Inner.Stored.{zero_behind}
-use Rattle.decode.specs.Inner.Rooted.{RootTabs, root_tabs}
+use Rattle.decode.specs.Inner.Rooted.{RootTabs}
 use Rattle.decode.specs.declared.Decoded.{Decoded}
 use Rattle.decode.specs.declared.tree.Tree.{Tree}
-
--- ---- the tables by name: those of the nodes, and those of the roots
-abbrev pub nodes_of : Tables → Tabs
-nodes_of t = tabs t.work t.upper_links t.upper_values t.lower_links t.lower_values t.leaf_values
-
-abbrev pub roots_of : Tables → RootTabs
-roots_of t = root_tabs t.blocks t.root_links t.root_values
 
 abbrev pub all_tables : Tabs → RootTabs → Tables
 all_tables t q = tables q.blocks q.links q.values t.upper_links t.upper_values t.lower_links t.lower_values t.leaf_values t.work

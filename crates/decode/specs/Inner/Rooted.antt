@@ -9,6 +9,7 @@ use Rattle.sparse_grid.specs.declared.Entry.{Entry}
 use Rattle.nanovdb.specs.Nodes.{Places, State}
 use Rattle.nanovdb.specs.Tree.{Root, Roots, root_of, tile_read, tiles_read}
 use Rattle.nanovdb.specs.Decode.{link_of, value_of, blocks_of}
+use Rattle.nanovdb.specs.Lent.{Tables}
 use Rattle.decode.specs.Inner.Filled.{Tabs, Fit, Holds, Reads}
 use Rattle.decode.specs.declared.nodes.State as Progress
 
@@ -19,6 +20,10 @@ pub record RootTabs : Type 0 where
 
 abbrev pub root_tabs : List ℤ → List ℕ → List Float → RootTabs
 root_tabs blocks links values = record { blocks = blocks; links = links; values = values }
+
+-- the lent tables of the roots
+abbrev pub roots_of : Tables → RootTabs
+roots_of t = root_tabs t.blocks t.root_links t.root_values
 
 -- the tables hold these roots, and zeros past them
 pub record RootsHeld (t : RootTabs) (rs : List Root) : Type 0 where

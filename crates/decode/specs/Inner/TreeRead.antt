@@ -1,10 +1,11 @@
 -- What the contract of the tree reader says: from tables of zeros, the tree of the definition, held by the tables.
-use Rattle.std.specs.Prelude.{ℕ, ◌+◌, ◌≤◌, ◌≡◌, List, [], pos, length, replicate, Ok, Err, Result as Answer}
+use Rattle.std.specs.Prelude.{ℕ, ◌+◌, ◌*◌, ◌≤◌, ◌≡◌, List, [], pos, length, replicate, Ok, Err, Result as Answer}
 use Rattle.refusals.specs.Results.{ok, refused}
 use Rattle.float.specs.Zero.{+0}
 use Rattle.nanovdb.specs.Nodes.{Places}
 use Rattle.nanovdb.specs.Tree.{Roots, tree}
 use Rattle.nanovdb.specs.Decode.{root_place}
+use Rattle.nanovdb.specs.Lent.{Lent}
 use Rattle.decode.specs.Inner.Filled.{Tabs, Holds, Lends}
 use Rattle.decode.specs.Inner.Rooted.{RootTabs, RootsHeld}
 use Rattle.refusals.specs.Numbers.{number}
@@ -20,6 +21,13 @@ pub record Zeroed (t : Tabs) (q : RootTabs) : Type 0 where
   pub upper_values : t.upper_values ≡ replicate (length t.upper_values) +0
   pub lower_links : t.lower_links ≡ replicate (length t.lower_links) 0
   pub lower_values : t.lower_values ≡ replicate (length t.lower_values) +0
+
+-- tables that pass 18
+pub record Paired (l : Lent) : Type 0 where
+  pub blocks : l.blocks ≡ 3 * l.root_links
+  pub roots : l.root_values ≡ l.root_links
+  pub upper : l.upper_values ≡ l.upper_links
+  pub lower : l.lower_values ≡ l.lower_links
 
 -- the places that the tables give, of roots too
 pub record LendsAll (t : Tabs) (q : RootTabs) (p : Places) : Type 0 where

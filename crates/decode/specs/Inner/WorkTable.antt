@@ -75,20 +75,14 @@ over w i start end = ltb (node_start w i) end && ltb start (node_start w i + siz
 unfoldable pub hits : List ℕ → ℕ → ℕ → ℕ → Bool
 hits w i start level = eqb (node_start w i) start && eqb (node_level w i) level
 
--- what a walk of the chain h says, what the chains of one level say, and what a search says
-pub record MetIn (w : List ℕ) (count h start end : ℕ) (r : Bool) : Type 0 where
-  pub yes : r ≡ true → overlaps (nodes w count) start end ≡ true
-  pub no : r ≡ false → (i : ℕ) → i < count → chain_of w i ≡ h → over w i start end ≡ false
+-- what a search of the chain h for a node that passes a test says, and what the chains of one level say
+abbrev pub Searched : List ℕ → ℕ → ℕ → (ℕ → Bool) → Option ℕ → Type 0
+Searched w count h test (Some i) = (i < count) × (test i ≡ true)
+Searched w count h test None = (i : ℕ) → i < count → chain_of w i ≡ h → test i ≡ false
 
 pub record MetAt (w : List ℕ) (count level start end : ℕ) (r : Bool) : Type 0 where
   pub yes : r ≡ true → overlaps (nodes w count) start end ≡ true
   pub no : r ≡ false → (i : ℕ) → i < count → node_level w i ≡ level → over w i start end ≡ false
-
--- r is one more than the place of the node, or 0
-pub record FoundIn (w : List ℕ) (count start level r : ℕ) : Type 0 where
-  pub below : r ≤ count
-  pub yes : 0 < r → hits w (r - 1) start level ≡ true
-  pub no : r ≡ 0 → (i : ℕ) → i < count → hits w i start level ≡ false
 
 abbrev pub seen_of : Option ℕ → Seen
 seen_of (Some n) = at n

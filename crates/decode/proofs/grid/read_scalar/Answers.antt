@@ -3,11 +3,10 @@ use Rattle.std.specs.Prelude.{Ok, Err}
 use Rattle.std.proofs.Common.{sym, subst}
 use Rattle.refusals.proofs.Exits.{exit_is}
 use Rattle.nanovdb.specs.Decode.{decode_scalar}
+use Rattle.nanovdb.specs.Lent.{lengths}
 use Rattle.decode.specs.Record.{as_tables}
-use Rattle.decode.specs.Inner.GridRead.{all_tables, GridOut}
-use Rattle.decode.specs.Inner.Filled.{tabs}
-use Rattle.decode.specs.Inner.Rooted.{root_tabs}
-use Rattle.decode.proofs.grid.Answers.{Begun, Got, tree-asks, root-fits, out-lent, out-bytes, out-tree, out_fault, out-accepted}
+use Rattle.decode.specs.Inner.GridRead.{GridOut}
+use Rattle.decode.proofs.grid.Answers.{Begun, Got, short, pairs, root-fits, out-lent, out-bytes, out-tree, out_fault, out-accepted}
 use Rattle.decode.proofs.grid.read_scalar.Goals as goal
 
 pub returns-in_err-check-clause-read : goal.returns-in_err-check-clause-read
@@ -23,50 +22,45 @@ returns-in_err-check_bytes-clause-read c =
     (sym (exit_is c.from_residual-in_err-check_bytes.result _ c.from_residual-in_err-check_bytes.ensures.1))
     (out-bytes c.args.bytes.now t _ c.in_ok-check.ensures c.in_err-check_bytes.ensures)
 
-pub read_tree-requires : goal.read_tree-requires
-read_tree-requires c =
-    let begun : Begun c.args.bytes.now (as_tables c.args.tables.now) =
-    record { paired = c.in_ok-check.ensures; passed = c.in_ok-check_bytes.ensures; zeroed = c.requires } in
-    tree-asks begun
+pub read_tree-requires-clause-short : goal.read_tree-requires-clause-short
+read_tree-requires-clause-short c = short c.args.bytes.now (sym c.in_ok-check_bytes.ensures)
+
+pub read_tree-requires-clause-paired : goal.read_tree-requires-clause-paired
+read_tree-requires-clause-paired c = pairs (lengths (as_tables c.args.tables.now)) (sym c.in_ok-check.ensures)
 
 pub returns-in_err-tree-clause-read : goal.returns-in_err-tree-clause-read
 returns-in_err-tree-clause-read c =
     let t = as_tables c.args.tables.now in
-    let n = c.read_tree.new in
-    let k = c.read_tree.auto in
-    let u = all_tables (tabs n.work n.ul n.uv n.ll n.lv n.leaves) (root_tabs n.blocks n.rl n.rv) in
+    let u = as_tables c.read_tree.new.tables in
     let begun : Begun c.args.bytes.now t = record { paired = c.in_ok-check.ensures; passed = c.in_ok-check_bytes.ensures; zeroed = c.requires } in
-    let got : Got c.args.bytes.now t u (Err _) = record { begun = begun; kept = λ i. record { blocks = k.blocks i; root_links = k.rl i; root_values = k.rv i; upper_links = k.ul i; upper_values = k.uv i; lower_links = k.ll i; lower_values = k.lv i; leaf_values = k.leaves i; work = k.work i }; says = c.in_err-tree.ensures } in
+    let got : Got c.args.bytes.now t u (Err _) = record { begun = begun; kept = c.in_err-tree.ensures.lengths; says = c.in_err-tree.ensures.tree } in
     subst (GridOut decode_scalar c.args.bytes.now t u) (sym (exit_is c.from_residual-in_err-tree.result _ c.from_residual-in_err-tree.ensures.1))
     (out-tree got)
 
 pub decoded-grid-requires : goal.decoded-grid-requires
 decoded-grid-requires c =
     let t = as_tables c.args.tables.now in
-    let n = c.read_tree.new in
-    let k = c.read_tree.auto in
-    let u = all_tables (tabs n.work n.ul n.uv n.ll n.lv n.leaves) (root_tabs n.blocks n.rl n.rv) in
+    let u = as_tables c.read_tree.new.tables in
     let begun : Begun c.args.bytes.now t = record { paired = c.in_ok-check.ensures; passed = c.in_ok-check_bytes.ensures; zeroed = c.requires } in
-    let got : Got c.args.bytes.now t u (Ok c.in_ok-tree.tree) = record { begun = begun; kept = λ i. record { blocks = k.blocks i; root_links = k.rl i; root_values = k.rv i; upper_links = k.ul i; upper_values = k.uv i; lower_links = k.ll i; lower_values = k.lv i; leaf_values = k.leaves i; work = k.work i }; says = c.in_ok-tree.ensures } in
+    let got : Got c.args.bytes.now t u (Ok c.in_ok-tree.tree) =
+    record { begun = begun; kept = c.in_ok-tree.ensures.lengths; says = c.in_ok-tree.ensures.tree } in
     root-fits got
 
 pub returns-in_err-check_grid-clause-read : goal.returns-in_err-check_grid-clause-read
 returns-in_err-check_grid-clause-read c =
     let t = as_tables c.args.tables.now in
-    let n = c.read_tree.new in
-    let k = c.read_tree.auto in
-    let u = all_tables (tabs n.work n.ul n.uv n.ll n.lv n.leaves) (root_tabs n.blocks n.rl n.rv) in
+    let u = as_tables c.read_tree.new.tables in
     let begun : Begun c.args.bytes.now t = record { paired = c.in_ok-check.ensures; passed = c.in_ok-check_bytes.ensures; zeroed = c.requires } in
-    let got : Got c.args.bytes.now t u (Ok c.in_ok-tree.tree) = record { begun = begun; kept = λ i. record { blocks = k.blocks i; root_links = k.rl i; root_values = k.rv i; upper_links = k.ul i; upper_values = k.uv i; lower_links = k.ll i; lower_values = k.lv i; leaf_values = k.leaves i; work = k.work i }; says = c.in_ok-tree.ensures } in
+    let got : Got c.args.bytes.now t u (Ok c.in_ok-tree.tree) =
+    record { begun = begun; kept = c.in_ok-tree.ensures.lengths; says = c.in_ok-tree.ensures.tree } in
     subst (GridOut decode_scalar c.args.bytes.now t u) (sym (exit_is c.from_residual-in_err-check_grid.result _ c.from_residual-in_err-check_grid.ensures.1))
     (out_fault got c.decoded-grid.result c.decoded-grid.ensures _ c.in_err-check_grid.ensures)
 
 pub returns-clause-read : goal.returns-clause-read
 returns-clause-read c =
     let t = as_tables c.args.tables.now in
-    let n = c.read_tree.new in
-    let k = c.read_tree.auto in
-    let u = all_tables (tabs n.work n.ul n.uv n.ll n.lv n.leaves) (root_tabs n.blocks n.rl n.rv) in
+    let u = as_tables c.read_tree.new.tables in
     let begun : Begun c.args.bytes.now t = record { paired = c.in_ok-check.ensures; passed = c.in_ok-check_bytes.ensures; zeroed = c.requires } in
-    let got : Got c.args.bytes.now t u (Ok c.in_ok-tree.tree) = record { begun = begun; kept = λ i. record { blocks = k.blocks i; root_links = k.rl i; root_values = k.rv i; upper_links = k.ul i; upper_values = k.uv i; lower_links = k.ll i; lower_values = k.lv i; leaf_values = k.leaves i; work = k.work i }; says = c.in_ok-tree.ensures } in
+    let got : Got c.args.bytes.now t u (Ok c.in_ok-tree.tree) =
+    record { begun = begun; kept = c.in_ok-tree.ensures.lengths; says = c.in_ok-tree.ensures.tree } in
     out-accepted got c.decoded-grid.result c.decoded-grid.ensures c.in_ok-check_grid.ensures

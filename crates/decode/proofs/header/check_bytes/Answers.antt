@@ -14,5 +14,5 @@ returns-then-not-header_passes c =
 
 pub returns : goal.returns
 returns c =
-    fault_bounds _ c.if-n-gt4294967295.false c.if-n-lt672.false c.header_passes.ensures c.if-not-header_passes.false (c.world_at.ensures 0)
-    c.check_bounds.ensures
+    fault_bounds _ c.if-n-gt4294967295.false c.if-n-lt672.false c.header_passes.ensures c.if-not-header_passes.false
+    (c.world_of.ensures 0) c.check_bounds.ensures

@@ -1,117 +1,72 @@
--- `node`, which calls itself on the level below: what its calls ask, and its ways out. Assumes nothing.
-use Rattle.std.proofs.Common.{sym, subst, arith}
-use Rattle.std.specs.Prelude.{Ok}
-use native.Mathlib.Nat.{pos_of_ne-zero}
+-- `node`, which calls itself on the kind below: the ways out where the node is new. Assumes nothing.
+use Rattle.std.proofs.Common.{rules, refl, sym, ◌∙◌, subst, arith}
 use Rattle.refusals.proofs.Exits.{exit_is}
-use Rattle.decode.specs.Inner.Filled.{tabs, with_work, Kept, NodeOut}
-use Rattle.decode.proofs.nodes.Fits.{count_small, leaf_inside, entries_most}
-use Rattle.decode.proofs.nodes.Tables.{with_values}
+use Rattle.decode.specs.Record.{as_tables}
+use Rattle.decode.specs.Inner.Kinds.{level_of}
+use Rattle.decode.specs.Inner.Filled.{nodes_of, NodeOut}
+use Rattle.decode.proofs.kinds.Laws.{three}
 use Rattle.decode.proofs.nodes.Turns.{turn_begins}
-use Rattle.decode.proofs.nodes.Answers.{node-number, opened, whole_words, leaf-place, out-leaf, value_room, run-to, out-ends}
-use Rattle.decode.proofs.nodes.Answers.{aimed, out-off, link-room, out-refused, turn-child}
+use Rattle.decode.proofs.nodes.Tables.{with_values}
+use Rattle.decode.proofs.nodes.Answers.{opened, out-leaf, run-to, out-ends, aimed, out-off, out-refused, turn-child, below_out, with_run, kept_of}
 use Rattle.decode.proofs.nodes.+node.Goals as goal
 
-pub open-requires : goal.open-requires
-open-requires t c = let (short, three, fit) = c.requires in (short, three, fit.rep, count_small fit short)
-
-pub returns-in_err-number : goal.returns-in_err-number
-returns-in_err-number t c =
+pub returns-in_default-clause-node : goal.returns-in_default-clause-node
+returns-in_default-clause-node t c =
     let a = c.args in
-    let lent = tabs a.work.now a.ul.now a.uv.now a.ll.now a.lv.now a.leaves.now in
-    subst (NodeOut a.level a.bytes.now a.source lent a.st (with_work lent c.open.new.work))
-    (sym (exit_is c.from_residual.result _ c.from_residual.ensures.1)) (c.in_err-number.ensures lent c.places_of-places.ensures c.requires.2)
+    let new = opened (level_of a.kind) a.bytes.now a.source (nodes_of (as_tables a.tables.now)) a.st (nodes_of (as_tables c.open.new.tables)) c.in-Fresh.is
+    c.in_ok-number.ensures.open in
+    out-leaf new (c.in_default.ensures.none refl) c.leaf.ensures
 
-pub returns-in-Again : goal.returns-in-Again
-returns-in-Again t c =
+pub loop-kind-init : goal.loop-kind-init
+loop-kind-init t c =
     let a = c.args in
-    let lent = tabs a.work.now a.ul.now a.uv.now a.ll.now a.lv.now a.leaves.now in
-    opened a.level a.bytes.now a.source lent a.st (with_work lent c.open.new.work) c.in-Again.is
-    (c.in_ok-number.ensures lent c.places_of-places.ensures c.requires.2)
+    let new = opened (level_of a.kind) a.bytes.now a.source (nodes_of (as_tables a.tables.now)) a.st (nodes_of (as_tables c.open.new.tables)) c.in-Fresh.is
+    c.in_ok-number.ensures.open in
+    record {
+      read = record { node = record { new = new; above = omega (arith, c.in-Some.ensures.some); three = three a.kind }; turn = turn_begins new.fit };
+      roots = c.in_ok-number.ensures.roots;
+      lengths = c.in_ok-number.ensures.lengths;
+      same = c.in_ok-number.ensures.same;
+    }
 
-pub leaf-requires : goal.leaf-requires
-leaf-requires t c =
-    let a = c.args in
-    let lent = tabs a.work.now a.ul.now a.uv.now a.ll.now a.lv.now a.leaves.now in
-    let new = opened a.level a.bytes.now a.source lent a.st (with_work lent c.open.new.work) c.in-Fresh.is
-    (c.in_ok-number.ensures lent c.places_of-places.ensures c.requires.2) in
-    (leaf_inside a.level a.source c.if-level-eq0.true new.whole, leaf-place new c.if-level-eq0.true)
-
-pub returns-then-level-eq0 : goal.returns-then-level-eq0
-returns-then-level-eq0 t c =
-    let a = c.args in
-    let lent = tabs a.work.now a.ul.now a.uv.now a.ll.now a.lv.now a.leaves.now in
-    let new = opened a.level a.bytes.now a.source lent a.st (with_work lent c.open.new.work) c.in-Fresh.is
-    (c.in_ok-number.ensures lent c.places_of-places.ensures c.requires.2) in
-    out-leaf new c.if-level-eq0.true c.leaf.ensures
-
-pub loop-o-init : goal.loop-o-init
-loop-o-init t c =
-    let a = c.args in
-    let lent = tabs a.work.now a.ul.now a.uv.now a.ll.now a.lv.now a.leaves.now in
-    let new = opened a.level a.bytes.now a.source lent a.st (with_work lent c.open.new.work) c.in-Fresh.is
-    (c.in_ok-number.ensures lent c.places_of-places.ensures c.requires.2) in
-    record { node = record { new = new; above = pos_of_ne-zero c.if-level-eq0.false; three = c.requires.1 }; turn = turn_begins new.fit }
-
-pub next_child-j-requires : goal.next_child-j-requires
-next_child-j-requires t c =
-    let r = c.loop-o.invariant in
-    let (most, words) = entries_most c.args.level r.node.new.entries in
-    (r.turn.turn, most, words)
-
-pub tiles_between-requires : goal.tiles_between-requires
-tiles_between-requires t c =
-    let r = c.loop-o.invariant in
-    let next = c.next_child-j.ensures in
-    (r.node.above, r.node.new.whole, next.from, omega (arith, next.to, r.node.new.entries), value_room r.node r.turn)
-
-pub returns-then-j-o : goal.returns-then-j-o
-returns-then-j-o t c =
-    let r = c.loop-o.invariant in
+pub returns-then-j-o-clause-node : goal.returns-then-j-o-clause-node
+returns-then-j-o-clause-node t c =
+    let r = c.loop-kind.invariant.read in
     out-ends r.node (run-to r.node r.turn c.next_child-j.ensures c.tiles_between.ensures) c.if-j-o.true
 
-pub child_at-requires : goal.child_at-requires
-child_at-requires t c =
-    let n = c.loop-o.invariant.node in
-    (n.above, omega (arith, n.new.whole, c.requires.0), omega (arith, c.next_child-j.ensures.to, c.if-j-o.false, (whole_words n.new).0))
-
-pub returns-in_err-to : goal.returns-in_err-to
-returns-in_err-to t c =
+pub returns-in_err-to-clause-node : goal.returns-in_err-to-clause-node
+returns-in_err-to-clause-node t c =
     let a = c.args in
-    let l = c.loop-o in
-    let lent = tabs a.work.now a.ul.now a.uv.now a.ll.now a.lv.now a.leaves.now in
+    let l = as_tables c.loop-kind.tables in
     let n = c.tiles_between.new in
-    subst (NodeOut a.level a.bytes.now a.source lent a.st (with_values (tabs l.work l.ul l.uv l.ll l.lv l.leaves) n.uv n.lv))
+    subst (NodeOut (level_of a.kind) a.bytes.now a.source (nodes_of (as_tables a.tables.now)) a.st (with_values (nodes_of l) n.upper_values n.lower_values))
     (sym (exit_is c.from_residual-in_err-to.result _ c.from_residual-in_err-to.ensures.1))
-    (out-off (aimed l.invariant c.next_child-j.ensures c.tiles_between.ensures c.if-j-o.false c.in_err-to.ensures))
+    (out-off (aimed c.loop-kind.invariant.read c.next_child-j.ensures c.tiles_between.ensures c.if-j-o.false c.in_err-to.ensures))
 
-pub node-requires : goal.node-requires
-node-requires t c =
-    let r = c.loop-o.invariant in
-    let fit = (run-to r.node r.turn c.next_child-j.ensures c.tiles_between.ensures).fit in
-    (omega (arith, c.decreases, r.node.above), (c.requires.0, omega (arith, c.requires.1), fit))
-
-pub returns-in_err-child : goal.returns-in_err-child
-returns-in_err-child t c =
+pub returns-in_err-child-clause-node : goal.returns-in_err-child-clause-node
+returns-in_err-child-clause-node t c =
     let a = c.args in
-    let n = c.node.new in
-    let lent = tabs a.work.now a.ul.now a.uv.now a.ll.now a.lv.now a.leaves.now in
-    let k = aimed c.loop-o.invariant c.next_child-j.ensures c.tiles_between.ensures c.if-j-o.false c.in_ok-to.ensures in
-    subst (NodeOut a.level a.bytes.now a.source lent a.st (tabs n.work n.ul n.uv n.ll n.lv n.leaves))
-    (sym (exit_is c.from_residual-in_err-child.result _ c.from_residual-in_err-child.ensures.1)) (out-refused k c.in_err-child.ensures)
+    let l = as_tables c.loop-kind.tables in
+    let n = c.tiles_between.new in
+    let u = nodes_of (as_tables c.node.new.tables) in
+    let k = aimed c.loop-kind.invariant.read c.next_child-j.ensures c.tiles_between.ensures c.if-j-o.false c.in_ok-to.ensures in
+    let out = below_out a.bytes.now c.in_ok-to.to (with_values (nodes_of l) n.upper_values n.lower_values) c.loop-kind.state u _ c.in-Some.ensures.some
+    c.in_err-child.ensures.node in
+    subst (NodeOut (level_of a.kind) a.bytes.now a.source (nodes_of (as_tables a.tables.now)) a.st u)
+    (sym (exit_is c.from_residual-in_err-child.result _ c.from_residual-in_err-child.ensures.1)) (out-refused k out)
 
-pub link-requires : goal.link-requires
-link-requires t c =
-    let n = c.node.auto in
-    let k = aimed {place = Ok c.in_ok-to.to} c.loop-o.invariant c.next_child-j.ensures c.tiles_between.ensures c.if-j-o.false c.in_ok-to.ensures in
-    let kept : Kept _ _ = record { work = n.work; upper_links = n.ul; upper_values = n.uv; lower_links = n.ll; lower_values = n.lv; leaf_values = n.leaves } in
-    (link-room k kept, node-number c.in_ok-child.ensures)
-
-pub loop-o-smaller : goal.loop-o-smaller
-loop-o-smaller t c = omega (arith, c.next_child-j.ensures.from, c.next_child-j.ensures.to, c.if-j-o.false)
-
-pub loop-o-preserved : goal.loop-o-preserved
-loop-o-preserved t c =
-    let n = c.node.auto in
-    let k = aimed c.loop-o.invariant c.next_child-j.ensures c.tiles_between.ensures c.if-j-o.false c.in_ok-to.ensures in
-    let kept : Kept _ _ = record { work = n.work; upper_links = n.ul; upper_values = n.uv; lower_links = n.ll; lower_values = n.lv; leaf_values = n.leaves } in
-    record { node = c.loop-o.invariant.node; turn = turn-child k c.in_ok-child.ensures kept c.link.ensures }
+pub loop-kind-preserved : goal.loop-kind-preserved
+loop-kind-preserved t c =
+    let a = c.args in
+    let l = as_tables c.loop-kind.tables in
+    let n = c.tiles_between.new in
+    let run = with_run l n.upper_values n.lower_values in
+    let u = as_tables c.node.new.tables in
+    let k = aimed c.loop-kind.invariant.read c.next_child-j.ensures c.tiles_between.ensures c.if-j-o.false c.in_ok-to.ensures in
+    let out = below_out a.bytes.now c.in_ok-to.to (nodes_of run) c.loop-kind.state (nodes_of u) _ c.in-Some.ensures.some c.in_ok-child.ensures.node in
+    record {
+      read = record { node = c.loop-kind.invariant.read.node; turn = turn-child k out (kept_of run u c.in_ok-child.ensures.lengths) c.link.ensures };
+      roots = c.in_ok-child.ensures.roots ∙ c.loop-kind.invariant.roots;
+      lengths = search rules;
+      same = search rules;
+    }

@@ -1,16 +1,17 @@
--- Up, back past the first byte, and back.
-use Rattle.std.proofs.Common.{◌∙◌}
-use Rattle.decode.proofs.nodes.Targets.{rises_to, falls_below, falls_to}
+-- A sum that is a place, or is no multiple of 32, or lies below 0.
+use Rattle.decode.proofs.nodes.Targets.{target_whole, target_uneven, target_none}
 use Rattle.decode.proofs.nodes.child_target.Goals as goal
 
-pub returns-then-bits-lt9223372036854775808 : goal.returns-then-bits-lt9223372036854775808
-returns-then-bits-lt9223372036854775808 c = c.child_place.ensures ∙ rises_to c.args.base c.args.bits c.if-bits-lt9223372036854775808.true
+pub returns-in-Some : goal.returns-in-Some
+returns-in-Some c =
+    target_whole c.args.base c.args.bits c.cast_signed.result c.cast_signed.type_inv c.cast_signed.ensures c.in-Some.to
+    (c.in-Some.ensures) c.if-to-eq0.true
 
-pub returns-then-base-back : goal.returns-then-base-back
-returns-then-base-back c =
-    falls_below c.args.base c.args.bits c.if-bits-lt9223372036854775808.false c.ranges.bits.fits c.if-base-back.true
+pub returns-in_default : goal.returns-in_default
+returns-in_default c =
+    target_uneven c.args.base c.args.bits c.cast_signed.result c.cast_signed.type_inv c.cast_signed.ensures c.in-Some.to
+    (c.in-Some.ensures) c.if-to-eq0.false
 
-pub returns : goal.returns
-returns c =
-    c.child_place-2.ensures
-    ∙ falls_to c.args.base c.args.bits c.if-bits-lt9223372036854775808.false c.ranges.bits.fits c.if-base-back.false
+pub returns-in_default-2 : goal.returns-in_default-2
+returns-in_default-2 c =
+    target_none c.args.base c.args.bits c.cast_signed.result c.cast_signed.type_inv c.cast_signed.ensures c.requires c.in_default.ensures

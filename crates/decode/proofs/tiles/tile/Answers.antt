@@ -7,14 +7,14 @@ use Rattle.refusals.specs.declared.Refusal.{Refusal}
 use Rattle.decode.proofs.tiles.Turns.{Keyed, Aimed, tile_out_value, tile_out_child}
 use Rattle.decode.proofs.tiles.tile.Goals as goal
 
-pub returns-then-relative-eq0 : goal.returns-then-relative-eq0
-returns-then-relative-eq0 c =
+pub returns-then-relative-eq0-clause-tile : goal.returns-then-relative-eq0-clause-tile
+returns-then-relative-eq0-clause-tile c =
     let keyed : Keyed c.args.bytes.now c.args.root c.args.i c.u64_at-key.result =
     record { is = c.u64_at-key.ensures; passes = sym c.key_passes.ensures ∙ c.if-not-key_passes.false } in
-    tile_out_value keyed c.requires.6 c.u64_at-relative.ensures c.if-relative-eq0.true c.f32_at.ensures c.put_root.ensures
+    tile_out_value keyed c.requires.fit c.u64_at-relative.ensures c.if-relative-eq0.true c.f32_at-value.ensures c.put_root.ensures
 
-pub returns : goal.returns
-returns c =
+pub returns-clause-tile : goal.returns-clause-tile
+returns-clause-tile c =
     let to : Answer _ Refusal = Ok c.in_ok-to.to in
     let aimed : Aimed c.args.bytes.now c.args.root c.args.i c.u64_at-key.result c.u64_at-relative.result to = record {
       keyed = record { is = c.u64_at-key.ensures; passes = sym c.key_passes.ensures ∙ c.if-not-key_passes.false };
@@ -22,4 +22,4 @@ returns c =
       some = c.if-relative-eq0.false;
       aims = c.in_ok-to.ensures;
     } in
-    tile_out_child aimed c.in_ok-node.ensures refl (zero_literal binary32) c.put_root-2.ensures
+    tile_out_child aimed c.in_ok-node.ensures.node c.in_ok-node.ensures.roots refl (zero_literal binary32) c.put_root-2.ensures

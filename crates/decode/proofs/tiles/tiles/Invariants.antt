@@ -1,11 +1,19 @@
 -- The loop of `tiles`: the first i tiles have been read as the definition reads them.
-use Rattle.decode.specs.Inner.Filled.{tabs}
-use Rattle.decode.specs.Inner.Rooted.{root_tabs}
+use Rattle.std.proofs.Common.{◌≡◌}
+use Rattle.nanovdb.specs.Lent.{lengths}
+use Rattle.decode.specs.Record.{as_tables, SameSlices}
+use Rattle.decode.specs.Inner.Filled.{nodes_of}
+use Rattle.decode.specs.Inner.Rooted.{roots_of}
 use Rattle.decode.proofs.tiles.Turns.{Row}
 use Rattle.decode.proofs.tiles.tiles.Given as goal
 
 abbrev pub invariant-loop-i : goal.invariant-loop-i
 invariant-loop-i l =
     let f = l.fn in
-    Row f.bytes f.root f.count (tabs f.work f.ul f.uv f.ll f.lv f.leaves) (root_tabs f.blocks f.rl f.rv) f.st
-    (tabs l.work l.ul l.uv l.ll l.lv l.leaves) (root_tabs l.blocks l.rl l.rv) l.now l.i
+    let t = as_tables f.tables in
+    let u = as_tables l.tables in
+    record {
+      row : Row f.bytes f.root f.count (nodes_of t) (roots_of t) f.st (nodes_of u) (roots_of u) l.now l.i;
+      lengths : lengths u ≡ lengths t;
+      same : SameSlices f.tables l.tables;
+    }

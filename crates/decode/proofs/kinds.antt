@@ -1,0 +1,2 @@
+-- Laws of the kinds of nodes.
+pub mod Laws

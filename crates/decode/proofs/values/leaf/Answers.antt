@@ -1,0 +1,10 @@
+-- One value more.
+use Rattle.decode.specs.Inner.Stored.{stored_none}
+use Rattle.decode.proofs.nodes.Runs.{stored_next}
+use Rattle.decode.proofs.values.leaf.Goals as goal
+
+pub loop-i-init : goal.loop-i-init
+loop-i-init c = stored_none
+
+pub loop-i-preserved : goal.loop-i-preserved
+loop-i-preserved c = stored_next c.value_at.ensures c.loop-i.invariant
