@@ -20,6 +20,10 @@ pub(crate) fn cell_of(span: Span, side: usize, t: usize) -> Span
         × (span.lo / side ≤ t) × (t ≤ (span.hi - 1) / side) }
     ensures { IsCell side span.lo span.hi t result }
 {
+    // A cell of one coordinate is not cut: no test stands before the rows of a leaf.
+    if side == 1 {
+        return Span { lo: t, hi: t + 1 };
+    }
     let start = t * side;
     Span {
         lo: span.lo.max(start),
