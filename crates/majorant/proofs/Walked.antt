@@ -49,7 +49,13 @@ module _ {a b c s side n : ℕ} {p : Code.Part} (e : s ≡ side) (w : Within a b
   pub within_x : (d : Span) → IsCell s p.x.lo p.x.hi n d → Within side b c (record { x = d; y = p.y; z = p.z })
   within_x d k = record {
     full = record {
-      x_some = k.some; y_some = w.full.y_some; z_some = w.full.z_some; x_top = le_trans k.within w.full.x_top; y_top = w.full.y_top; z_top = w.full.z_top };
+      x_some = k.some;
+      y_some = w.full.y_some;
+      z_some = w.full.z_some;
+      x_top = le_trans k.within w.full.x_top;
+      y_top = w.full.y_top;
+      z_top = w.full.z_top;
+    };
     x_in = in_side e d k.cell;
     y_in = w.y_in;
     z_in = w.z_in;
@@ -58,7 +64,13 @@ module _ {a b c s side n : ℕ} {p : Code.Part} (e : s ≡ side) (w : Within a b
   pub within_y : (d : Span) → IsCell s p.y.lo p.y.hi n d → Within a side c (record { x = p.x; y = d; z = p.z })
   within_y d k = record {
     full = record {
-      x_some = w.full.x_some; y_some = k.some; z_some = w.full.z_some; x_top = w.full.x_top; y_top = le_trans k.within w.full.y_top; z_top = w.full.z_top };
+      x_some = w.full.x_some;
+      y_some = k.some;
+      z_some = w.full.z_some;
+      x_top = w.full.x_top;
+      y_top = le_trans k.within w.full.y_top;
+      z_top = w.full.z_top;
+    };
     x_in = w.x_in;
     y_in = in_side e d k.cell;
     z_in = w.z_in;
@@ -67,7 +79,13 @@ module _ {a b c s side n : ℕ} {p : Code.Part} (e : s ≡ side) (w : Within a b
   pub within_z : (d : Span) → IsCell s p.z.lo p.z.hi n d → Within a b side (record { x = p.x; y = p.y; z = d })
   within_z d k = record {
     full = record {
-      x_some = w.full.x_some; y_some = w.full.y_some; z_some = k.some; x_top = w.full.x_top; y_top = w.full.y_top; z_top = le_trans k.within w.full.z_top };
+      x_some = w.full.x_some;
+      y_some = w.full.y_some;
+      z_some = k.some;
+      x_top = w.full.x_top;
+      y_top = w.full.y_top;
+      z_top = le_trans k.within w.full.z_top;
+    };
     x_in = w.x_in;
     y_in = w.y_in;
     z_in = in_side e d k.cell;

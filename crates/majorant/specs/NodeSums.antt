@@ -118,7 +118,7 @@ module _ (upper_links : List ℕ) (upper_values : List Float) (links : List ℕ)
       let l = upper_entry_lem lowers_only upper_links upper_values links values k w.full (w.x_in, w.y_in, w.z_in) e in
       let v = upper_entry_lem leaves_only upper_links upper_values links values k w.full (w.x_in, w.y_in, w.z_in) e in
       let m : 1 + 0 ≡ upper_count uppers_only upper_links upper_values links values k p.x p.y p.z
-          = omega (arith, u, no_uppers links values j p.x p.y p.z) in
+      = omega (arith, u, no_uppers links values j p.x p.y p.z) in
       λ i. record { roots = 0; uppers = m i; lowers = l i; leaves = v i }
 
   pub upper_tile : {v : Float} → upper_entry ≡ Tile v

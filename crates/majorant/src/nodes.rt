@@ -136,7 +136,8 @@ impl Table for Leaf<'_> {
 impl Node for Leaf<'_> {
     #[inline(always)]
     fn row<G: Gather>(&self, part: Part, gathered: &mut G) {
-        let start = 512 * self.k as usize + table_index(part.x.lo % 8, part.y.lo % 8, part.z.lo % 8, 8);
+        let start = 512 * self.k as usize
+            + table_index(part.x.lo % 8, part.y.lo % 8, part.z.lo % 8, 8);
         gathered.row(part, &self.values[start..start + (part.z.hi - part.z.lo)]);
     }
 }
@@ -201,7 +202,8 @@ impl Node for Lower<'_> {
     }
 }
 
-// Upper node k: 32 cells of 128 coordinates a side.
+// Upper node k: 32 cells of 128 coordinates a side. It and Lower stay two: what differs (the table, the widths, what is counted, what is below and how
+// that is read) would be eight members of a level, and no plainer.
 #[derive(Clone, Copy)]
 pub(crate) struct Upper<'a> {
     pub grid: &'a Grid<'a>,
