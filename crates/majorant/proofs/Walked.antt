@@ -37,10 +37,6 @@ module _ (side lo hi : ℕ) (p : 0 < side) (l : lo < hi) where
 
 -- ---- a loop along an axis
 
--- the side as the code reads it
-pub at_side : {s side own : ℕ} {F : Zone → Reads} → s ≡ side → NodeLaws side own F → NodeLaws s own F
-at_side {own = own} {F} e = subst (λ (k : ℕ). NodeLaws k own F) (sym e)
-
 in_side : {s side : ℕ} → s ≡ side → (d : Span) → InCell s d → InCell side d
 in_side e d = subst (λ (k : ℕ). InCell k d) e
 
@@ -91,31 +87,39 @@ module _ {a b c s side n : ℕ} {p : Code.Part} (e : s ≡ side) (w : Within a b
     z_in = in_side e d k.cell;
   }
 
+-- `width` is the side as the code reads it
 module _ {S : Type 0} {Fit : S → Zone → Type 0} {Done : Places → Zone → Reads → S → S → Type 0} (laws : GatherLaws Fit Done)
-    {side own : ℕ} {F : Zone → Reads} (sums : NodeLaws side own F) (p : 0 < side) (a : Axis) (f : Places) (q : Zone) {lo hi : ℕ} (l : lo < hi) where
+    {width side own : ℕ} {F : Zone → Reads} (sums : NodeLaws side own F) (e : width ≡ side) (some : 0 < side) (a : Axis) (f : Places) (q : Zone)
+    {lo hi : ℕ} (l : lo < hi) where
+  p : 0 < width
+  p = omega (arith, e, some)
+
+  own_sums : NodeLaws width own F
+  own_sums = subst (λ (k : ℕ). NodeLaws k own F) (sym e) sums
+
   -- from s the loop has come to t, with the cells before cell n
   abbrev pub Upto : ℕ → S → S → Type 0
-  Upto n s t = Done f (along a q lo (reached side lo hi n)) (F (along a q lo (reached side lo hi n))) s t
+  Upto n s t = Done f (along a q lo (reached width lo hi n)) (F (along a q lo (reached width lo hi n))) s t
 
-  pub first : {s : S} (r : Zone) → Fit s r → Upto (lo / side) s s
-  first {s} r h = subst (λ (e : ℕ). Done f (along a q lo e) (F (along a q lo e)) s s) (sym (reached_first side lo hi p l))
-      (subst (λ (c : Reads). Done f (along a q lo lo) c s s) (sym (sums.none a q lo)) (laws.none a f q r lo s h))
+  pub first : {s : S} (r : Zone) → Fit s r → Upto (lo / width) s s
+  first {s} r h = subst (λ (e : ℕ). Done f (along a q lo e) (F (along a q lo e)) s s) (sym (reached_first width lo hi p l))
+      (subst (λ (c : Reads). Done f (along a q lo lo) c s s) (sym (own_sums.none a q lo)) (laws.none a f q r lo s h))
 
-  pub ready : {n : ℕ} {s t : S} (c : Span) → IsCell side lo hi n c → Fit s (along a q lo hi) → Upto n s t → Fit t (along a q c.lo c.hi)
+  pub ready : {n : ℕ} {s t : S} (c : Span) → IsCell width lo hi n c → Fit s (along a q lo hi) → Upto n s t → Fit t (along a q c.lo c.hi)
   ready {s = s} {t} c k h u =
       laws.fit a f q lo c.lo c.hi hi _ s t k.after (omega (arith, k.some)) k.within h
       (subst (λ (e : ℕ). Done f (along a q lo e) (F (along a q lo e)) s t) (sym k.low) u)
 
-  pub turn : {n : ℕ} {s t u : S} (c : Span) → IsCell side lo hi n c → hi ≤ lo / own * own + own → Upto n s t
+  pub turn : {n : ℕ} {s t u : S} (c : Span) → IsCell width lo hi n c → hi ≤ lo / own * own + own → Upto n s t
       → Done f (along a q c.lo c.hi) (F (along a q c.lo c.hi)) t u → Upto (n + 1) s u
   turn {n} {s} {t} {u} c k i v w = subst (λ (e : ℕ). Done f (along a q lo e) (F (along a q lo e)) s u) k.high
       (subst (λ (d : Reads). Done f (along a q lo c.hi) d s u)
-      (sums.more a q lo c.lo c.hi k.after k.some k.cell (omega (arith, k.within)) k.border)
+      (own_sums.more a q lo c.lo c.hi k.after k.some k.cell (omega (arith, k.within)) k.border)
       (laws.join a f q lo c.lo c.hi _ _ s t u k.after (omega (arith, k.some))
       (subst (λ (e : ℕ). Done f (along a q lo e) (F (along a q lo e)) s t) (sym k.low) v) w))
 
-  pub last : {n : ℕ} {s t : S} → (hi - 1) / side < n → Upto n s t → Done f (along a q lo hi) (F (along a q lo hi)) s t
-  last {n} {s} {t} h u = subst (λ (e : ℕ). Done f (along a q lo e) (F (along a q lo e)) s t) (reached_last side lo hi p l n h) u
+  pub last : {n : ℕ} {s t : S} → (hi - 1) / width < n → Upto n s t → Done f (along a q lo hi) (F (along a q lo hi)) s t
+  last {n} {s} {t} h u = subst (λ (e : ℕ). Done f (along a q lo e) (F (along a q lo e)) s t) (reached_last width lo hi p l n h) u
 
 -- a part in a small cell lies in a block
 pub from_8 : {p : Code.Part} → Within 8 8 8 p → Within 4096 4096 4096 p
