@@ -1,5 +1,5 @@
 -- The counts of a box from those of its spans; limits and sides that pass. Assumes nothing.
-use Rattle.std.proofs.Common.{◌≡◌, ℕ, zero, suc, ◌+◌, ◌-◌, ◌*◌, ◌^◌, ◌<◌, ◌≤◌, Bool, true, false, ◌&&◌, ◌||◌, T, eqb, leb, List, [], ◌∷◌, length, get_or, replicate, ℤ, sym, refl, ap, ◌∙◌, subst, ◌⊎◌, ⊎_elim, mul-zero, zero-mul, arith, leb→le, w32, SFits, to_z, of_z, eq-eqb, ne_eqb, le-leb}
+use Rattle.std.proofs.Common.{◌≡◌, ℕ, ◌-◌, ◌*◌, ◌<◌, ◌≤◌, Bool, true, false, ◌&&◌, ◌||◌, leb, List, length, get_or, replicate, ℤ, sym, refl, ap, ◌∙◌, subst, ◌⊎◌, ⊎_elim, mul-zero, zero-mul, arith, leb→le, eq-eqb, ne_eqb, le-leb}
 use lib.Ieee.{Float, lt}
 use lib.Ieee.Scale.{finite}
 use borrow.Author.Tests.{lt-leb}
@@ -10,14 +10,12 @@ use Rattle.refusals.proofs.FaultSteps.{first_fault_at}
 use Rattle.refusals.specs.TestLaws.{and_r}
 use Rattle.refusals.proofs.ListLaws.{get_d_any}
 use Rattle.float.specs.Zero.{+0}
-use Rattle.layout.specs.Coordinates.{Coord}
 use Rattle.sparse_grid.specs.Tables.{Grid}
 use Rattle.sparse_grid.specs.Validate.{validate}
 use Rattle.sparse_grid.specs.Lookup.{read_in}
 use Rattle.boxes.specs.declared.Span.{Span}
-use Rattle.boxes.specs.Boxes.{Box, span, between}
-use Rattle.boxes.specs.RangeMax.{Ends, empty, read_at}
-use Rattle.walk.specs.Walk.{Zone}
+use Rattle.boxes.specs.Boxes.{Box, span}
+use Rattle.boxes.specs.RangeMax.{empty, read_at}
 use Rattle.walk.specs.Classes.{class_count, limit_passes, limits_fault, side_fault, sides_fault, listed, public_counts}
 use Rattle.walk.proofs.ClassLaws.{listed_is}
 use Rattle.walk.proofs.Placed.{span_biased, class_tally}
@@ -25,8 +23,6 @@ use Rattle.walk.specs.Gather.{tally, volume}
 use Rattle.walk.specs.Counts.{zone_in}
 use Rattle.walk.specs.Tallied.{is_class, Sides}
 use Rattle.walk.specs.TalliedLaws.{class_le, places_are}
-use Rattle.sparse_grid.proofs.Signs.{seen}
-use Rattle.majorant.proofs.Signs.{Small}
 use Rattle.majorant.proofs.Refused as Refused
 use Rattle.majorant.specs.declared.part.Part as Code
 use Rattle.majorant.specs.Rooting.{SpanOf, PartOf, side_limit}

@@ -1,5 +1,5 @@
 -- The class of a value limit by limit, and one count more. Assumes nothing.
-use Rattle.std.proofs.Common.{◌≡◌, ℕ, suc, ◌+◌, ◌-◌, ◌*◌, ◌<◌, ◌≤◌, Bool, true, false, cond, eqb, List, length, get_or, drop, set, sym, refl, ap, ◌∙◌, subst, lt_of_le_of_lt, mul-le-mul, one-mul, zero-mul, add-one, arith, lit<, length-drop, drop-cons, get_or-set_other, get_or-set_same, eq-eqb, ne_eqb}
+use Rattle.std.proofs.Common.{◌≡◌, ℕ, suc, ◌+◌, ◌*◌, ◌<◌, ◌≤◌, Bool, true, false, cond, eqb, List, length, get_or, drop, set, sym, refl, ap, ◌∙◌, subst, lt_of_le_of_lt, mul-le-mul, one-mul, zero-mul, add-one, arith, lit<, length-drop, drop-cons, get_or-set_other, get_or-set_same, eq-eqb, ne_eqb}
 use lib.Ieee.{Float, lt}
 use Rattle.refusals.proofs.ListLaws.{get_d_any}
 use Rattle.float.specs.Zero.{+0}

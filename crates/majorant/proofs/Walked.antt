@@ -1,12 +1,12 @@
 -- One turn of a loop over the cells of a part along an axis: what was gathered of the cells before and the next cell make up the part up to there.
 -- Assumes nothing.
-use Rattle.std.proofs.Common.{◌≡◌, ℕ, ◌+◌, ◌-◌, ◌*◌, ◌/◌, ◌%◌, ◌<◌, ◌≤◌, min, max, sym, refl, ap, ◌∙◌, subst, le_trans, arith}
+use Rattle.std.proofs.Common.{◌≡◌, ℕ, ◌+◌, ◌-◌, ◌*◌, ◌/◌, ◌%◌, ◌<◌, ◌≤◌, min, max, sym, ap, ◌∙◌, subst, le_trans, arith}
 use Rattle.std.proofs.Math.Nat.{div-mul-le_self, le-div_iff_mul-le, div-lt_iff_lt-mul, div-eq_of_lt-le}
 use Rattle.boxes.specs.declared.Span.{Span}
 use Rattle.boxes.specs.RangeMax.{Full, InCell}
 use Rattle.medium.specs.Medium.{Axis, x_axis}
 use Rattle.walk.specs.Walk.{Zone}
-use Rattle.majorant.specs.Walks.{zone_of, Alone, Within, Places, Reads, no_reads, both, along, reached, IsCell, GatherLaws, NodeLaws}
+use Rattle.majorant.specs.Walks.{zone_of, Alone, Within, Places, Reads, both, along, reached, IsCell, GatherLaws, NodeLaws}
 use Rattle.majorant.specs.declared.part.Part as Code
 
 -- ---- cells

@@ -1,6 +1,6 @@
 -- The number of limits, and then the first that does not pass.
-use Rattle.std.proofs.Common.{◌≡◌, ℕ, ◌<◌, Bool, length, sym, ap, ◌∙◌, inl, inr, arith}
-use Rattle.refusals.specs.Faults.{unless, first_fault}
+use Rattle.std.proofs.Common.{Bool, length, sym, ap, inl, inr, arith}
+use Rattle.refusals.specs.Faults.{unless}
 use Rattle.refusals.proofs.FaultSteps.{first_fault_none, first_fault_next, first_fault_end}
 use Rattle.majorant.proofs.Classing.{limit_fault, limits_few, limits_pass, limit_stops}
 use Rattle.majorant.proofs.classes.check_limits.Goals as goal

@@ -1,15 +1,14 @@
 -- Every place of a cell goes by the entry of its first one.
-use Rattle.std.proofs.Common.{◌≡◌, ℕ, ◌+◌, ◌*◌, ◌≤◌, sym, refl, ap, ◌∙◌, subst, arith}
-use lib.Ieee.{Float}
+use Rattle.std.proofs.Common.{◌≡◌, ℕ, ◌+◌, ◌*◌, sym, ap, ◌∙◌, arith}
 use Rattle.float.specs.Zero.{+0}
 use Rattle.sparse_grid.specs.declared.Entry.{Entry}
 use Rattle.sparse_grid.specs.declared.Entry.TheVariants.{Child, Tile}
 use Rattle.sparse_grid.specs.Tables.{Grid, entry_at}
 use Rattle.sparse_grid.specs.Record.{as_grid}
-use Rattle.boxes.specs.RangeMax.{entry_read, leaf_read, lower_read, upper_read, upper_slot}
+use Rattle.boxes.specs.RangeMax.{entry_read, lower_read, upper_read, upper_slot}
 use Rattle.boxes.proofs.NodeCells.{upper_same, child_link}
 use Rattle.walk.specs.Gather.{At}
-use Rattle.majorant.specs.Walks.{Within, zone_of, no_reads, both, leaf_reads, size_of, lower_reads, upper_reads}
+use Rattle.majorant.specs.Walks.{Within, zone_of}
 use Rattle.majorant.specs.declared.part.Part as Code
 use Rattle.majorant.specs.NodeSums.{upper_child, upper_tile}
 use Rattle.majorant.proofs.Walked.{from_128, still_fit, with_reads}
