@@ -1,7 +1,6 @@
 // The roots of a grid in order: a part of a box is walked in the block of each that it meets.
 // Coordinates are biased: a coordinate plus 2^31, so that blocks and slots are plain quotients and remainders.
-ghost use Rattle.std.specs.Prelude.{◌≡◌, ℕ, ◌+◌, ◌*◌, ◌<◌, ◌≤◌, ◌||◌, true, leb, length, MatchOption};
-ghost use Rattle.sparse_grid.specs.Tables.{entry_at};
+ghost use Rattle.std.specs.Prelude.{◌≡◌, ◌+◌, ◌*◌, ◌<◌, ◌||◌, true, length, MatchOption};
 ghost use Rattle.sparse_grid.specs.Record.{as_grid};
 ghost use Rattle.sparse_grid.specs.Biased.{raised};
 ghost use Rattle.sparse_grid.specs.Sound.{Sound};
