@@ -30,20 +30,6 @@ along x_axis q a e = along_x q a e
 along y_axis q a e = along_y q a e
 along z_axis q a e = along_z q a e
 
--- how far the cells before cell t reach in lo..hi
-abbrev pub reached : ℕ → ℕ → ℕ → ℕ → ℕ
-reached side lo hi t = min hi (max lo (t * side))
-
--- the part of a span in cell t
-pub record IsCell (side lo hi t : ℕ) (c : Span) : Type 0 where
-  pub low : c.lo ≡ reached side lo hi t
-  pub high : c.hi ≡ reached side lo hi (t + 1)
-  pub some : c.lo < c.hi
-  pub after : lo ≤ c.lo
-  pub within : c.hi ≤ hi
-  pub cell : InCell side c
-  pub border : lo < c.lo → c.lo % side ≡ 0
-
 -- ---- what is read
 
 -- how many root entries, upper entries, lower entries and leaf values
