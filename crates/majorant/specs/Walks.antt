@@ -1,5 +1,5 @@
 -- A part of a box, and what a walk of it below a node reads and gathers: what only private contracts cite.
-use Rattle.std.specs.Prelude.{ℕ, ◌+◌, ◌-◌, ◌*◌, ◌/◌, ◌%◌, ◌<◌, ◌≤◌, max, min, ◌≡◌, List, Float}
+use Rattle.std.specs.Prelude.{ℕ, ◌+◌, ◌-◌, ◌*◌, ◌/◌, ◌%◌, ◌<◌, ◌≤◌, ◌≡◌, List, Float}
 use Rattle.medium.specs.Medium.{Axis, x_axis, y_axis, z_axis}
 use Rattle.boxes.specs.declared.Span.{Span}
 use Rattle.boxes.specs.RangeMax.{Full, InCell}

@@ -1,5 +1,4 @@
 -- A turn of the loop gathers one cell more.
-use Rattle.std.proofs.Common.{arith}
 use Rattle.medium.specs.Medium.{y_axis}
 use Rattle.majorant.specs.Walks.{zone_of}
 use Rattle.majorant.proofs.Walked.{within_y, first, ready, turn, last}
