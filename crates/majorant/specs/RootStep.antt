@@ -58,9 +58,6 @@ module _ (g : Grid) (i : ℕ) (p : Code.Part) where
 -- ---- a root of a sound grid
 
 module _ {g : Grid} {i : ℕ} (r : Rooted g i) where
-  pub value_in_lem : i < length g.root_values
-  value_in_lem = omega (arith, r.sound.roots, r.inside)
-
   pub child_in_lem : {e : Entry} → e ≡ entry_at g.root_links g.root_values i → child_in e (length g.upper_links)
   child_in_lem is =
       let n = length g.upper_links in
