@@ -1,7 +1,7 @@
 -- The dearest box, over what the contract of `box_maximum_counted` says: no cube makes it read more, and one grid and place make it read as much.
 use Rattle.std.specs.Prelude.{◌≡◌, ℕ, zero, suc, ◌≤◌, refl}
-use Rattle.std.proofs.Common.{arith, sym, ap, subst}
-use Rattle.refusals.specs.Results.{ok, number_of, value_or}
+use Rattle.std.proofs.Common.{arith, sym, ap, ◌∙◌, subst}
+use Rattle.refusals.specs.Results.{Result, ok, number_of, value_or}
 use Rattle.refusals.specs.Faults.{passing}
 use Rattle.sparse_grid.specs.Tables.{Grid}
 use Rattle.sparse_grid.specs.Validate.{validate}

@@ -1,6 +1,6 @@
 -- The maxima of an accepted list of boxes: each is the single call's answer, and the greatest of them is the greatest of +0 and the voxels that lie
 -- in some box of the list. Assumes nothing.
-use Rattle.std.specs.Prelude.{◌≡◌, ℕ, zero, suc, ◌*◌, ◌<◌, ◌⊎◌, List, [], ◌∷◌, ◌++◌, length, get_or, ℤ, ◌==◌, slice_index_or}
+use Rattle.std.specs.Prelude.{◌≡◌, ℕ, zero, suc, ◌+◌, ◌*◌, ◌<◌, ◌⊎◌, List, [], ◌∷◌, ◌++◌, length, get_or, ℤ, ◌==◌, slice_index_or}
 use Rattle.std.proofs.Common.{not-suc-le-zero, ◌∙◌, inr}
 use native.Mathlib.Omega.{arith}
 use Rattle.std.proofs.Math.Path.{refl, sym, ap, subst}
