@@ -1,23 +1,18 @@
 -- The counts of a box from those of its spans; limits and sides that pass. Assumes nothing.
-use Rattle.std.proofs.Common.{◌≡◌, ℕ, zero, suc, ◌+◌, ◌-◌, ◌*◌, ◌^◌, ◌<◌, ◌≤◌, Bool, true, false, ◌&&◌, ◌||◌, T, eqb, leb, List, [], ◌∷◌, length, get_or, replicate, ℤ, sym, refl, ap, ◌∙◌, subst, ◌⊎◌, ⊎_elim, mul-zero, zero-mul, arith, leb→le, w32, SFits, to_z, of_z, eq-eqb, ne_eqb, le-leb}
-use lib.Ieee.{Float, lt}
-use lib.Ieee.Scale.{finite}
+use Rattle.std.proofs.Common.{◌≡◌, ℕ, ◌-◌, ◌*◌, ◌<◌, ◌≤◌, Bool, true, false, ◌&&◌, leb, List, length, get_or, replicate, ℤ, sym, refl, ap, ◌∙◌, subst, ◌⊎◌, ⊎_elim, mul-zero, zero-mul, arith, leb→le, le-leb}
+use lib.Ieee.{Float}
 use borrow.Author.Tests.{lt-leb}
 use Rattle.refusals.specs.Results.{Result, ok, refused, number_of, value_or}
 use Rattle.refusals.specs.Faults.{◌then◌, unless, first_fault, passing}
 use Rattle.refusals.specs.FaultLaws.{then_zero, unless_zero}
 use Rattle.refusals.proofs.FaultSteps.{first_fault_at}
 use Rattle.refusals.specs.TestLaws.{and_r}
-use Rattle.refusals.proofs.ListLaws.{get_d_any}
-use Rattle.float.specs.Zero.{+0}
-use Rattle.layout.specs.Coordinates.{Coord}
 use Rattle.sparse_grid.specs.Tables.{Grid}
 use Rattle.sparse_grid.specs.Validate.{validate}
 use Rattle.sparse_grid.specs.Lookup.{read_in}
 use Rattle.boxes.specs.declared.Span.{Span}
-use Rattle.boxes.specs.Boxes.{Box, span, between}
-use Rattle.boxes.specs.RangeMax.{Ends, empty, read_at}
-use Rattle.walk.specs.Walk.{Zone}
+use Rattle.boxes.specs.Boxes.{Box, span}
+use Rattle.boxes.specs.RangeMax.{empty, read_at}
 use Rattle.walk.specs.Classes.{class_count, limit_passes, limits_fault, side_fault, sides_fault, listed, public_counts}
 use Rattle.walk.proofs.ClassLaws.{listed_is}
 use Rattle.walk.proofs.Placed.{span_biased, class_tally}
@@ -25,8 +20,6 @@ use Rattle.walk.specs.Gather.{tally, volume}
 use Rattle.walk.specs.Counts.{zone_in}
 use Rattle.walk.specs.Tallied.{is_class, Sides}
 use Rattle.walk.specs.TalliedLaws.{class_le, places_are}
-use Rattle.sparse_grid.proofs.Signs.{seen}
-use Rattle.majorant.proofs.Signs.{Small}
 use Rattle.majorant.proofs.Refused as Refused
 use Rattle.majorant.specs.declared.part.Part as Code
 use Rattle.majorant.specs.Rooting.{SpanOf, PartOf, side_limit}
@@ -85,21 +78,6 @@ module _ {b : Box} {p : Code.Part} (spans : PartOf b p) where
         none = lacking p.x p.y p.z h (λ l. nil _ _ _ (omega arith)) (λ l. nil_2 _ _ _ (omega arith)) (λ l. nil_3 _ _ _ (omega arith))
 
 -- ---- limits
-
--- the first limit has none before it
-pub limit_first : (ls : List Float) (i : ℕ) (d : Float) {r : Bool} → i < length ls → i ≡ 0 → r ≡ finite (get_or ls i d) → r ≡ limit_passes ls i
-limit_first ls i d l z e =
-    e ∙ ap finite (get_d_any ls i d +0 l) ∙ alone (finite (get_or ls i +0)) (lt (get_or ls (i - 1) +0) (get_or ls i +0)) (eq-eqb i 0 z)
-  where
-    alone : (a c : Bool) {b : Bool} → b ≡ true → a ≡ (a && (b || c))
-    alone true c e = sym (ap (λ (t : Bool). t || c) e)
-    alone false c e = refl
-
-pub limit_next : (ls : List Float) (i : ℕ) (d : Float) {r : Bool} → i < length ls → (i ≡ 0 → ⊥)
-    → r ≡ (finite (get_or ls i d) && lt (get_or ls (i - 1) d) (get_or ls i d)) → r ≡ limit_passes ls i
-limit_next ls i d l z e =
-    e ∙ (λ t. finite (get_d_any ls i d +0 l t) && lt (get_d_any ls (i - 1) d +0 (omega arith) t) (get_d_any ls i d +0 l t))
-    ∙ ap (λ (b : Bool). finite (get_or ls i +0) && (b || lt (get_or ls (i - 1) +0) (get_or ls i +0))) (sym (ne_eqb i 0 z))
 
 -- their number, and then the first that does not pass
 abbrev pub limit_fault : List Float → ℕ → ℕ

@@ -1,6 +1,6 @@
 -- A row of values one by one: what stands at its places. Assumes nothing.
-use Rattle.std.proofs.Common.{◌≡◌, ℕ, ◌+◌, ◌-◌, ◌*◌, ◌<◌, ◌≤◌, List, length, get_or, sym, refl, ap, ◌∙◌, subst, arith}
-use lib.Ieee.{Float, lt, of_bits, binary32}
+use Rattle.std.proofs.Common.{◌≡◌, ℕ, ◌+◌, ◌-◌, ◌*◌, ◌<◌, List, length, get_or, sym, ap, ◌∙◌, subst, arith}
+use lib.Ieee.{Float, of_bits, binary32}
 use Rattle.float.specs.Zero.{+0}
 use Rattle.float.proofs.Literal.{zero_literal}
 use Rattle.float.proofs.Plain.{up_plain}

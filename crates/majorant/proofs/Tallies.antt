@@ -1,6 +1,6 @@
 -- Counts in words of 64 bits that grow. Assumes nothing.
-use Rattle.std.proofs.Common.{◌≡◌, ℕ, zero, suc, ◌+◌, ◌*◌, ◌%◌, ◌<◌, ◌≤◌, List, [], ◌∷◌, length, get_or, sym, refl, ap, ◌∙◌, subst, arith}
-use Rattle.std.proofs.Math.Nat.{mod-mod, mod-lt, mod-eq_of_lt}
+use Rattle.std.proofs.Common.{◌≡◌, ℕ, zero, suc, ◌+◌, ◌*◌, ◌%◌, ◌<◌, ◌≤◌, List, [], ◌∷◌, get_or, refl, ap, subst, arith}
+use Rattle.std.proofs.Math.Nat.{mod-mod, mod-lt}
 use Rattle.walk.specs.Counts.{Words, Grown, word, words_of}
 
 abbrev list : ℕ → ℕ → ℕ → ℕ → ℕ → List ℕ

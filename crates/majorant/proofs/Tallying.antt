@@ -1,11 +1,10 @@
 -- The class of a value limit by limit, and one count more. Assumes nothing.
-use Rattle.std.proofs.Common.{◌≡◌, ℕ, suc, ◌+◌, ◌-◌, ◌*◌, ◌<◌, ◌≤◌, Bool, true, false, cond, eqb, List, length, get_or, drop, set, sym, refl, ap, ◌∙◌, subst, lt_of_le_of_lt, mul-le-mul, one-mul, zero-mul, add-one, arith, lit<, length-drop, drop-cons, get_or-set_other, get_or-set_same, eq-eqb, ne_eqb}
+use Rattle.std.proofs.Common.{◌≡◌, ℕ, suc, ◌+◌, ◌*◌, ◌<◌, ◌≤◌, Bool, false, cond, eqb, List, length, get_or, drop, set, sym, refl, ap, ◌∙◌, subst, one-mul, zero-mul, add-one, arith, drop-cons, get_or-set_other, get_or-set_same, eq-eqb, ne_eqb}
 use lib.Ieee.{Float, lt}
 use Rattle.refusals.proofs.ListLaws.{get_d_any}
 use Rattle.float.specs.Zero.{+0}
 use Rattle.sparse_grid.specs.Count.{bit, split_eq}
 use Rattle.walk.specs.Classes.{class}
-use Rattle.walk.proofs.ClassLaws.{class_most}
 
 module _ (ls : List Float) (v : Float) where
   -- the class among the limits from i on
@@ -13,19 +12,13 @@ module _ (ls : List Float) (v : Float) where
   at_limit i b l e =
       ap (λ (k : List Float). class k v) (drop-cons ls i +0 l) ∙ ap (λ (t : Bool). cond t 0 (suc (class (drop (suc i) ls) v))) e
 
-  -- the loop stops, goes on, or ends
-  pub class_stop : (i : ℕ) (d : Float) → class ls v ≡ i + class (drop i ls) v → i < length ls → lt v (get_or ls i d) ≡ true → i ≡ class ls v
-  class_stop i d e l h = let w = at_limit i true l (ap (lt v) (get_d_any ls i +0 d l) ∙ h) in omega arith
-
+  -- the loop goes on
   pub class_on : (i : ℕ) (d : Float) → class ls v ≡ i + class (drop i ls) v → i < length ls → lt v (get_or ls i d) ≡ false
       → (i + 1 ≤ length ls) × (class ls v ≡ i + 1 + class (drop (i + 1) ls) v)
   class_on i d e l h =
       let w = at_limit i false l (ap (lt v) (get_d_any ls i +0 d l) ∙ h) in
       let o = ap (λ (n : ℕ). class (drop n ls) v) (add-one i) in
       (omega arith, omega arith)
-
-  pub class_out : (i : ℕ) → class ls v ≡ i + class (drop i ls) v → length ls ≤ i → i ≡ class ls v
-  class_out i e l = let h = class_most (drop i ls) v in let d = length-drop i ls in omega arith
 
 -- `size` more in count k
 pub count_more : (l : List ℕ) (k size j : ℕ) → k < length l → get_or (set l k (get_or l k 0 + size)) j 0 ≡ get_or l j 0 + bit (eqb k j) * size
@@ -43,10 +36,3 @@ count_more l k size j h = split_eq k j (λ e. subst Holds e same) other
     other d =
         let z = zero-mul size in
         get_or-set_other l k j (get_or l k 0 + size) 0 (λ e. d (sym e)) ∙ sym (ap (λ (b : Bool). get_or l j 0 + bit b * size) (ne_eqb k j d) ∙ omega arith)
-
--- sides of at most 2^20 have a product below 2^61
-pub size_fits : {a b c : ℕ} → a ≤ 1048576 → b ≤ 1048576 → c ≤ 1048576 → (a * b < 18446744073709551616) × (a * b * c < 18446744073709551616)
-size_fits h k l = (
-  lt_of_le_of_lt (mul-le-mul h k) (lit< {m = 1048576 * 1048576} {n = 18446744073709551616} tt),
-  lt_of_le_of_lt (mul-le-mul (mul-le-mul h k) l) (lit< {m = 1048576 * 1048576 * 1048576} {n = 18446744073709551616} tt),
-)

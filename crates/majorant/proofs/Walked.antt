@@ -1,103 +1,67 @@
 -- One turn of a loop over the cells of a part along an axis: what was gathered of the cells before and the next cell make up the part up to there.
 -- Assumes nothing.
-use Rattle.std.proofs.Common.{◌≡◌, ℕ, ◌+◌, ◌-◌, ◌*◌, ◌/◌, ◌%◌, ◌<◌, ◌≤◌, min, max, sym, refl, ap, ◌∙◌, subst, le_trans, arith}
-use Rattle.std.proofs.Math.Nat.{div-mul-le_self, le-div_iff_mul-le, div-lt_iff_lt-mul, div-eq_of_lt-le}
+use Rattle.std.proofs.Common.{◌≡◌, ℕ, ◌+◌, ◌*◌, ◌/◌, ◌%◌, ◌<◌, ◌≤◌, sym, subst, arith}
 use Rattle.boxes.specs.declared.Span.{Span}
-use Rattle.boxes.specs.RangeMax.{Full, InCell}
+use Rattle.boxes.specs.RangeMax.{Full, InCell, Cut}
+use Rattle.boxes.proofs.NodeCells.{cut_x, cut_y, cut_z}
 use Rattle.medium.specs.Medium.{Axis, x_axis}
 use Rattle.walk.specs.Walk.{Zone}
-use Rattle.majorant.specs.Walks.{zone_of, Alone, Within, Places, Reads, no_reads, both, along, reached, IsCell, GatherLaws, NodeLaws}
+use Rattle.majorant.specs.Walks.{zone_of, Alone, Within, Places, Reads, both, along, span, GatherLaws, NodeLaws}
 use Rattle.majorant.specs.declared.part.Part as Code
 
--- ---- cells
+-- ---- a part with a cell in place of a span
 
-module _ (side lo hi : ℕ) (p : 0 < side) (l : lo < hi) where
-  -- before the first cell nothing is reached, and the last reaches the end
-  pub reached_first : reached side lo hi (lo / side) ≡ lo
-  reached_first = let h = div-mul-le_self lo side in omega arith
+in_side : {width side : ℕ} (at next : ℕ) → width ≡ side → next ≤ at / width * width + width → InCell side (span at next)
+in_side at next e = subst (λ (k : ℕ). next ≤ at / k * k + k) e
 
-  pub reached_last : (t : ℕ) → (hi - 1) / side < t → reached side lo hi t ≡ hi
-  reached_last t h = let a = (div-lt_iff_lt-mul {x = hi - 1} {y = t} p).0 h in omega arith
+module _ {a b c width side at next : ℕ} {p : Code.Part} (e : width ≡ side) (w : Within a b c p) where
+  pub within_x : Cut width at p.x.hi next → Within side b c (record { x = span at next; y = p.y; z = p.z })
+  within_x k = record { full = cut_x w.full k; x_in = in_side at next e k.cell; y_in = w.y_in; z_in = w.z_in }
 
-  pub is_cell : (t : ℕ) (c : Span) → lo / side ≤ t → t ≤ (hi - 1) / side → c.lo ≡ max lo (t * side) → c.hi ≡ min hi (t * side + side) → IsCell side lo hi t c
-  is_cell t c h k u v =
-      let a = (div-lt_iff_lt-mul {x = lo} {y = t + 1} p).0 (omega arith) in
-      let b = (le-div_iff_mul-le {x = t} {y = hi - 1} p).0 k in
-      let d : c.lo / side ≡ t = div-eq_of_lt-le side (omega arith) (omega arith) in
-      let e : c.lo / side * side ≡ t * side = ap (λ (n : ℕ). n * side) d in
-      record {
-        low = omega arith;
-        high = omega arith;
-        some = omega arith;
-        after = omega arith;
-        within = omega arith;
-        cell = omega arith;
-        border = λ o. ap (λ (n : ℕ). n % side) (omega arith) ∙ Rattle.std.proofs.Math.Nat.mul-mod_left t side;
-      }
+  pub within_y : Cut width at p.y.hi next → Within a side c (record { x = p.x; y = span at next; z = p.z })
+  within_y k = record { full = cut_y w.full k; x_in = w.x_in; y_in = in_side at next e k.cell; z_in = w.z_in }
+
+  pub within_z : Cut width at p.z.hi next → Within a b side (record { x = p.x; y = p.y; z = span at next })
+  within_z k = record { full = cut_z w.full k; x_in = w.x_in; y_in = w.y_in; z_in = in_side at next e k.cell }
 
 -- ---- a loop along an axis
 
--- the side as the code reads it
-pub at_side : {s side own : ℕ} {F : Zone → Reads} → s ≡ side → NodeLaws side own F → NodeLaws s own F
-at_side {own = own} {F} e = subst (λ (k : ℕ). NodeLaws k own F) (sym e)
+-- from s the loop has come to t with what lies before `at`, which is lo, a border or the end
+pub record Upto {S : Type 0} (Done : Places → Zone → Reads → S → S → Type 0) (F : Zone → Reads) (a : Axis) (f : Places) (q : Zone)
+    (width lo hi at : ℕ) (s t : S) : Type 0 where
+  pub low : lo ≤ at
+  pub high : at ≤ hi
+  pub border : lo < at → at < hi → at % width ≡ 0
+  pub done : Done f (along a q lo at) (F (along a q lo at)) s t
 
-in_side : {s side : ℕ} → s ≡ side → (d : Span) → InCell s d → InCell side d
-in_side e d = subst (λ (k : ℕ). InCell k d) e
-
--- the part with a cell in place of a span
-module _ {a b c s side n : ℕ} {p : Code.Part} (e : s ≡ side) (w : Within a b c p) where
-  pub within_x : (d : Span) → IsCell s p.x.lo p.x.hi n d → Within side b c (record { x = d; y = p.y; z = p.z })
-  within_x d k = record {
-    full = record {
-      x_some = k.some; y_some = w.full.y_some; z_some = w.full.z_some; x_top = le_trans k.within w.full.x_top; y_top = w.full.y_top; z_top = w.full.z_top };
-    x_in = in_side e d k.cell;
-    y_in = w.y_in;
-    z_in = w.z_in;
-  }
-
-  pub within_y : (d : Span) → IsCell s p.y.lo p.y.hi n d → Within a side c (record { x = p.x; y = d; z = p.z })
-  within_y d k = record {
-    full = record {
-      x_some = w.full.x_some; y_some = k.some; z_some = w.full.z_some; x_top = w.full.x_top; y_top = le_trans k.within w.full.y_top; z_top = w.full.z_top };
-    x_in = w.x_in;
-    y_in = in_side e d k.cell;
-    z_in = w.z_in;
-  }
-
-  pub within_z : (d : Span) → IsCell s p.z.lo p.z.hi n d → Within a b side (record { x = p.x; y = p.y; z = d })
-  within_z d k = record {
-    full = record {
-      x_some = w.full.x_some; y_some = w.full.y_some; z_some = k.some; x_top = w.full.x_top; y_top = w.full.y_top; z_top = le_trans k.within w.full.z_top };
-    x_in = w.x_in;
-    y_in = w.y_in;
-    z_in = in_side e d k.cell;
-  }
-
+-- `width` is the side as the code reads it
 module _ {S : Type 0} {Fit : S → Zone → Type 0} {Done : Places → Zone → Reads → S → S → Type 0} (laws : GatherLaws Fit Done)
-    {side own : ℕ} {F : Zone → Reads} (sums : NodeLaws side own F) (p : 0 < side) (a : Axis) (f : Places) (q : Zone) {lo hi : ℕ} (l : lo < hi) where
-  -- from s the loop has come to t, with the cells before cell n
-  abbrev pub Upto : ℕ → S → S → Type 0
-  Upto n s t = Done f (along a q lo (reached side lo hi n)) (F (along a q lo (reached side lo hi n))) s t
+    {side own : ℕ} {F : Zone → Reads} (sums : NodeLaws side own F) {width : ℕ} (e : width ≡ side) (a : Axis) (f : Places) (q : Zone) {lo hi : ℕ} where
+  pub first : {s : S} (r : Zone) → lo < hi → Fit s r → Upto Done F a f q width lo hi lo s s
+  first {s} r l h = record {
+    low = omega arith;
+    high = omega arith;
+    border = λ k m. absurd (omega arith);
+    done = subst (λ (c : Reads). Done f (along a q lo lo) c s s) (sym (sums.none a q lo)) (laws.none a f q r lo s h);
+  }
 
-  pub first : {s : S} (r : Zone) → Fit s r → Upto (lo / side) s s
-  first {s} r h = subst (λ (e : ℕ). Done f (along a q lo e) (F (along a q lo e)) s s) (sym (reached_first side lo hi p l))
-      (subst (λ (c : Reads). Done f (along a q lo lo) c s s) (sym (sums.none a q lo)) (laws.none a f q r lo s h))
+  module _ {at next : ℕ} {s t : S} (u : Upto Done F a f q width lo hi at s t) (k : Cut width at hi next) where
+    pub ready : Fit s (along a q lo hi) → Fit t (along a q at next)
+    ready h = laws.fit a f q lo at next hi _ s t u.low (omega (arith, k.more)) k.within h u.done
 
-  pub ready : {n : ℕ} {s t : S} (c : Span) → IsCell side lo hi n c → Fit s (along a q lo hi) → Upto n s t → Fit t (along a q c.lo c.hi)
-  ready {s = s} {t} c k h u =
-      laws.fit a f q lo c.lo c.hi hi _ s t k.after (omega (arith, k.some)) k.within h
-      (subst (λ (e : ℕ). Done f (along a q lo e) (F (along a q lo e)) s t) (sym k.low) u)
+    pub turn : {v : S} → hi ≤ lo / own * own + own → Done f (along a q at next) (F (along a q at next)) t v → Upto Done F a f q width lo hi next s v
+    turn {v} i w = record {
+      low = omega (arith, u.low, k.more);
+      high = k.within;
+      border = λ l m. k.border m;
+      done = subst (λ (d : Reads). Done f (along a q lo next) d s v)
+          (sums.more a q lo at next u.low k.more (subst (λ (n : ℕ). next ≤ at / n * n + n) e k.cell) (omega (arith, k.within))
+          (λ l. subst (λ (n : ℕ). at % n ≡ 0) e (u.border l (omega (arith, k.more, k.within)))))
+          (laws.join a f q lo at next _ _ s t v u.low (omega (arith, k.more)) u.done w);
+    }
 
-  pub turn : {n : ℕ} {s t u : S} (c : Span) → IsCell side lo hi n c → hi ≤ lo / own * own + own → Upto n s t
-      → Done f (along a q c.lo c.hi) (F (along a q c.lo c.hi)) t u → Upto (n + 1) s u
-  turn {n} {s} {t} {u} c k i v w = subst (λ (e : ℕ). Done f (along a q lo e) (F (along a q lo e)) s u) k.high
-      (subst (λ (d : Reads). Done f (along a q lo c.hi) d s u)
-      (sums.more a q lo c.lo c.hi k.after k.some k.cell (omega (arith, k.within)) k.border)
-      (laws.join a f q lo c.lo c.hi _ _ s t u k.after (omega (arith, k.some))
-      (subst (λ (e : ℕ). Done f (along a q lo e) (F (along a q lo e)) s t) (sym k.low) v) w))
-
-  pub last : {n : ℕ} {s t : S} → (hi - 1) / side < n → Upto n s t → Done f (along a q lo hi) (F (along a q lo hi)) s t
-  last {n} {s} {t} h u = subst (λ (e : ℕ). Done f (along a q lo e) (F (along a q lo e)) s t) (reached_last side lo hi p l n h) u
+  pub last : {at : ℕ} {s t : S} → hi ≤ at → Upto Done F a f q width lo hi at s t → Done f (along a q lo hi) (F (along a q lo hi)) s t
+  last {at} {s} {t} h u = subst (λ (n : ℕ). Done f (along a q lo n) (F (along a q lo n)) s t) (omega (arith, u.high)) u.done
 
 -- a part in a small cell lies in a block
 pub from_8 : {p : Code.Part} → Within 8 8 8 p → Within 4096 4096 4096 p

@@ -24,7 +24,7 @@ use Rattle.majorant.specs.Rooting.{RootLaws, read_to}
 use Rattle.majorant.specs.RootsMet.{covered_none}
 use Rattle.majorant.specs.RootStep.{misses_covered, misses_reads, misses_roots, meets_covered, meets_reads, meets_roots}
 use Rattle.majorant.specs.Gone.{gone_none, gone_misses, gone_meets, part_ready, covered_few}
-use Rattle.majorant.specs.Walks.{zone_of, size_of, Places, Reads, no_reads, both, along, CountLaws, GatherLaws}
+use Rattle.majorant.specs.Walks.{zone_of, size_of, Places, Reads, along, CountLaws, GatherLaws}
 use Rattle.majorant.specs.declared.node_max.Tally as Tally
 use Rattle.majorant.specs.declared.node_max.Uncounted as Uncounted
 use Rattle.majorant.specs.declared.node_max.Maximum as Maximum

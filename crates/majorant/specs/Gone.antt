@@ -1,5 +1,5 @@
 -- One root more in the loop that counts classes, and what is left for the background at its end. Assumes nothing.
-use Rattle.std.proofs.Common.{◌≡◌, ℕ, suc, ◌+◌, ◌-◌, ◌*◌, ◌/◌, ◌<◌, ◌≤◌, Bool, true, false, cond, eqb, ◌⊎◌, List, length, get_or, sym, refl, ap, ◌∙◌, subst, ⊎_elim, mul_comm, mul-le-mul, add-one, arith}
+use Rattle.std.proofs.Common.{◌≡◌, ℕ, suc, ◌+◌, ◌-◌, ◌/◌, ◌<◌, ◌≤◌, Bool, true, false, cond, eqb, List, length, get_or, sym, ap, ◌∙◌, subst, ⊎_elim, mul_comm, mul-le-mul, add-one, arith}
 use lib.Ieee.{Float}
 use Rattle.sparse_grid.specs.declared.Entry.{Entry}
 use Rattle.sparse_grid.specs.Tables.{Grid, block_at, entry_at}

@@ -1,5 +1,5 @@
 -- What is read of a node adds up along cuts at the borders of its cells, and for a part in one cell it is that of one entry. Assumes nothing.
-use Rattle.std.proofs.Common.{◌≡◌, ℕ, ◌+◌, ◌*◌, ◌/◌, ◌%◌, ◌<◌, ◌≤◌, T, ltb, leb, ltb→lt, leb→le, List, sym, refl, ap, ◌∙◌, arith}
+use Rattle.std.proofs.Common.{◌≡◌, ℕ, ◌+◌, ◌*◌, ◌/◌, ◌%◌, ◌<◌, ◌≤◌, T, ltb, leb, ltb→lt, leb→le, List, sym, refl, arith}
 use lib.Ieee.{Float}
 use Rattle.sparse_grid.specs.declared.Entry.TheVariants.{Child, Tile}
 use Rattle.sparse_grid.specs.Tables.{entry_at}
@@ -9,7 +9,7 @@ use Rattle.boxes.specs.RangeMax.{lower_slot, upper_slot}
 use Rattle.medium.specs.Medium.{Axis, x_axis, y_axis, z_axis}
 use Rattle.walk.specs.Walk.{Zone, uppers_only, lowers_only, leaves_only}
 use Rattle.walk.specs.Counts.{lower_count, upper_count}
-use Rattle.walk.proofs.CountLaws.{Going, Along, Adds, no_adds, lower_adds, upper_adds, lower_entry_lem, upper_entry_lem, no_uppers}
+use Rattle.walk.proofs.CountLaws.{Along, Adds, no_adds, lower_adds, upper_adds, lower_entry_lem, upper_entry_lem, no_uppers}
 use Rattle.majorant.specs.Walks.{Reads, no_reads, one_upper, one_lower, leaf_reads, both, along, NodeLaws, span, lower_reads, upper_reads, Within, zone_of, size_of}
 use Rattle.majorant.specs.declared.part.Part as Code
 
@@ -118,7 +118,7 @@ module _ (upper_links : List ℕ) (upper_values : List Float) (links : List ℕ)
       let l = upper_entry_lem lowers_only upper_links upper_values links values k w.full (w.x_in, w.y_in, w.z_in) e in
       let v = upper_entry_lem leaves_only upper_links upper_values links values k w.full (w.x_in, w.y_in, w.z_in) e in
       let m : 1 + 0 ≡ upper_count uppers_only upper_links upper_values links values k p.x p.y p.z
-          = omega (arith, u, no_uppers links values j p.x p.y p.z) in
+      = omega (arith, u, no_uppers links values j p.x p.y p.z) in
       λ i. record { roots = 0; uppers = m i; lowers = l i; leaves = v i }
 
   pub upper_tile : {v : Float} → upper_entry ≡ Tile v

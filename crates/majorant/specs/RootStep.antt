@@ -1,22 +1,21 @@
 -- One root more: it misses the part of a box, or holds one block of it; the maximum of that, and what was read. Assumes nothing.
-use Rattle.std.proofs.Common.{◌≡◌, ℕ, ◌+◌, ◌*◌, ◌<◌, Bool, true, false, ◌||◌, ◌⊎◌, T, length, sym, refl, ap, ◌∙◌, subst, inl, inr, le_trans, arith}
+use Rattle.std.proofs.Common.{◌≡◌, ℕ, ◌+◌, ◌<◌, Bool, true, false, ◌||◌, ◌⊎◌, T, length, sym, refl, ap, ◌∙◌, subst, inl, inr, le_trans, arith}
 use lib.Ieee.{Float}
 use Rattle.sparse_grid.specs.declared.Entry.{Entry}
 use Rattle.sparse_grid.specs.declared.Entry.TheVariants.{Child, Tile}
 use Rattle.sparse_grid.specs.Tables.{Grid, block_at, entry_at}
 use Rattle.sparse_grid.specs.Biased.{raised}
 use Rattle.boxes.specs.declared.Span.{Span}
-use Rattle.boxes.specs.Boxes.{greater}
 use Rattle.boxes.specs.Most.{Joined}
 use Rattle.boxes.specs.RangeMax.{Within as Places, Full, InCell, Clip, apart, child_in, read_at, corner, CoveredIn}
 use Rattle.boxes.proofs.MostLaws.{most_as}
 use Rattle.boxes.proofs.NodeCells.{linked_room}
 use Rattle.boxes.proofs.RootReads.{back_raised}
-use Rattle.walk.specs.Walk.{Price, root_steps, upper_steps, roots_only, uppers_only, lowers_only, leaves_only, below as walk_below}
-use Rattle.walk.specs.Counts.{zone_in, upper_count, steps_to}
+use Rattle.walk.specs.Walk.{Price, upper_steps, roots_only, uppers_only, lowers_only, leaves_only, below as walk_below}
+use Rattle.walk.specs.Counts.{upper_count, steps_to}
 use Rattle.walk.proofs.CountLaws.{next_to, no_roots, root_apart, root_met, upper_here}
 use Rattle.majorant.specs.declared.part.Part as Code
-use Rattle.majorant.specs.Walks.{Within, zone_of, Reads, both}
+use Rattle.majorant.specs.Walks.{Within, zone_of, both}
 use Rattle.majorant.specs.Rooting.{Rooted, Clips, misses, below, reads_below, read_to}
 use Rattle.majorant.specs.RootsMet.{clip_some, step_apart, step_meets, root_read}
 
@@ -59,9 +58,6 @@ module _ (g : Grid) (i : ℕ) (p : Code.Part) where
 -- ---- a root of a sound grid
 
 module _ {g : Grid} {i : ℕ} (r : Rooted g i) where
-  pub value_in_lem : i < length g.root_values
-  value_in_lem = omega (arith, r.sound.roots, r.inside)
-
   pub child_in_lem : {e : Entry} → e ≡ entry_at g.root_links g.root_values i → child_in e (length g.upper_links)
   child_in_lem is =
       let n = length g.upper_links in

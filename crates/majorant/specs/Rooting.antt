@@ -1,5 +1,5 @@
 -- A root and its block's part of a box, and what is gathered of the roots in order: what only private contracts cite.
-use Rattle.std.specs.Prelude.{ℕ, ℤ, ◌^◌, leb, ◌+◌, ◌-◌, ◌≤◌, ◌<◌, ◌≡◌, true, false, Bool, ◌||◌, List, length, get_or, T, Float}
+use Rattle.std.specs.Prelude.{ℕ, ℤ, ◌^◌, leb, ◌+◌, ◌-◌, ◌<◌, ◌≡◌, true, false, Bool, ◌||◌, List, length, get_or, T, Float}
 use Rattle.std.specs.Float.{binary32}
 use Rattle.std.specs.Float.Ieee.{fits}
 use lib.Signed.{mag}

@@ -1,5 +1,5 @@
 -- A part of a box, and what a walk of it below a node reads and gathers: what only private contracts cite.
-use Rattle.std.specs.Prelude.{ℕ, ◌+◌, ◌-◌, ◌*◌, ◌/◌, ◌%◌, ◌<◌, ◌≤◌, max, min, ◌≡◌, List, Float}
+use Rattle.std.specs.Prelude.{ℕ, ◌+◌, ◌-◌, ◌*◌, ◌/◌, ◌%◌, ◌<◌, ◌≤◌, ◌≡◌, List, Float}
 use Rattle.medium.specs.Medium.{Axis, x_axis, y_axis, z_axis}
 use Rattle.boxes.specs.declared.Span.{Span}
 use Rattle.boxes.specs.RangeMax.{Full, InCell}
@@ -29,20 +29,6 @@ abbrev pub along : Axis → Zone → ℕ → ℕ → Zone
 along x_axis q a e = along_x q a e
 along y_axis q a e = along_y q a e
 along z_axis q a e = along_z q a e
-
--- how far the cells before cell t reach in lo..hi
-abbrev pub reached : ℕ → ℕ → ℕ → ℕ → ℕ
-reached side lo hi t = min hi (max lo (t * side))
-
--- the part of a span in cell t
-pub record IsCell (side lo hi t : ℕ) (c : Span) : Type 0 where
-  pub low : c.lo ≡ reached side lo hi t
-  pub high : c.hi ≡ reached side lo hi (t + 1)
-  pub some : c.lo < c.hi
-  pub after : lo ≤ c.lo
-  pub within : c.hi ≤ hi
-  pub cell : InCell side c
-  pub border : lo < c.lo → c.lo % side ≡ 0
 
 -- ---- what is read
 

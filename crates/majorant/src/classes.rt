@@ -16,6 +16,9 @@ use boxes::{CoordBox, Span};
 use refusals::Refusal;
 use sparse_grid::Grid;
 
+// The most limits.
+const MOST: usize = 16;
+
 pub(crate) fn box_classes(grid: &Grid, limits: &[f32], of: CoordBox) -> [u64; 17]
     requires { let g = as_grid grid.now in
         (validate_s g ≡ 0) × (sides_fault (as_box of) ≡ 0) × (length limits.now ≤ 16) }
@@ -48,7 +51,7 @@ fn check_limits(limits: &[f32]) -> Result<(), Refusal>
     ensures { fault_of result ≡ limits_fault limits.now }
 {
     let n = limits.len();
-    if n < 1 || 16 < n {
+    if n < 1 || MOST < n {
         return Err(Refusal::Classes);
     }
     for i in 0..n {

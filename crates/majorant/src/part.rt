@@ -1,8 +1,8 @@
 // A part of a box by biased coordinates, and its cells along an axis.
 ghost use Rattle.std.specs.Prelude.{◌+◌, ◌-◌, ◌*◌, ◌/◌, ◌<◌, ◌≤◌, ◌≡◌};
-ghost use Rattle.boxes.specs.RangeMax.{Full};
+ghost use Rattle.boxes.specs.RangeMax.{Full, Cut};
 ghost use Rattle.walk.specs.Tallied.{Sides};
-ghost use Rattle.majorant.specs.Walks.{IsCell, size_of};
+ghost use Rattle.majorant.specs.Walks.{size_of};
 
 use boxes::Span;
 
@@ -14,17 +14,13 @@ pub struct Part {
     pub z: Span,
 }
 
-// The part of a span in cell t, of `side` coordinates.
-pub(crate) fn cell_of(span: Span, side: usize, t: usize) -> Span
-    requires { (span.lo < span.hi) × (span.hi ≤ 4294967296) × (0 < side) × (side ≤ 128)
-        × (span.lo / side ≤ t) × (t ≤ (span.hi - 1) / side) }
-    ensures { IsCell side span.lo span.hi t result }
+// Where the first part of at..end that lies in one cell of `side` coordinates ends.
+pub(crate) fn cell_end(at: usize, end: usize, side: usize) -> usize
+    requires { (at < end) × (end ≤ 4294967296) × (0 < side) × (side ≤ 128) }
+    ensures { Cut side at end result }
 {
-    let start = t * side;
-    Span {
-        lo: span.lo.max(start),
-        hi: span.hi.min(start + side),
-    }
+    let border = at / side * side + side;
+    border.min(end)
 }
 
 impl Part {

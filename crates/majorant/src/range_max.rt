@@ -20,13 +20,11 @@ use sparse_grid::Grid;
 #[tactic(auto, using(crate::proofs::FitLaws::fine))]
 fn are_floats(values: &[f32])
     ensures { AreFloats values.now }
-{
-}
+{}
 
 fn is_float(value: f32)
     ensures { T (fits binary32 value) }
-{
-}
+{}
 
 fn all_floats(grid: &Grid)
     ensures { Floats (as_grid grid.now) }

@@ -1,7 +1,6 @@
 // The roots of a grid in order: a part of a box is walked in the block of each that it meets.
 // Coordinates are biased: a coordinate plus 2^31, so that blocks and slots are plain quotients and remainders.
-ghost use Rattle.std.specs.Prelude.{◌≡◌, ℕ, ◌+◌, ◌*◌, ◌<◌, ◌≤◌, ◌||◌, true, leb, length, MatchOption};
-ghost use Rattle.sparse_grid.specs.Tables.{entry_at};
+ghost use Rattle.std.specs.Prelude.{◌≡◌, ◌+◌, ◌*◌, ◌<◌, ◌||◌, true, length, MatchOption};
 ghost use Rattle.sparse_grid.specs.Record.{as_grid};
 ghost use Rattle.sparse_grid.specs.Biased.{raised};
 ghost use Rattle.sparse_grid.specs.Sound.{Sound};
@@ -66,6 +65,7 @@ fn clip(block: i32, span: Span) -> Span
 }
 
 // The part in the block of root i, if it meets that.
+#[inline(always)]
 fn clipped(grid: &Grid, i: usize, of: Part) -> Option<Part>
     requires { Rooted (as_grid grid.now) i × Full of.x of.y of.z }
     ensures { MatchOption result (misses (as_grid grid.now) i of ≡ true) (Clips (as_grid grid.now) i of) }
@@ -84,6 +84,7 @@ fn clipped(grid: &Grid, i: usize, of: Part) -> Option<Part>
 }
 
 // A part in one block, below the entry of its root.
+#[inline(always)]
 fn walk_below<G: Gather>(grid: &Grid, entry: Entry, part: Part, gathered: &mut G)
     requires { let g = as_grid grid.now in
         child_in entry (length g.upper_links) × Linked g.upper_links g.upper_values g.lower_links g.lower_values g.leaf_values
@@ -98,6 +99,7 @@ fn walk_below<G: Gather>(grid: &Grid, entry: Entry, part: Part, gathered: &mut G
 }
 
 // Root i more. Blocks differ, so a root that meets the part covers some of it that none before has.
+#[inline(always)]
 fn walk_root<G: Gather>(grid: &Grid, i: usize, of: Part, covered: u64, gathered: &mut G) -> u64
     requires { Rooted (as_grid grid.now) i × (i + 1 < 18446744073709551616) × Full of.x of.y of.z × G.Able of
         × ((s : G) × G.After (as_grid grid.now) of i s gathered.old covered) }

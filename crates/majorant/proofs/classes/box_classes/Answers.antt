@@ -1,5 +1,5 @@
 -- What is counted by biased coordinates is counted of the box.
-use Rattle.std.proofs.Common.{◌≡◌, ℕ, ◌<◌, zero, suc, List, get_or, replicate, refl, sym, ap, ◌∙◌}
+use Rattle.std.proofs.Common.{◌≡◌, ℕ, zero, suc, get_or, replicate, refl, sym, ap, ◌∙◌}
 use Rattle.sparse_grid.specs.Record.{as_grid}
 use Rattle.sparse_grid.specs.Sound.{sound}
 use Rattle.majorant.specs.declared.class_walk.Classes as Classes

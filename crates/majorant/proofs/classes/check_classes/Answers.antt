@@ -1,5 +1,5 @@
 -- The grid and the limits pass, and the sides of the part are those of the box.
-use Rattle.std.proofs.Common.{◌≡◌, ◌∙◌}
+use Rattle.std.proofs.Common.{◌∙◌}
 use Rattle.refusals.specs.Faults.{◌then◌}
 use Rattle.boxes.specs.Boxes.{as_box}
 use Rattle.walk.specs.Classes.{sides_fault}

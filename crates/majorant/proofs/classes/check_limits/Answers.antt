@@ -1,10 +1,10 @@
 -- The number of limits, and then the first that does not pass.
-use Rattle.std.proofs.Common.{◌≡◌, ℕ, ◌<◌, Bool, length, sym, ap, ◌∙◌, inl, inr, arith}
-use Rattle.refusals.specs.Faults.{unless, first_fault}
+use Rattle.std.proofs.Common.{Bool, length, sym, ap, inl, inr, arith}
+use Rattle.refusals.specs.Faults.{unless}
 use Rattle.refusals.proofs.FaultSteps.{first_fault_none, first_fault_next, first_fault_end}
 use Rattle.majorant.proofs.Classing.{limit_fault, limits_few, limits_pass, limit_stops}
 use Rattle.majorant.proofs.classes.check_limits.Goals as goal
-use Rattle.majorant.proofs.classes.check_limits.Goals.{then-n-lt1-via-then-n-lt1, then-n-lt1-via-else-n-lt1+then-n-gt16}
+use Rattle.majorant.proofs.classes.check_limits.Goals.{then-n-lt1-via-then-n-lt1, then-n-lt1-via-else-n-lt1+then-n-gt-MOST}
 
 pub loop-i-init : goal.loop-i-init
 loop-i-init c = first_fault_none _
@@ -30,5 +30,5 @@ pub returns-then-n-lt1 : goal.returns-then-n-lt1
 returns-then-n-lt1 c =
     elim c.then-n-lt1.branch [
       | then-n-lt1-via-then-n-lt1 w ↦ limits_few c.args.limits.now (inl (omega arith))
-      | then-n-lt1-via-else-n-lt1+then-n-gt16 w ↦ limits_few c.args.limits.now (inr (omega arith))
+      | then-n-lt1-via-else-n-lt1+then-n-gt-MOST w ↦ limits_few c.args.limits.now (inr (omega arith))
     ]

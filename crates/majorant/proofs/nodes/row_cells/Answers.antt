@@ -1,45 +1,34 @@
 -- A turn of the loop gathers one cell more.
-use Rattle.std.proofs.Common.{◌<◌, arith, subst, sym}
 use Rattle.medium.specs.Medium.{z_axis}
 use Rattle.majorant.specs.Walks.{zone_of}
-use Rattle.majorant.proofs.Walked.{at_side, within_z, first, ready, turn, last}
+use Rattle.majorant.proofs.Walked.{within_z, first, ready, turn, last}
 use Rattle.majorant.proofs.nodes.row_cells.Goals as goal
 
-pub loop-t-init : goal.loop-t-init
-loop-t-init g c =
+pub loop-at-init : goal.loop-at-init
+loop-at-init g c =
     let a = c.args in
     let n = g.N.Table in
-    let e = c.side-side.ensures in
-    let p : 0 < c.side-side.result = subst (λ k. 0 < k) (sym e) n.some in
-    first g.G.Gather.laws (at_side e (n.laws a.node.now)) p z_axis (n.read a.node.now) (zone_of a.part) c.requires.1.full.z_some (zone_of a.part) c.requires.2
+    let r = c.requires in
+    first g.G.Gather.laws (n.laws a.node.now) c.side-side.ensures z_axis (n.read a.node.now) (zone_of a.part) (zone_of a.part) r.1.full.z_some r.2
 
 pub cell-requires : goal.cell-requires
 cell-requires g c =
     let a = c.args in
     let n = g.N.Table in
+    let r = c.requires in
     let e = c.side-side.ensures in
-    let p : 0 < c.side-side.result = subst (λ k. 0 < k) (sym e) n.some in
-    let k = c.cell_of-z.ensures in (
-      c.requires.0,
-      within_z e c.requires.1 _ k,
-      ready g.G.Gather.laws (at_side e (n.laws a.node.now)) p z_axis (n.read a.node.now) (zone_of a.part) c.requires.1.full.z_some
-          _ k c.requires.2 c.loop-t.invariant,
-    )
+    let k = c.cell_end-next.ensures in
+    (r.0, within_z e r.1 k, ready g.G.Gather.laws (n.laws a.node.now) e z_axis (n.read a.node.now) (zone_of a.part) c.loop-at.invariant k r.2)
 
-pub loop-t-preserved : goal.loop-t-preserved
-loop-t-preserved g c =
+pub loop-at-preserved : goal.loop-at-preserved
+loop-at-preserved g c =
     let a = c.args in
     let n = g.N.Table in
-    let e = c.side-side.ensures in
-    let p : 0 < c.side-side.result = subst (λ k. 0 < k) (sym e) n.some in
-    let f = c.requires.1 in
-    turn g.G.Gather.laws (at_side e (n.laws a.node.now)) p z_axis (n.read a.node.now) (zone_of a.part) f.full.z_some _ c.cell_of-z.ensures f.z_in
-    c.loop-t.invariant c.cell.ensures
+    turn g.G.Gather.laws (n.laws a.node.now) c.side-side.ensures z_axis (n.read a.node.now) (zone_of a.part)
+    c.loop-at.invariant c.cell_end-next.ensures c.requires.1.z_in c.cell.ensures
 
 pub returns : goal.returns
 returns g c =
     let a = c.args in
     let n = g.N.Table in
-    let e = c.side-side.ensures in
-    let p : 0 < c.side-side.result = subst (λ k. 0 < k) (sym e) n.some in
-    last g.G.Gather.laws (at_side e (n.laws a.node.now)) p z_axis (n.read a.node.now) (zone_of a.part) c.requires.1.full.z_some (omega arith) c.loop-t.invariant
+    last g.G.Gather.laws (n.laws a.node.now) c.side-side.ensures z_axis (n.read a.node.now) (zone_of a.part) c.loop-at-test.false c.loop-at.invariant

@@ -1,10 +1,14 @@
--- The part before cell t is gathered.
+-- The part before `at` is gathered.
+use Rattle.std.proofs.Common.{◌-◌}
 use Rattle.medium.specs.Medium.{z_axis}
-use Rattle.majorant.specs.Walks.{zone_of, reached, along}
+use Rattle.majorant.specs.Walks.{zone_of}
+use Rattle.majorant.proofs.Walked.{Upto}
 use Rattle.majorant.proofs.nodes.row_cells.Given as goal
 
-abbrev pub invariant-loop-t : goal.invariant-loop-t
-invariant-loop-t g l =
+abbrev pub invariant-loop-at : goal.invariant-loop-at
+invariant-loop-at g l =
     let n = g.N.Table in
-    let z = along z_axis (zone_of l.part) l.part.z.lo (reached l.side l.part.z.lo l.part.z.hi l.t) in
-    g.G.Gather.Done (n.read l.node) z (n.reads l.node z) l.initial.gathered l.gathered
+    Upto g.G.Gather.Done (n.reads l.node) z_axis (n.read l.node) (zone_of l.part) l.side l.part.z.lo l.part.z.hi l.at l.initial.gathered l.gathered
+
+abbrev pub decreases-loop-at : goal.decreases-loop-at
+decreases-loop-at g l = l.part.z.hi - l.at

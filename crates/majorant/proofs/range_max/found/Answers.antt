@@ -1,5 +1,5 @@
 -- What is greatest by biased coordinates is the maximum of the box, since only one number is, and what is read by them is what is read for the box.
-use Rattle.std.proofs.Common.{◌≡◌, T, sym, ◌∙◌, subst}
+use Rattle.std.proofs.Common.{T, sym, subst}
 use lib.Ieee.{binary32, fits}
 use Rattle.float.proofs.Literal.{zero_literal}
 use Rattle.layout.specs.Coordinates.{Coord}

@@ -1,5 +1,5 @@
 -- No test told the root apart from the part.
-use Rattle.std.proofs.Common.{◌≡◌, ◌||◌, ℤ, sym, ap, ◌∙◌, subst}
+use Rattle.std.proofs.Common.{◌||◌, ℤ, sym, ap, ◌∙◌, subst}
 use Rattle.sparse_grid.specs.Tables.{block_at}
 use Rattle.sparse_grid.specs.Record.{as_grid}
 use Rattle.sparse_grid.specs.Biased.{raised}

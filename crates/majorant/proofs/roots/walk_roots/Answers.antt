@@ -1,5 +1,5 @@
 -- From a fresh state, root by root.
-use Rattle.std.proofs.Common.{◌≡◌, ℕ, ◌+◌, ◌<◌, length, subst, arith}
+use Rattle.std.proofs.Common.{ℕ, subst, arith}
 use Rattle.sparse_grid.specs.Record.{as_grid}
 use Rattle.majorant.proofs.roots.walk_roots.Goals as goal
 

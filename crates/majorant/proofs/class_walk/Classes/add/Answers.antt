@@ -1,5 +1,5 @@
 -- One count grows, that of the value's class.
-use Rattle.std.proofs.Common.{◌≡◌, ℕ, ◌+◌, ◌*◌, ◌<◌, get_or, eqb, refl, ap, ◌∙◌, arith, length-set}
+use Rattle.std.proofs.Common.{ℕ, ◌+◌, ◌*◌, get_or, eqb, refl, ap, ◌∙◌, arith, length-set}
 use Rattle.sparse_grid.specs.Count.{bit}
 use Rattle.walk.proofs.ClassLaws.{class_most}
 use Rattle.majorant.proofs.Tallying.{count_more}

@@ -1,5 +1,5 @@
 -- The rest of a box is the background's.
-use Rattle.std.proofs.Common.{◌≡◌, ℕ, List, length, get_or, ◌∙◌, sym, subst, arith}
+use Rattle.std.proofs.Common.{◌≡◌, List, get_or, ◌∙◌, subst}
 use lib.Ieee.{Float}
 use Rattle.sparse_grid.specs.Record.{as_grid}
 use Rattle.walk.specs.Gather.{tally}

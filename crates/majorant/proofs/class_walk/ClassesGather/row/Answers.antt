@@ -1,5 +1,5 @@
 -- A turn of the loop counts one value more.
-use Rattle.std.proofs.Common.{◌≡◌, ℕ, ◌+◌, ◌-◌, sym, ◌∙◌, subst, arith}
+use Rattle.std.proofs.Common.{◌≡◌, ℕ, ◌+◌, sym, ◌∙◌, subst, arith}
 use lib.Ieee.{nan}
 use Rattle.float.specs.Zero.{+0}
 use Rattle.refusals.proofs.ListLaws.{get_d_any}
@@ -8,7 +8,7 @@ use Rattle.walk.specs.Walk.{Zone}
 use Rattle.walk.specs.TalliedLaws.{one_value, ready_value}
 use Rattle.majorant.specs.Walks.{along, zone_of, no_reads}
 use Rattle.majorant.specs.Gathered.{Classed, classes_laws}
-use Rattle.majorant.proofs.RowWalk.{read, before, place, at_place, one_place, whole, reads_as}
+use Rattle.majorant.proofs.RowWalk.{read, place, at_place, one_place, whole, reads_as}
 use Rattle.majorant.proofs.class_walk.ClassesGather.row.Goals as goal
 
 pub loop-v-init : goal.loop-v-init

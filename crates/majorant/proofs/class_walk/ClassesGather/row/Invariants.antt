@@ -1,8 +1,7 @@
 -- The values before the one at the index are counted.
 use Rattle.majorant.specs.Gathered.{Classed}
-use Rattle.majorant.specs.declared.part.Part as Code
 use Rattle.majorant.specs.Walks.{along, zone_of}
-use Rattle.std.proofs.Common.{ℕ, ◌+◌, ◌-◌, get_or}
+use Rattle.std.proofs.Common.{◌+◌, ◌-◌, get_or}
 use Rattle.float.specs.Zero.{+0}
 use Rattle.medium.specs.Medium.{z_axis}
 use Rattle.majorant.proofs.class_walk.ClassesGather.row.Given as goal

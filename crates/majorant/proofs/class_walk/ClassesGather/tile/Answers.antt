@@ -1,7 +1,4 @@
 -- A tile counts for the coordinates that it covers.
-use Rattle.std.proofs.Common.{◌≤◌, arith}
-use Rattle.boxes.specs.declared.Span.{Span}
-use Rattle.boxes.specs.RangeMax.{InCell}
 use Rattle.walk.specs.TalliedLaws.{one_value, ready_value}
 use Rattle.majorant.proofs.class_walk.ClassesGather.tile.Goals as goal
 

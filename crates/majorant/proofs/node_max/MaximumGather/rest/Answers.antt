@@ -1,9 +1,7 @@
 -- At the end the count of blocks says whether a place is left.
-use Rattle.std.proofs.Common.{◌≡◌, ℕ, ◌+◌, ◌*◌, ◌<◌, ◌≤◌, length, refl, ◌∙◌, subst, arith}
-use lib.Ieee.{Float}
+use Rattle.std.proofs.Common.{◌≡◌, ℕ, ◌+◌, length, refl, subst, arith}
 use Rattle.sparse_grid.specs.Tables.{Grid}
 use Rattle.sparse_grid.specs.Record.{as_grid}
-use Rattle.boxes.specs.declared.Span.{Span}
 use Rattle.walk.specs.Walk.{Zone, Price, steps, roots_only, uppers_only, lowers_only, leaves_only}
 use Rattle.walk.specs.Counts.{steps_to}
 use Rattle.walk.proofs.CountLaws.{all_to}

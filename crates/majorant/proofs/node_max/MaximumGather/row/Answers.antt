@@ -1,6 +1,6 @@
 -- A turn of the loop joins one value more.
-use Rattle.std.proofs.Common.{◌≡◌, ℕ, ◌+◌, ◌-◌, ap, ◌∙◌, subst, arith}
-use lib.Ieee.{Float, nan}
+use Rattle.std.proofs.Common.{ap, ◌∙◌, subst, arith}
+use lib.Ieee.{nan}
 use Rattle.float.specs.Zero.{+0}
 use Rattle.refusals.proofs.ListLaws.{get_d_any}
 use Rattle.boxes.specs.Boxes.{greater}

@@ -1,5 +1,5 @@
 -- The greatest of the values before the one at the index.
-use Rattle.std.proofs.Common.{ℕ, ◌+◌, ◌-◌, get_or}
+use Rattle.std.proofs.Common.{◌+◌, ◌-◌, get_or}
 use Rattle.float.specs.Zero.{+0}
 use Rattle.medium.specs.Medium.{z_axis}
 use Rattle.boxes.specs.Most.{Most}

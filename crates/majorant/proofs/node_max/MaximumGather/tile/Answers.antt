@@ -1,5 +1,4 @@
 -- A tile's value stands at every place of the part.
-use Rattle.std.proofs.Common.{le_refl}
 use Rattle.boxes.proofs.JoinedLaws.{joined_flat}
 use Rattle.boxes.proofs.MostLaws.{low_corner}
 use Rattle.majorant.proofs.node_max.MaximumGather.tile.Goals as goal
