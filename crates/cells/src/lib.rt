@@ -60,10 +60,3 @@ impl Cells {
         }
     }
 }
-
-// Bridge: majorant.
-pub fn table_fault(x: u32, y: u32, z: u32, places: usize) -> u32
-    ensures { result ≡ table_fault (cells x y z) places }
-{
-    refusals::fault(Cells { x, y, z }.check_table(places))
-}

@@ -6,10 +6,8 @@ ghost use Rattle.contents.specs.Contents.{pick, pick_name, located, loaded};
 ghost use Rattle.contents.specs.Answers.{span_said};
 ghost use Rattle.contents.specs.Inner.{grid_said};
 
-mod bridge;
 mod segment;
 
-pub use bridge::{grid_part, name_part};
 use refusals::Refusal;
 use segment::Segment;
 
@@ -25,15 +23,6 @@ pub struct Span {
 struct Grid {
     name: Span,
     body: Span,
-}
-
-// The number of the refusal (0 where there is a grid), and the part: where it starts and how many bytes it has.
-// Bridge: what smokegrid takes from `grid_part` and `name_part`.
-#[derive(Clone, Copy)]
-pub struct Picked {
-    pub number: u32,
-    pub start: usize,
-    pub length: usize,
 }
 
 // Where grid n stands, counted from 0 through all segments: one pass over them.

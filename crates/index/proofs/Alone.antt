@@ -20,8 +20,7 @@ use Rattle.index.specs.Index.{world_to_index, majorant_index}
 use Rattle.index.specs.Cells.{corner, Cells, cell_axis, cells_on, cell_corner, Ends, max_z, min_z, one, first_ends, second_ends}
 use Rattle.index.specs.Axes.{Line, Both, corner_on, index_on, majorant_on, first_low, first_high, second_low, second_high, first_on, second_on, ends_on}
 use Rattle.index.specs.Axes.{axis_ends, line_of, ends_at}
-use Rattle.index.specs.Answers.{axis_ends_of, both_of}
-use Rattle.index.specs.declared.bridge.AxisEnds.{AxisEnds}
+use Rattle.index.specs.Answers.{AxisEnds, axis_ends_of, both_of}
 use Rattle.index.proofs.Corners.{corner_on_lem}
 use Rattle.index.proofs.SameEnds.{first_low_same, first_high_same, second_low_same, second_high_same}
 use Rattle.index.proofs.Middle.{Straight, straight}

@@ -1,5 +1,5 @@
--- What the answers of `world_to_index_f` and of the ends on one axis say, and the line that the code's record stands for.
-use Rattle.std.specs.Prelude.{ℕ, List, [], ◌∷◌, pos}
+-- What the answers of an index position and of the ends on one axis say, and the line that the code's record stands for.
+use Rattle.std.specs.Prelude.{ℕ, List, [], ◌∷◌, ℤ, pos}
 use Rattle.std.specs.Float.{binary32}
 use Rattle.std.specs.Float.Ieee.{to_bits}
 use Rattle.refusals.specs.Results.{Result, ok, number_of, value_or}
@@ -8,19 +8,13 @@ use Rattle.medium.specs.Medium.{Point, Medium, x_axis, y_axis, z_axis, map_fault
 use Rattle.index.specs.Index.{world_to_index}
 use Rattle.index.specs.Axes as Axes
 use Rattle.index.specs.Axes.{Both}
-use Rattle.index.specs.declared.bridge.Position.{Position}
 use Rattle.index.specs.declared.Line.{Line}
-use Rattle.index.specs.declared.bridge.AxisEnds.{AxisEnds}
 
 -- the bits of a point's index position on each axis, after 13, an added step
 unfoldable pub index_bits : Medium → Point → Result (List ℕ)
 index_bits m p =
     passing (map_fault m)
     (ok (to_bits binary32 (world_to_index m p x_axis) ∷ to_bits binary32 (world_to_index m p y_axis) ∷ to_bits binary32 (world_to_index m p z_axis) ∷ []))
-
--- the number, and the three bits, or zeros after a refusal
-abbrev pub position_of : Result (List ℕ) → Position
-position_of r = record { number = number_of r; bits = value_or (0 ∷ 0 ∷ 0 ∷ []) r }
 
 abbrev pub as_line : Line → Axes.Line
 as_line l =
@@ -37,6 +31,14 @@ as_line l =
 -- what stands beside a refusal
 abbrev pub no_ends : Both
 no_ends = record { first = record { lo = pos 0; hi = pos 0 }; second = record { lo = pos 0; hi = pos 0 } }
+
+-- an answer by number: a fault, and the four ends
+pub record AxisEnds : Type 0 where
+  pub fault : ℕ
+  pub first_lo : ℤ
+  pub first_hi : ℤ
+  pub second_lo : ℤ
+  pub second_hi : ℤ
 
 -- the number, and the four ends, or zeros after a refusal
 abbrev pub axis_ends_of : Result Both → AxisEnds

@@ -18,12 +18,6 @@ use medium::Medium;
 use refusals::Refusal;
 use std::num::nearest_u64_to_f32;
 
-mod bridge;
-
-pub use bridge::{
-    AxisEnds, Position, axis_cell, axis_ends, world_to_index_f, x_line, y_line, z_line,
-};
-
 // One row of the map times a vector.
 fn row_bits(d: [f32; 3], row: [f32; 3]) -> u32
     ensures { let x = point_of d in let a = point_of row in

@@ -59,38 +59,3 @@ pub fn zero<T: HasZero>(table: &mut [T])
 {
     table.fill(T::ZERO);
 }
-
-// Bridge: smokegrid.
-pub fn zero_u8(bytes: &mut [u8])
-    ensures { bytes.new ≡ replicate (length bytes.old) 0 }
-{
-    zero(bytes);
-}
-
-// Bridge: decode, smokegrid.
-pub fn zero_i32(numbers: &mut [i32])
-    ensures { numbers.new ≡ replicate (length numbers.old) (pos 0) }
-{
-    zero(numbers);
-}
-
-// Bridge: decode, smokegrid.
-pub fn zero_u32(links: &mut [u32])
-    ensures { links.new ≡ replicate (length links.old) 0 }
-{
-    zero(links);
-}
-
-// Bridge: decode, smokegrid.
-pub fn zero_u64(words: &mut [u64])
-    ensures { words.new ≡ replicate (length words.old) 0 }
-{
-    zero(words);
-}
-
-// Bridge: claim, decode, majorant, mix, smokegrid.
-pub fn zero_f32(values: &mut [f32])
-    ensures { values.new ≡ replicate (length values.old) +0 }
-{
-    zero(values);
-}

@@ -58,7 +58,7 @@ pub fn box_maximum(grid: &Grid, of: CoordBox) -> Result<f32, Refusal>
 pub fn box_maximum_counted(grid: &Grid, of: CoordBox) -> Result<Counted, Refusal>
     ensures { said_as as_read result ≡ public_counted (as_grid grid.now) (as_box of) }
 {
-    grid.validate()?;
+    Grid::validate(grid)?;
     Ok(range_max_counted(grid, of))
 }
 

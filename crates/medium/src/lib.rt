@@ -14,9 +14,6 @@ ghost use Rattle.medium.specs.Medium.{make_medium, no_temperature, with_temperat
 ghost use Rattle.medium.specs.Medium.{bounds_fault, index_fault, map_fault, medium_fault, each, diagonal, zeroes};
 ghost use Rattle.medium.specs.Record.{point_of, coord_of, nine_of, cells_of, as_temperature, as_medium};
 
-mod bridge;
-
-pub use bridge::medium_fault;
 use refusals::Refusal;
 
 // Whether there is a temperature grid, and what a value of it is read by: (value - offset) * scale. Its tables stand beside.

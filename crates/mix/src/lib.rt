@@ -9,13 +9,11 @@ ghost use Rattle.sparse_grid.specs.Record.{as_grid};
 ghost use Rattle.medium.specs.Record.{as_medium, point_of};
 ghost use Rattle.mix.specs.Density.{density_at, mix_fault, densities_into};
 
-mod bridge;
 mod cube;
 mod list;
 mod point;
 
-pub use bridge::mix;
-use lent::zero_f32;
+use lent::zero;
 use list::fill;
 use medium::Medium;
 use point::density;
@@ -56,7 +54,7 @@ pub fn densities_into(
 {
     let answer = fill(grid, m, points, values);
     if answer.is_err() {
-        zero_f32(values);
+        zero(values);
     }
     answer
 }

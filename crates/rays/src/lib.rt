@@ -11,14 +11,12 @@ ghost use Rattle.refusals.specs.Results.{value_or};
 ghost use Rattle.refusals.specs.Numbers.{said_by, fault_of};
 ghost use Rattle.rays.specs.Answers.{as_beam, as_state, ray_said, step_said};
 
-mod bridge;
 mod check;
 mod follow;
 mod start;
 mod state;
 mod step;
 
-pub use bridge::{Opened, Stepped, next_piece, open_ray};
 use cells::Cells;
 use follow::{most_pieces, pieces_into};
 use lent::zero;

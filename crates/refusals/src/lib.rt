@@ -56,26 +56,3 @@ pub fn fault(test: Result<(), Refusal>) -> u32
         Err(e) => e.number(),
     }
 }
-
-// Bridge: majorant, temperature.
-pub fn first_fault(a: u32, b: u32) -> u32
-    ensures { result ≡ (a then b) }
-{
-    if a == 0 { b } else { a }
-}
-
-// Bridge: majorant, smokegrid.
-pub fn both(a: bool, b: bool) -> bool
-    ensures { result ≡ (a && b) }
-{
-    if a { b } else { false }
-}
-
-// Bridge: majorant.
-pub const SECOND_BOX: u32 = Refusal::SecondBox as u32;
-
-// Bridge: majorant, smokegrid.
-pub const TABLES: u32 = Refusal::Tables as u32;
-
-// Bridge: majorant.
-pub const CLASSES: u32 = Refusal::Classes as u32;

@@ -10,24 +10,14 @@ ghost use Rattle.text.specs.Page.{page, puts};
 ghost use Rattle.sheet.specs.Sheet.{layer_of, page_of, sheet_fault, sheet};
 ghost use Rattle.sheet.specs.Answers.{length_of};
 
-mod bridge;
 mod grade;
 mod lines;
 
-pub use bridge::print_layer;
 use cells::Cells;
 use figures::check_figures;
 use lines::Layer;
 use refusals::Refusal;
 use text::Page;
-
-// The number of a refusal, or 0, and how many bytes were written.
-// Bridge: what smokegrid takes from `print_layer`.
-#[derive(Clone, Copy)]
-pub struct Printed {
-    pub number: u32,
-    pub written: u64,
-}
 
 // The bytes of a page.
 fn size(cells: Cells) -> usize

@@ -3,7 +3,11 @@ use Rattle.std.specs.Prelude.{◌≡◌, ℕ, ◌+◌, ◌-◌, ◌*◌, ◌/◌
 use Rattle.std.proofs.Common.{arith, sym, ap, ◌∙◌}
 use Rattle.std.specs.Int.Signed.{shr_z}
 use Rattle.layout.specs.Coordinates.{Coord, mod_z, slot, block_of}
-use Rattle.sparse_grid.specs.Spots.{Cube}
+use Rattle.sparse_grid.specs.Tables.{Grid}
+use Rattle.sparse_grid.specs.Spots.{leaves_of, Cube}
+use Rattle.sparse_grid.specs.Ends.{found_at}
+use Rattle.sparse_grid.specs.declared.lookup.Spot.{Spot}
+use Rattle.sparse_grid.specs.declared.lookup.Spot.TheVariants.{Leaf, Value}
 
 -- a slot and a block by the number of the cube
 in_lower : ℤ → ℕ
@@ -58,3 +62,8 @@ module _ {c d : Coord} (s : Cube c d) where
         y = along f in_block block_is c.y d.y s.y i;
         z = along f in_block block_is c.z d.z s.z i;
       }
+
+-- what stands above the leaves does not count from a spot on
+pub from_leaves : (g : Grid) (s : Spot) (c : Coord) → found_at (leaves_of g.leaf_values) s c ≡ found_at g s c
+from_leaves g (Leaf k) c = refl
+from_leaves g (Value v l) c = refl

@@ -1,15 +1,11 @@
--- What an answer of the code says: its number, its value and the level that spoke; and the coordinate that its three numbers are.
+-- What a lookup answers: its value, and the level that spoke; and the coordinate that three numbers are.
 use Rattle.std.specs.Prelude.{ℕ, ℤ, Float}
-use Rattle.refusals.specs.Results.{Result, ok, refused, Said, said}
+use Rattle.refusals.specs.Results.{Result, ok, refused}
 use Rattle.float.specs.Zero.{+0}
 use Rattle.layout.specs.Coordinates.{Coord}
 use Rattle.layout.specs.Walk.{Level, of_leaf, of_lower, of_upper, of_root, of_background}
-use Rattle.sparse_grid.specs.declared.Answer.{Answer}
-use Rattle.sparse_grid.specs.declared.Answer.TheVariants.{Value, Refused}
 use Rattle.sparse_grid.specs.declared.Level as Code
 use Rattle.sparse_grid.specs.declared.Level.TheVariants.{Background, RootTile, UpperTile, LowerTile, Leaf}
-use Rattle.sparse_grid.specs.declared.Reading.{Reading}
-use Rattle.sparse_grid.specs.declared.Reading.TheVariants as reading
 use Rattle.sparse_grid.specs.Lookup as lookup
 use Rattle.sparse_grid.specs.Lookup.{Found}
 
@@ -17,15 +13,6 @@ use Rattle.sparse_grid.specs.Lookup.{Found}
 abbrev pub value_only : Found → Result Float
 value_only (lookup.value v l) = ok v
 value_only (lookup.refused n) = refused n
-
--- the code's answer: a value, or the number of a refusal
-abbrev pub outcome : Answer → Result Float
-outcome (Value v) = ok v
-outcome (Refused n) = refused n
-
--- what the code's answer says: the number 0 and the value, or the refusal's number and +0
-abbrev pub answer : Answer → Said Float
-answer a = said +0 (outcome a)
 
 -- what a lookup reads: the value, and the level that spoke
 pub record Spoken : Type 0 where
@@ -54,15 +41,6 @@ level_number of_root = 1
 level_number of_upper = 2
 level_number of_lower = 3
 level_number of_leaf = 4
-
--- the code's reading: a value with its level, or the number of a refusal
-abbrev pub heard : Reading → Result Spoken
-heard (reading.Value v l) = ok (record { value = v; level = level_of l })
-heard (reading.Refused n) = refused n
-
--- what it says: the number 0, the value and the level, or the refusal's number, +0 and background
-abbrev pub saying : Reading → Said Spoken
-saying r = said unspoken (heard r)
 
 abbrev pub at : ℤ → ℤ → ℤ → Coord
 at x y z = record { x = x; y = y; z = z }

@@ -5,7 +5,6 @@ ghost use Rattle.std.specs.Prelude.{◌≡◌};
 ghost use Rattle.sparse_grid.specs.Tables.{entry_of};
 ghost use Rattle.sparse_grid.specs.Biased.{back, raised};
 
-mod bridge;
 mod checks;
 mod grid;
 pub mod lookup;
@@ -13,7 +12,6 @@ mod paired;
 mod place;
 mod roots;
 
-pub use bridge::{get_reading, get_value, validate, validate_density};
 pub use grid::{Entries, Grid};
 
 // What stands at a slot of a node or beside a root's block: the number of a child, or a value for every coordinate below it.
@@ -56,18 +54,4 @@ pub fn lifted(block: i32) -> u32
     ensures { result ≡ raised block }
 {
     biased(block).wrapping_add(2148007936)
-}
-
-// Bridge: claim, majorant, smokegrid, temperature. It and the one below stand here, since definitions and proofs above name them by this path.
-#[derive(Clone, Copy)]
-pub enum Answer {
-    Value(f32),
-    Refused(u32),
-}
-
-// Bridge: smokegrid.
-#[derive(Clone, Copy)]
-pub enum Reading {
-    Value(f32, Level),
-    Refused(u32),
 }

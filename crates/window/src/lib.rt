@@ -13,9 +13,6 @@ ghost use Rattle.window.specs.Window.{before as before_of, after as after_of, gr
 ghost use Rattle.window.specs.Window.{width_in, fits_window, fits_lengths, table_at, ring, state_of, table_of, fault_of};
 ghost use Rattle.window.specs.Window.{push_fault, push as push_of, open_fault, opened, shut};
 
-mod bridge;
-
-pub use bridge::{Pushed, open, push};
 use cells::Cells;
 use figures::{check_figures, greater};
 use lent::zero;

@@ -4,7 +4,7 @@ use mathlib.Core.Logic.{◌⊎◌, inl, inr, ⊎_elim}
 use mathlib.Core.Bool.{Bool, true, false, cond, ◌&&◌, ◌||◌}
 use mathlib.Core.List.{List, [], ◌∷◌, ◌++◌}
 use Prim.Native.Nat.{ℕ, zero, suc, ◌+◌, ◌-◌, ◌*◌, ◌/◌, ◌<◌, ◌≤◌}
-use native.Mathlib.Nat.{eq-or-lt_of_le, le-div_iff_mul-le, mul-div-le, mul_comm}
+use native.Mathlib.Nat.{eq-or-lt_of_le, le-div_iff_mul-le, mul-div-le, mul_comm, zero-div}
 use native.Mathlib.Omega.{arith}
 use lib.ListN.{length}
 use lib.Dec.{ltb, eqb}
@@ -299,3 +299,10 @@ clear_of w k root limit s l i f m a b =
     let t : over w i s (s + size l) ≡ true = sym (both _ _ begins ends) in
     not_both _ (over_some w k i s (s + size l) m t)
     (or_right (overlaps (header_span ∷ (root_span root limit ∷ [])) s (s + size l)) _ (sym (overlaps_spans w k root limit s (s + size l)) ∙ f))
+
+-- (s + 1 - z) / z where s is less than z, and where it is not
+pub first_0 : (s z : ℕ) → 0 < z → s < z → 0 ≡ (s + 1 - z) / z
+first_0 s z p l = let e : s + 1 - z ≡ 0 = omega arith in rw (e, zero-div z)
+
+pub first_1 : (s z : ℕ) → z ≤ s → (s - z + 1) / z ≡ (s + 1 - z) / z
+first_1 s z l = let e : s - z + 1 ≡ s + 1 - z = omega arith in rw e

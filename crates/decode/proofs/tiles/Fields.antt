@@ -1,8 +1,10 @@
 -- The fields of a key: 20 bits with a sign, in an i32. Assumes nothing.
 use mathlib.Core.Path.{◌≡◌, sym, ap, ◌∙◌}
-use mathlib.Core.Bool.{Bool, cond}
-use Prim.Native.Nat.{ℕ, suc, ◌+◌, ◌-◌, ◌^◌, ◌<◌, ◌≤◌}
-use borrow.Author.Tests.{lt-ltb}
+use mathlib.Core.Bool.{Bool, false, cond}
+use Prim.Native.Nat.{ℕ, suc, ◌+◌, ◌-◌, ◌/◌, ◌%◌, ◌^◌, ◌<◌, ◌≤◌}
+use lib.Dec.{eqb}
+use borrow.Author.Tests.{lt-ltb, le-ltb, eq-eqb, ne_eqb}
+use Rattle.nanovdb.specs.Tree.{key_passes}
 use native.Mathlib.Omega.{arith}
 use lib.IntN.{ℤ, pos, negsuc, ◌-ℤ◌}
 use lib.Signed.{mag}
@@ -30,3 +32,14 @@ field_high bits s h =
 -- an i32 that a local holds as bits
 pub i32_seen : (z v : ℤ) → mag z < 2 ^ 31 → z ≡ v → to_z w32 (of_z w32 z) ≡ v
 i32_seen z v h e = to_z-of_z {w = w32} (record { sfits = h }) ∙ e
+
+-- the tests of a key
+module _ (key : ℕ) where
+  pub key_last : key < 4611686018427387904 → key / 1048576 % 2 ≡ 0 → eqb (key / 2199023255552 % 2) 0 ≡ key_passes key
+  key_last h e = sym (rw (lt-ltb key 4611686018427387904 h, eq-eqb (key / 1048576 % 2) 0 e))
+
+  pub key_low : key < 4611686018427387904 → (key / 1048576 % 2 ≡ 0 → ⊥) → false ≡ key_passes key
+  key_low h e = sym (rw (lt-ltb key 4611686018427387904 h, ne_eqb (key / 1048576 % 2) 0 e))
+
+  pub key_high : 4611686018427387904 ≤ key → false ≡ key_passes key
+  key_high h = sym (rw (le-ltb key 4611686018427387904 h))
