@@ -12,6 +12,7 @@ ghost use Rattle.decode.specs.Inner.GridRead.{accepted, counts_of, GridOut};
 
 use crate::tree::{Tree, read_tree};
 use crate::{Decoded, Tables, header};
+use layout::Field;
 use refusals::Refusal;
 
 // What a tree that was read comes to.
@@ -24,7 +25,7 @@ fn decoded(bytes: &[u8], x: Tree) -> Decoded
         upper: x.nodes.uppers,
         lower: x.nodes.lowers,
         leaf: x.nodes.leaves,
-        background: layout::f32_at(bytes, x.root + 28),
+        background: f32::at(bytes, x.root + 28),
         medium: header::medium_at(bytes, x.root),
     }
 }

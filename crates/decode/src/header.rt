@@ -7,6 +7,7 @@ ghost use Rattle.medium.specs.Record.{point_of, coord_of, nine_of, as_medium};
 ghost use Rattle.decode.specs.Inner.World.{SameWorld};
 ghost use Rattle.nanovdb.specs.Decode.{mark_passes, header_passes, bound_at, medium_at, bytes_fault};
 
+use layout::Field;
 use medium::Medium;
 use refusals::Refusal;
 
@@ -28,21 +29,21 @@ fn class_passes(class: u32) -> bool
 fn header_passes(bytes: &[u8]) -> bool
     ensures { result ≡ header_passes bytes.now }
 {
-    let count = layout::u32_at(bytes, 28);
-    mark_passes(layout::u64_at(bytes, 0))
-        && layout::u32_at(bytes, 16) / 2097152 == 32
-        && layout::u64_at(bytes, 32) == bytes.len() as u64
-        && layout::u32_at(bytes, 636) == 1
-        && class_passes(layout::u32_at(bytes, 632))
+    let count = u32::at(bytes, 28);
+    mark_passes(u64::at(bytes, 0))
+        && u32::at(bytes, 16) / 2097152 == 32
+        && u64::at(bytes, 32) == bytes.len() as u64
+        && u32::at(bytes, 636) == 1
+        && class_passes(u32::at(bytes, 632))
         && 0 < count
-        && layout::u32_at(bytes, 24) < count
+        && u32::at(bytes, 24) < count
 }
 
 // An f64 of the world box, rounded to f32.
 fn bound_at(bytes: &[u8], at: usize) -> f32
     ensures { result ≡ bound_at bytes.now at }
 {
-    float::narrow(layout::f64_at(bytes, at))
+    float::narrow(f64::at(bytes, at))
 }
 
 // Three of them in a row.
@@ -65,9 +66,9 @@ fn corner_at(bytes: &[u8], at: usize) -> [i32; 3]
         coord_of result ≡ record { x = i32_at b at; y = i32_at b (at + 4); z = i32_at b (at + 8) } }
 {
     [
-        layout::i32_at(bytes, at),
-        layout::i32_at(bytes, at + 4),
-        layout::i32_at(bytes, at + 8),
+        i32::at(bytes, at),
+        i32::at(bytes, at + 4),
+        i32::at(bytes, at + 8),
     ]
 }
 
@@ -78,9 +79,9 @@ fn row_at(bytes: &[u8], at: usize) -> [f32; 3]
         point_of result ≡ record { x = f32_at b at; y = f32_at b (at + 4); z = f32_at b (at + 8) } }
 {
     [
-        layout::f32_at(bytes, at),
-        layout::f32_at(bytes, at + 4),
-        layout::f32_at(bytes, at + 8),
+        f32::at(bytes, at),
+        f32::at(bytes, at + 4),
+        f32::at(bytes, at + 8),
     ]
 }
 

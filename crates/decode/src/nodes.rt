@@ -16,6 +16,7 @@ ghost use Rattle.decode.specs.Inner.Rooted.{roots_of};
 use crate::kinds::Kind;
 use crate::spans::{Entered, Node, Spans};
 use crate::{Tables, spans, values};
+use layout::Field;
 use refusals::Refusal;
 
 // How far the reader has come: the spans that it has claimed, and how many nodes of each kind it has numbered.
@@ -80,7 +81,7 @@ fn child_at(bytes: &[u8], source: usize, kind: Kind, i: usize) -> Result<usize, 
     requires { (source < 4294967296) × (i < 32768) }
     ensures { said_by result ≡ slot_target source (u64_at bytes.now (source + table_of (level_of kind) + 8 * i)) }
 {
-    slot_target(source, layout::u64_at(bytes, source + kind.table() + 8 * i))
+    slot_target(source, u64::at(bytes, source + kind.table() + 8 * i))
 }
 
 // The first slot from i on, below n, that has a child, or n. A word of the mask is shifted so that slot `at` is its lowest bit.

@@ -10,6 +10,7 @@ ghost use Rattle.decode.specs.Inner.Rooted.{root_tabs, roots_of, RootPut, TileOu
 use crate::kinds::Kind;
 use crate::nodes::State;
 use crate::{Tables, nodes};
+use layout::Field;
 use refusals::Refusal;
 
 // Every bit outside the three fields is 0: 20, 41, 62 and 63.
@@ -71,13 +72,13 @@ fn tile(
     ensures same { SameSlices tables.old tables.new }
 {
     let at = root + 64 + 32 * i;
-    let key = layout::u64_at(bytes, at);
+    let key = u64::at(bytes, at);
     if !key_passes(key) {
         return Err(Refusal::KeyBit);
     }
-    let relative = layout::u64_at(bytes, at + 8);
+    let relative = u64::at(bytes, at + 8);
     if relative == 0 {
-        let value = layout::f32_at(bytes, at + 20);
+        let value = f32::at(bytes, at + 20);
         put_root(
             tables.blocks,
             tables.root_links,

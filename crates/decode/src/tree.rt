@@ -9,6 +9,7 @@ ghost use Rattle.decode.specs.Inner.TreeRead.{Paired, TreeOut};
 
 use crate::nodes::State;
 use crate::{Tables, spans, tiles};
+use layout::Field;
 use refusals::Refusal;
 
 // Where the root stands, how many tiles it has, and how many nodes were reached.
@@ -24,9 +25,9 @@ fn counts_pass(bytes: &[u8], st: State) -> bool
     ensures { let b = bytes.now in
         result ≡ (eqb st.leaves (u32_at b 704) && eqb st.lowers (u32_at b 708) && eqb st.uppers (u32_at b 712)) }
 {
-    let leaves = layout::u32_at(bytes, 704) as usize;
-    let lowers = layout::u32_at(bytes, 708) as usize;
-    let uppers = layout::u32_at(bytes, 712) as usize;
+    let leaves = u32::at(bytes, 704) as usize;
+    let lowers = u32::at(bytes, 708) as usize;
+    let uppers = u32::at(bytes, 712) as usize;
     st.leaves == leaves && st.lowers == lowers && st.uppers == uppers
 }
 
@@ -45,12 +46,12 @@ pub(crate) fn read_tree(bytes: &[u8], tables: &mut Tables<'_>) -> Result<Tree, R
     if tables.work.len() < 4 {
         return Err(Refusal::NoPlace);
     }
-    let offset = layout::u64_at(bytes, 696) as usize;
+    let offset = u64::at(bytes, 696) as usize;
     if n - 700 < offset {
         return Err(Refusal::PastEnd);
     }
     let root = 672 + offset;
-    let count = layout::u32_at(bytes, root + 24) as usize;
+    let count = u32::at(bytes, root + 24) as usize;
     let limit = root + 64 + 32 * count;
     let spans = spans::begin(n as u64, tables.work, root as u64, limit as u64)?;
     if tables.root_links.len() < count {

@@ -7,10 +7,8 @@ ghost use Rattle.refusals.specs.Numbers.{said_by};
 ghost use Rattle.layout.specs.Bytes.{u16_at, u32_at, u64_at, i32_at, i64_at, f32_at, f64_at, mask_bit, mask_word};
 ghost use Rattle.layout.specs.Reads.{read_field};
 
-mod bridge;
 mod coordinate;
 
-pub use bridge::{f32_at, f64_at, i32_at, u32_at, u64_at};
 pub use coordinate::Coordinate;
 use refusals::Refusal;
 

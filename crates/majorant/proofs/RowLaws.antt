@@ -170,7 +170,8 @@ module _ (maximum : Box → Float) (m : Medium) (M : map_fault m ≡ 0) (n : Cel
       from r = native.Mathlib.Nat.zero-add (r * n.x) ∙ ap (λ (k : ℕ). k * n.x) (sym (div-add-mod' r n.y))
 
       to : (r : ℕ) → row_start (r % n.y) (r / n.y) + n.x ≡ 0 + suc r * n.x
-      to r = ap (λ (k : ℕ). k + n.x) (sym (from r)) ∙ native.Mathlib.Nat.add_assoc 0 (r * n.x) n.x ∙ ap (λ (k : ℕ). 0 + k) (sym (native.Mathlib.Nat.suc-mul r n.x))
+      to r = ap (λ (k : ℕ). k + n.x) (sym (from r))
+          ∙ native.Mathlib.Nat.add_assoc 0 (r * n.x) n.x ∙ ap (λ (k : ℕ). 0 + k) (sym (native.Mathlib.Nat.suc-mul r n.x))
 
       turn : (x y z : ℕ) → z * y * x ≡ x * y * z
       turn x y z = simp (mul_assoc, mul_comm, mul_left_comm)

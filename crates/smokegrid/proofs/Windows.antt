@@ -57,7 +57,8 @@ module _ {table : List Float} {numbers : List ℕ} {k room : ℕ} {text : List �
         → PrintsLayer table numbers k room 0 text length
     print_written e t =
         let (a, b) = written (sheet n k table room) e in
-        print_taken long (a ∙ ap (λ (n : Cells). number_of (sheet n k table room)) n-is) (t ∙ ap (λ (n : Cells). padded room 0 (value_or [] (sheet n k table room))) n-is)
+        print_taken long (a ∙ ap (λ (n : Cells). number_of (sheet n k table room)) n-is)
+        (t ∙ ap (λ (n : Cells). padded room 0 (value_or [] (sheet n k table room))) n-is)
         (b ∙ ap (λ (n : Cells). length (value_or [] (sheet n k table room))) n-is)
       where
         written : {l : ℕ} (r : Result (List ℕ)) → ok l ≡ length_of r → (0 ≡ number_of r) × (l ≡ length (value_or [] r))
@@ -68,7 +69,8 @@ module _ {table : List Float} {numbers : List ℕ} {k room : ℕ} {text : List �
         → PrintsLayer table numbers k room number text 0
     print_none e is t =
         let (a, b) = none (sheet n k table room) e in
-        print_taken long (is ∙ a ∙ ap (λ (n : Cells). number_of (sheet n k table room)) n-is) (t ∙ ap (λ (n : Cells). padded room 0 (value_or [] (sheet n k table room))) n-is)
+        print_taken long (is ∙ a ∙ ap (λ (n : Cells). number_of (sheet n k table room)) n-is)
+        (t ∙ ap (λ (n : Cells). padded room 0 (value_or [] (sheet n k table room))) n-is)
         (b ∙ ap (λ (n : Cells). length (value_or [] (sheet n k table room))) n-is)
       where
         none : {m : ℕ} (r : Result (List ℕ)) → refused m ≡ length_of r → (m ≡ number_of r) × (0 ≡ length (value_or [] r))

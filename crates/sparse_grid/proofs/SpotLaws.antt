@@ -1,6 +1,6 @@
 -- Coordinates of one cube of 8 have one block and one slot in each node above a leaf. Assumes nothing.
 use Rattle.std.specs.Prelude.{◌≡◌, ℕ, ◌+◌, ◌-◌, ◌*◌, ◌/◌, ◌%◌, ℤ, pos, negsuc}
-use Rattle.std.proofs.Common.{arith, sym, ap, ◌∙◌}
+use Rattle.std.proofs.Common.{arith, refl, sym, ap, ◌∙◌}
 use Rattle.std.specs.Int.Signed.{shr_z}
 use Rattle.layout.specs.Coordinates.{Coord, mod_z, slot, block_of}
 use Rattle.sparse_grid.specs.Tables.{Grid}

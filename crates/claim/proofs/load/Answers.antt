@@ -25,4 +25,5 @@ pub returns-in-Err-clause-load : goal.returns-in-Err-clause-load
 returns-in-Err-clause-load c =
     let b = c.args.bytes.now in
     let l = lengths (as_tables c.args.tables.now) in
-    loads_none b l (length c.args.majorants.now) (λ i. (c.type_inv.bytes i).fits) c.in-Err.refusal c.in-Err.ensures.answer c.in-Err.ensures.tables c.zero.ensures
+    loads_none b l (length c.args.majorants.now) (λ i. (c.type_inv.bytes i).fits) c.in-Err.refusal c.in-Err.ensures.answer
+    c.in-Err.ensures.tables c.zero.ensures

@@ -31,7 +31,10 @@ returns-in-Ok c =
     let small : Small x =
     record { lx = r.lx.sfits; ly = r.ly.sfits; lz = r.lz.sfits; hx = r.hx.sfits; hy = r.hy.sfits; hz = r.hz.sfits } in
     let boxed = c.corners.ensures ∙ box_handed x small in
-    counted_out g x n (c.in-Ok.ensures ∙ (λ i. public_counted (c.grid-grid.ensures i) (boxed i)) ∙ counted_goes g x n (eq-eqb _ _ c.if-not-fits.false)) refl refl
+    counted_out g x n
+    (c.in-Ok.ensures ∙ (λ i. public_counted (c.grid-grid.ensures i) (boxed i))
+    ∙ counted_goes g x n (eq-eqb _ _ c.if-not-fits.false))
+    refl refl
     c.put_read.ensures
 
 pub returns-in-Err : goal.returns-in-Err
@@ -46,4 +49,7 @@ returns-in-Err c =
     let small : Small x =
     record { lx = r.lx.sfits; ly = r.ly.sfits; lz = r.lz.sfits; hx = r.hx.sfits; hy = r.hy.sfits; hz = r.hz.sfits } in
     let boxed = c.corners.ensures ∙ box_handed x small in
-    counted_out g x n (c.in-Err.ensures ∙ (λ i. public_counted (c.grid-grid.ensures i) (boxed i)) ∙ counted_goes g x n (eq-eqb _ _ c.if-not-fits.false)) c.number-in-Err.ensures (zero_literal binary32) c.zero.ensures
+    counted_out g x n
+    (c.in-Err.ensures ∙ (λ i. public_counted (c.grid-grid.ensures i) (boxed i))
+    ∙ counted_goes g x n (eq-eqb _ _ c.if-not-fits.false))
+    c.number-in-Err.ensures (zero_literal binary32) c.zero.ensures

@@ -23,5 +23,6 @@ returns c =
     a.lower_links.now a.lower_values.now a.leaf_values.now in
     let n = length a.majorants.now in
     build_out g a.medium.now a.corners.now a.cells.now n
-    ((λ i. build_into (c.grid-grid.ensures i) (c.medium_from.ensures i) n) ∙ build_goes g a.medium.now a.corners.now a.cells.now n (sym c.are_medium.ensures ∙ c.if-not-are_medium.false))
+    ((λ i. build_into (c.grid-grid.ensures i) (c.medium_from.ensures i) n)
+    ∙ build_goes g a.medium.now a.corners.now a.cells.now n (sym c.are_medium.ensures ∙ c.if-not-are_medium.false))
     (c.fault.ensures ∙ c.build_majorant.ensures.number) c.build_majorant.ensures.table

@@ -29,7 +29,10 @@ returns-in-Ok c =
     let small : Small x =
     record { lx = r.lx.sfits; ly = r.ly.sfits; lz = r.lz.sfits; hx = r.hx.sfits; hy = r.hy.sfits; hz = r.hz.sfits } in
     let boxed = c.corners.ensures ∙ box_handed x small in
-    classes_out g a.limits.now x n (c.in-Ok.ensures ∙ (λ i. public_counts (c.grid-grid.ensures i) a.limits.now (boxed i)) ∙ classes_goes g a.limits.now x n (eq-eqb _ _ c.if-not-fits.false)) refl c.copy_from_slice.ensures.after
+    classes_out g a.limits.now x n
+    (c.in-Ok.ensures ∙ (λ i. public_counts (c.grid-grid.ensures i) a.limits.now (boxed i))
+    ∙ classes_goes g a.limits.now x n (eq-eqb _ _ c.if-not-fits.false))
+    refl c.copy_from_slice.ensures.after
 
 pub returns-in-Err : goal.returns-in-Err
 returns-in-Err c =
@@ -43,4 +46,7 @@ returns-in-Err c =
     let small : Small x =
     record { lx = r.lx.sfits; ly = r.ly.sfits; lz = r.lz.sfits; hx = r.hx.sfits; hy = r.hy.sfits; hz = r.hz.sfits } in
     let boxed = c.corners.ensures ∙ box_handed x small in
-    classes_out g a.limits.now x n (c.in-Err.ensures ∙ (λ i. public_counts (c.grid-grid.ensures i) a.limits.now (boxed i)) ∙ classes_goes g a.limits.now x n (eq-eqb _ _ c.if-not-fits.false)) c.number-in-Err.ensures c.zero.ensures
+    classes_out g a.limits.now x n
+    (c.in-Err.ensures ∙ (λ i. public_counts (c.grid-grid.ensures i) a.limits.now (boxed i))
+    ∙ classes_goes g a.limits.now x n (eq-eqb _ _ c.if-not-fits.false))
+    c.number-in-Err.ensures c.zero.ensures

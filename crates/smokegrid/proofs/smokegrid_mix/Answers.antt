@@ -22,5 +22,7 @@ returns c =
     grid_of a.background a.blocks.now a.root_links.now a.root_values.now a.upper_links.now a.upper_values.now
     a.lower_links.now a.lower_values.now a.leaf_values.now in
     let p : Point = record { x = a.x; y = a.y; z = a.z } in
-    mix_out g a.medium.now p (c.density_at.ensures ∙ (λ i. density_at (c.grid-grid.ensures i) (c.medium_from-m.ensures i) p) ∙ mix_goes g a.medium.now p (eq-eqb _ _ c.if-medium-ne18.false))
+    mix_out g a.medium.now p
+    (c.density_at.ensures ∙ (λ i. density_at (c.grid-grid.ensures i) (c.medium_from-m.ensures i) p)
+    ∙ mix_goes g a.medium.now p (eq-eqb _ _ c.if-medium-ne18.false))
     c.give-2.ensures.number c.give-2.ensures.value

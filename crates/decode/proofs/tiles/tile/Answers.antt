@@ -9,16 +9,16 @@ use Rattle.decode.proofs.tiles.tile.Goals as goal
 
 pub returns-then-relative-eq0-clause-tile : goal.returns-then-relative-eq0-clause-tile
 returns-then-relative-eq0-clause-tile c =
-    let keyed : Keyed c.args.bytes.now c.args.root c.args.i c.u64_at-key.result =
-    record { is = c.u64_at-key.ensures; passes = sym c.key_passes.ensures ∙ c.if-not-key_passes.false } in
-    tile_out_value keyed c.requires.fit c.u64_at-relative.ensures c.if-relative-eq0.true c.f32_at-value.ensures c.put_root.ensures
+    let keyed : Keyed c.args.bytes.now c.args.root c.args.i c.at-key.result =
+    record { is = c.at-key.ensures; passes = sym c.key_passes.ensures ∙ c.if-not-key_passes.false } in
+    tile_out_value keyed c.requires.fit c.at-relative.ensures c.if-relative-eq0.true c.at-value.ensures c.put_root.ensures
 
 pub returns-clause-tile : goal.returns-clause-tile
 returns-clause-tile c =
     let to : Answer _ Refusal = Ok c.in_ok-to.to in
-    let aimed : Aimed c.args.bytes.now c.args.root c.args.i c.u64_at-key.result c.u64_at-relative.result to = record {
-      keyed = record { is = c.u64_at-key.ensures; passes = sym c.key_passes.ensures ∙ c.if-not-key_passes.false };
-      word = c.u64_at-relative.ensures;
+    let aimed : Aimed c.args.bytes.now c.args.root c.args.i c.at-key.result c.at-relative.result to = record {
+      keyed = record { is = c.at-key.ensures; passes = sym c.key_passes.ensures ∙ c.if-not-key_passes.false };
+      word = c.at-relative.ensures;
       some = c.if-relative-eq0.false;
       aims = c.in_ok-to.ensures;
     } in

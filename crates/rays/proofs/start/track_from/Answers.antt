@@ -12,18 +12,18 @@ track_is : (forth : Bool) (p d t : Float) {n k : ℕ} {face number size : Float}
     → number ≡ of_int binary32 (pos n) → size ≡ magnitude d → le (of_bits binary32 0) d ≡ forth
     → face ≡ of_int binary32 (cond forth (pos k +ℤ pos 1) (pos k))
     → record {
-        next = add binary32 t (div binary32 (sub binary32 (div binary32 face number) p) d);
-        delta = div binary32 (of_bits binary32 1065353216) (mul binary32 size number);
-        step = cond forth (pos 1) (negsuc 0);
-        cell = to_z w32 k;
-        cells = n;
-      } ≡ track_from p d t n
+      next = add binary32 t (div binary32 (sub binary32 (div binary32 face number) p) d);
+      delta = div binary32 (of_bits binary32 1065353216) (mul binary32 size number);
+      step = cond forth (pos 1) (negsuc 0);
+      cell = to_z w32 k;
+      cells = n;
+    } ≡ track_from p d t n
 unfolding track_from
 track_is forth p d t {n} {k} {face} c most counted sized way faced =
     let small : k < 2 ^ 31 = omega (arith, c.1) in
     let way : forth ≡ le _ d = sym way ∙ ap (λ (z : Float). le z d) (zero_literal binary32) in
     let faced : face ≡ of_int binary32 (cond (le _ d) (cell_at p n +ℤ pos 1) (cell_at p n)) =
-      faced ∙ (λ i. of_int binary32 (cond (way i) (c.0 i +ℤ pos 1) (c.0 i))) in
+    faced ∙ (λ i. of_int binary32 (cond (way i) (c.0 i +ℤ pos 1) (c.0 i))) in
     λ i. record {
       next = add binary32 t (div binary32 (sub binary32 (div binary32 (faced i) (counted i)) p) d);
       delta = div binary32 (one_literal i) (mul binary32 (sized i) (counted i));

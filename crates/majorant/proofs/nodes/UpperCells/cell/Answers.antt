@@ -46,7 +46,8 @@ returns-in-Tile g c =
     let w = c.requires.1 in
     let t = as_grid a.self.now.grid.now in
     let e = is_here t a.self.now.k a.part w c.table_index.ensures c.in-Tile.ensures in
-    with_reads g.G.Gather.laws _ a.part w.full c.upper.ensures c.requires.2 _ (upper_tile t.upper_links t.upper_values t.lower_links t.lower_values a.self.now.k a.part w e)
+    with_reads g.G.Gather.laws _ a.part w.full c.upper.ensures c.requires.2 _
+    (upper_tile t.upper_links t.upper_values t.lower_links t.lower_values a.self.now.k a.part w e)
     (c.tile.ensures _ (by_entry t a.self.now.k a.part w e))
 
 pub all-requires : goal.all-requires
