@@ -2,6 +2,5 @@ pub mod Fields
 pub mod Counting
 pub mod Whole
 pub mod ClassExamples
-pub mod ClassRoom
 pub mod ClassTotal
 pub mod Examples

@@ -29,6 +29,11 @@ pub record Counted (a : Answer) : Type 0 where
   pub lower : a.lower < 2 ^ 64
   pub leaf : a.leaf < 2 ^ 64
 
+-- 65,536 bytes hold what a text says of an accepted grid
+abbrev pub Roomy : (ℕ → Accepted → List ℕ) → Type 0
+Roomy text = (b : List ℕ) → ((i : ℕ) → get_or b i 0 < 256) → length b ≤ 32768 → (t : Accepted) → decode_into decode_density b lent ≡ ok t
+    → Counted (answer_of (ok t)) → (answer_of (ok t)).roots ≤ 999 → length (text (length b) t) ≤ 65536
+
 -- l has at most n bytes
 pub record Within (l : List ℕ) (n : ℕ) : Type 0 where
   pub most : length l ≤ n
@@ -140,8 +145,7 @@ high_corner b h =
 
 -- ---- the text of a grid
 
-pub grid_text_room : (b : List ℕ) → ((i : ℕ) → get_or b i 0 < 256) → length b ≤ 32768 → (t : Accepted) → decode_into decode_density b lent ≡ ok t
-    → Counted (answer_of (ok t)) → (answer_of (ok t)).roots ≤ 999 → length (grid_text (length b) t) ≤ 65536
+pub grid_text_room : Roomy grid_text
 unfolding grid_text decode_into
 grid_text_room b bytes size t e counted few =
     let g = t.grid in

@@ -1,4 +1,4 @@
--- How long the text of the classes can be, and that 65,536 bytes hold either text. Assumes nothing.
+-- How long the text of the classes can be, and that 65,536 bytes hold any text that has room. Assumes nothing.
 use Rattle.std.specs.Prelude.{◌≡◌, refl, Bool, true, false, cond, List, [], ℕ, ◌^◌, ◌≤◌, ◌<◌, ℤ, eqb, leb, length, get_or}
 use Rattle.std.proofs.Common.{sym, subst, mul-le-mul, arith, leb→le, eqb-true, le-leb}
 use Rattle.refusals.specs.Results.{Result, ok, refused}
@@ -14,8 +14,7 @@ use Rattle.walk.specs.Classes.{class_count, box_size, side_fault, sides_fault}
 use Rattle.walk.proofs.ClassLaws.{class_size, total_size}
 use Rattle.report.specs.Report.{refused_line, long_line, lent, result_text, printed_of}
 use Rattle.report.specs.ClassReport.{class_word, total_word, limits, index_box, class_line, class_lines, total_line, count_lines, class_text}
-use Rattle.report.specs.Inner.{text_for}
-use Rattle.report.specs.Room.{Counted, Within, within, both, end, number_room, refused_room, grid_text_room}
+use Rattle.report.specs.Room.{Counted, Roomy, Within, within, both, end, number_room, refused_room}
 
 -- ---- a box whose sides pass has at most 2^60 coordinates
 
@@ -78,21 +77,23 @@ class_text_room : (n : ℕ) (t : Accepted) → length (class_text n t) ≤ 65536
 unfolding class_text
 class_text_room n t = let b = index_box t.medium in by_sides_room t.grid b (eqb (sides_fault b) 0) refl
 
--- ---- either text
+pub class_text_roomy : Roomy class_text
+class_text_roomy b bytes size t e counted few = class_text_room (length b) t
 
-text_room : (classes : Bool) (b : List ℕ) → ((i : ℕ) → get_or b i 0 < 256) → length b ≤ 32768
+-- ---- any text
+
+text_room : (text : ℕ → Accepted → List ℕ) → Roomy text → (b : List ℕ) → ((i : ℕ) → get_or b i 0 < 256) → length b ≤ 32768
     → (r : Result Accepted) → decode_into decode_density b lent ≡ r → Counted (answer_of r) → (answer_of r).roots ≤ 999
-    → length (result_text (text_for classes) (length b) r) ≤ 65536
+    → length (result_text text (length b) r) ≤ 65536
 unfolding result_text
-text_room true b bytes size (ok t) e counted few = class_text_room (length b) t
-text_room false b bytes size (ok t) e counted few = grid_text_room b bytes size t e counted few
-text_room classes b bytes size (refused k) e counted few = omega (arith, (refused_room k counted.number).most)
+text_room text room b bytes size (ok t) e counted few = room b bytes size t e counted few
+text_room text room b bytes size (refused k) e counted few = omega (arith, (refused_room k counted.number).most)
 
 -- 65,536 bytes hold it, where the numbers of the decode's answer are u64
-pub printed_room : (classes : Bool) (b : List ℕ) {a : Answer} → ((i : ℕ) → get_or b i 0 < 256) → length b ≤ 32768
-    → a ≡ answer_of (decode_into decode_density b lent) → Counted a → a.roots ≤ 999 → length (printed_of (text_for classes) b) ≤ 65536
+pub printed_room : (text : ℕ → Accepted → List ℕ) → Roomy text → (b : List ℕ) {a : Answer} → ((i : ℕ) → get_or b i 0 < 256) → length b ≤ 32768
+    → a ≡ answer_of (decode_into decode_density b lent) → Counted a → a.roots ≤ 999 → length (printed_of text b) ≤ 65536
 unfolding printed_of
-printed_room classes b bytes size d counted few =
+printed_room text room b bytes size d counted few =
     let read = decode_into decode_density b lent in
-    subst (λ (t : Bool). length (cond t (result_text (text_for classes) (length b) read) long_line) ≤ 65536) (sym (le-leb (length b) 32768 size))
-    (text_room classes b bytes size read refl (subst Counted d counted) (subst (λ (x : Answer). x.roots ≤ 999) d few))
+    subst (λ (t : Bool). length (cond t (result_text text (length b) read) long_line) ≤ 65536) (sym (le-leb (length b) 32768 size))
+    (text_room text room b bytes size read refl (subst Counted d counted) (subst (λ (x : Answer). x.roots ≤ 999) d few))
