@@ -9,7 +9,7 @@ use lib.Dec.{eqb}
 use lib.ListN.{get_or, replicate}
 use lib.Ieee.{of_bits, lt}
 use borrow.Author.Tests.{ne_eqb}
-use Rattle.refusals.specs.Results.{Result, ok, refused, value_or}
+use Rattle.refusals.specs.Results.{Result, ok, value_or}
 use Rattle.refusals.specs.Faults.{◌then◌, first_fault, passing}
 use Rattle.refusals.specs.FaultLaws.{then_zero}
 use Rattle.refusals.proofs.FaultSteps.{then_next}

@@ -1,4 +1,5 @@
 pub mod Fields
+pub mod ClassRoom
 pub mod Counting
 pub mod Whole
 pub mod ClassExamples

@@ -2,7 +2,7 @@
 use mathlib.Core.Path.{◌≡◌, refl, sym, ap, ◌∙◌, subst}
 use mathlib.Core.Bool.{Bool, cond}
 use mathlib.Core.List.{List}
-use Prim.Native.Nat.{ℕ, zero, suc, ◌-◌, ◌^◌, ◌≤◌, ◌<◌}
+use Prim.Native.Nat.{ℕ, ◌-◌, ◌^◌, ◌≤◌, ◌<◌}
 use native.Mathlib.Omega.{arith}
 use lib.ListN.{length, get_or, replicate, length-append}
 use borrow.Author.Tests.{le-leb, lt-leb}
@@ -21,7 +21,7 @@ use Rattle.nanovdb.proofs.UsedLaws.{accepts, used_parts}
 use Rattle.report.specs.Report.{refused_line, long_line, lent, result_text, printed_of}
 use Rattle.report.specs.Inner.{accepted}
 use Rattle.report.specs.Room.{Counted, Roomy, long_room}
-use Rattle.report.specs.ClassRoom.{printed_room}
+use Rattle.report.proofs.ClassRoom.{printed_room}
 
 -- ---- what the test of the length decides
 

@@ -1,20 +1,18 @@
--- How long the text of the classes can be, and that 65,536 bytes hold any text that has room. Assumes nothing.
-use Rattle.std.specs.Prelude.{◌≡◌, refl, Bool, true, false, cond, List, [], ℕ, ◌^◌, ◌≤◌, ◌<◌, ℤ, eqb, leb, length, get_or}
-use Rattle.std.proofs.Common.{sym, subst, mul-le-mul, arith, leb→le, eqb-true, le-leb}
-use Rattle.refusals.specs.Results.{Result, ok, refused}
+-- How long the text of the classes can be: 65,536 bytes hold it. Assumes nothing.
+use Rattle.std.specs.Prelude.{◌≡◌, refl, Bool, true, false, cond, [], ℕ, ◌^◌, ◌≤◌, ◌<◌, ℤ, eqb, leb, length}
+use Rattle.std.proofs.Common.{mul-le-mul, arith, leb→le, eqb-true}
 use Rattle.refusals.specs.Faults.{◌then◌, unless}
 use Rattle.refusals.specs.FaultLaws.{then_zero, unless_zero}
 use Rattle.sparse_grid.specs.Tables.{Grid}
 use Rattle.sparse_grid.specs.Lookup.{read_in}
 use Rattle.sparse_grid.specs.Count.{sum}
-use Rattle.nanovdb.specs.Decode.{Accepted, decode_density}
-use Rattle.nanovdb.specs.Lent.{Answer, answer_of, decode_into}
+use Rattle.nanovdb.specs.Decode.{Accepted}
 use Rattle.boxes.specs.Boxes.{Box, span}
 use Rattle.walk.specs.Classes.{class_count, box_size, side_fault, sides_fault}
 use Rattle.walk.proofs.ClassLaws.{class_size, total_size}
-use Rattle.report.specs.Report.{refused_line, long_line, lent, result_text, printed_of}
+use Rattle.report.specs.Report.{refused_line}
 use Rattle.report.specs.ClassReport.{class_word, total_word, limits, index_box, class_line, class_lines, total_line, count_lines, class_text}
-use Rattle.report.specs.Room.{Counted, Roomy, Within, within, both, end, number_room, refused_room}
+use Rattle.report.specs.Room.{Roomy, Within, within, both, end, number_room, refused_room}
 
 -- ---- a box whose sides pass has at most 2^60 coordinates
 
@@ -79,21 +77,3 @@ class_text_room n t = let b = index_box t.medium in by_sides_room t.grid b (eqb 
 
 pub class_text_roomy : Roomy class_text
 class_text_roomy b bytes size t e counted few = class_text_room (length b) t
-
--- ---- any text
-
-text_room : (text : ℕ → Accepted → List ℕ) → Roomy text → (b : List ℕ) → ((i : ℕ) → get_or b i 0 < 256) → length b ≤ 32768
-    → (r : Result Accepted) → decode_into decode_density b lent ≡ r → Counted (answer_of r) → (answer_of r).roots ≤ 999
-    → length (result_text text (length b) r) ≤ 65536
-unfolding result_text
-text_room text room b bytes size (ok t) e counted few = room b bytes size t e counted few
-text_room text room b bytes size (refused k) e counted few = omega (arith, (refused_room k counted.number).most)
-
--- 65,536 bytes hold it, where the numbers of the decode's answer are u64
-pub printed_room : (text : ℕ → Accepted → List ℕ) → Roomy text → (b : List ℕ) {a : Answer} → ((i : ℕ) → get_or b i 0 < 256) → length b ≤ 32768
-    → a ≡ answer_of (decode_into decode_density b lent) → Counted a → a.roots ≤ 999 → length (printed_of text b) ≤ 65536
-unfolding printed_of
-printed_room text room b bytes size d counted few =
-    let read = decode_into decode_density b lent in
-    subst (λ (t : Bool). length (cond t (result_text text (length b) read) long_line) ≤ 65536) (sym (le-leb (length b) 32768 size))
-    (text_room text room b bytes size read refl (subst Counted d counted) (subst (λ (x : Answer). x.roots ≤ 999) d few))

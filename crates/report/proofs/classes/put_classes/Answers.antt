@@ -1,5 +1,5 @@
 -- The count over the grid, and what it answers.
-use Rattle.std.proofs.Common.{ap, ◌∙◌, sym}
+use Rattle.std.proofs.Common.{ap, ◌∙◌}
 use Rattle.sparse_grid.specs.Record.{as_grid}
 use Rattle.medium.specs.Record.{as_medium}
 use Rattle.walk.specs.Classes.{public_counts}
