@@ -1,10 +1,10 @@
 -- The whole text, from the decode's answer and what it left in the tables. Assumes nothing.
 use mathlib.Core.Path.{◌≡◌, refl, sym, ap, ◌∙◌, subst}
 use mathlib.Core.Bool.{Bool, cond}
-use mathlib.Core.List.{List}
-use Prim.Native.Nat.{ℕ, ◌-◌, ◌^◌, ◌≤◌, ◌<◌}
+use mathlib.Core.List.{List, ◌++◌}
+use Prim.Native.Nat.{ℕ, ◌-◌, ◌^◌, ◌≤◌, ◌<◌, min}
 use native.Mathlib.Omega.{arith}
-use lib.ListN.{length, get_or, replicate, length-append}
+use lib.ListN.{length, get_or, take, drop, replicate, length-append}
 use borrow.Author.Tests.{le-leb, lt-leb}
 use Rattle.refusals.specs.Results.{Result, ok, refused}
 use Rattle.refusals.specs.Numbers as Refusals
@@ -18,14 +18,16 @@ use Rattle.nanovdb.specs.Lent.{Lent, Answer, Tables, places_of, lengths, answer_
 use Rattle.nanovdb.specs.Passed.{density_passed}
 use Rattle.nanovdb.proofs.Numbers.{Numbered, numbered, not_zero}
 use Rattle.nanovdb.proofs.UsedLaws.{accepts, used_parts}
-use Rattle.report.specs.Report.{refused_line, long_line, lent, result_text, printed_of}
+use Rattle.text.specs.Page as Spec
+use Rattle.text.proofs.PageLaws.{puts_front}
+use Rattle.report.specs.Report.{refused_line, long_line, lent, Says, result_text, printed_of}
 use Rattle.report.specs.Inner.{accepted}
 use Rattle.report.specs.Room.{Counted, Roomy, long_room}
 use Rattle.report.proofs.ClassRoom.{printed_room}
 
 -- ---- what the test of the length decides
 
-module _ (text : ℕ → Accepted → List ℕ) where
+module _ (text : Says) where
   abbrev by_size : List ℕ → Bool → List ℕ
   by_size b t = cond t (result_text text (length b) (decode_into decode_density b lent)) long_line
 
@@ -75,7 +77,7 @@ module _ {b : List ℕ} {a : Answer} {t : Tables} (left : Left b a t) where
       (few_of (decode_into decode_density b lent) (ap lengths (sym left.tables) ∙ left.lengths) (subst (λ (x : Answer). x.number < 2 ^ 64) left.answer n))
 
   -- 65,536 bytes hold what is said of it
-  pub fits : (text : ℕ → Accepted → List ℕ) → Roomy text → ((i : ℕ) → get_or b i 0 < 256) → length b ≤ 32768 → a.number < 2 ^ 64
+  pub fits : (text : Says) → Roomy text → ((i : ℕ) → get_or b i 0 < 256) → length b ≤ 32768 → a.number < 2 ^ 64
       → length (printed_of text b) ≤ 65536
   fits text room bytes size n = let f = few n in printed_room text room b bytes size left.answer f.counted f.roots
 
@@ -95,13 +97,13 @@ module _ {b : List ℕ} {a : Answer} {t : Tables} (left : Left b a t) where
       let x = accepted g a.medium in
       (density_passed b (places_of lent) x (accepts b lent x (grid_read z u))).0.valid
 
-  pub grid_printed : (text : ℕ → Accepted → List ℕ) {g : Grid} → a.number ≡ 0 → g ≡ used_of a t → length b ≤ 32768
+  pub grid_printed : (text : Says) {g : Grid} → a.number ≡ 0 → g ≡ used_of a t → length b ≤ 32768
       → text (length b) (accepted g a.medium) ≡ printed_of text b
   unfolding result_text
   grid_printed text z u h = read_is text b (grid_read z u) h
 
 -- a refusal has its line
-pub refusal_printed : (text : ℕ → Accepted → List ℕ) (b : List ℕ) (e : Refusal)
+pub refusal_printed : (text : Says) (b : List ℕ) (e : Refusal)
     → answer_of (refused (Refusals.number e)) ≡ answer_of (decode_into decode_density b lent) → length b ≤ 32768
     → refused_line (Refusals.number e) ≡ printed_of text b
 unfolding result_text
@@ -111,3 +113,11 @@ refusal_printed text b e p h = go (decode_into decode_density b lent) refl p
         → refused_line (Refusals.number e) ≡ printed_of text b
     go (ok x) d q = absurd (number_some e (ap (λ (y : Answer). y.number) q))
     go (refused k) d q = ap refused_line (ap (λ (y : Answer). y.number) q) ∙ read_is text b d h
+
+-- a text at the front of a slice
+
+pub front_value : (l text : List ℕ) (o : List ℕ) (r : ℕ) → Spec.page o r ≡ Spec.puts (Spec.page l 0) text → r ≡ min (length text) (length l)
+front_value l text o r e = ap (λ (p : Spec.Page). p.at) (e ∙ puts_front l text)
+
+pub front_cells : (l text : List ℕ) (o : List ℕ) (r : ℕ) → Spec.page o r ≡ Spec.puts (Spec.page l 0) text → o ≡ take (length l) text ++ drop (length text) l
+front_cells l text o r e = ap (λ (p : Spec.Page). p.cells) (e ∙ puts_front l text)

@@ -1,14 +1,13 @@
 // The text that says what a grid holds, or why it was refused (document 01, `gridreport`), and that of its classes (document 02, A9, `gridclasses`).
 #![tactic(auto)]
 
-ghost use Rattle.std.specs.Prelude.{◌≡◌, ◌≤◌, ℕ, List, length};
+ghost use Rattle.std.specs.Prelude.{◌≡◌, ◌++◌, ◌≤◌, min, length, take, drop};
 ghost use Rattle.sparse_grid.specs.Record.{as_grid};
 ghost use Rattle.sparse_grid.specs.Sound.{Paired};
 ghost use Rattle.sparse_grid.specs.Validate.{validate};
 ghost use Rattle.medium.specs.Record.{as_medium};
-ghost use Rattle.nanovdb.specs.Decode.{Accepted};
 ghost use Rattle.text.specs.Written.{Writes};
-ghost use Rattle.report.specs.Report.{printed_of, grid_text};
+ghost use Rattle.report.specs.Report.{Says, printed_of, grid_text};
 ghost use Rattle.report.specs.ClassReport.{class_text};
 ghost use Rattle.report.specs.Inner.{accepted};
 ghost use Rattle.report.specs.Room.{Roomy, grid_text_room};
@@ -29,7 +28,7 @@ pub const MOST: usize = 32768;
 
 // A text of a grid of n bytes, for which 65,536 bytes have room.
 pub trait Text {
-    ghost text: { ℕ → Accepted → List ℕ };
+    ghost text: { Says };
 
     ghost room: { Roomy text };
 
@@ -83,7 +82,7 @@ impl Text for ClassText {
 }
 
 // What both programs do with the bytes that they read: a longer input is noticed, the tables are lent, and a refusal has one line.
-pub fn put_printed<T: Text>(page: &mut Page<'_>, bytes: &[u8])
+fn put_printed<T: Text>(page: &mut Page<'_>, bytes: &[u8])
     ensures text { Writes page.old (printed_of T.text bytes.now) page.new }
     ensures room { length (printed_of T.text bytes.now) ≤ 65536 }
 {
@@ -110,4 +109,17 @@ pub fn put_printed<T: Text>(page: &mut Page<'_>, bytes: &[u8])
         Ok(d) => T::put(page, bytes.len() as u64, &tables.used(&d), d.medium),
         Err(refusal) => put_refused(page, refusal),
     }
+}
+
+// Writes what a program prints of its input to the front of `out` and answers how many bytes of `out` it takes. What has no room is dropped, and
+// 65,536 bytes hold every text. No slice is returned: of one, what `out` holds behind it could not be promised.
+pub fn printed<T: Text>(bytes: &[u8], out: &mut [u8]) -> usize
+    ensures value { result ≡ min (length (printed_of T.text bytes.now)) (length out.old) }
+    ensures out_after { let text = printed_of T.text bytes.now in
+        out.new ≡ take (length out.old) text ++ drop (length text) out.old }
+    ensures bytes_len_bound { length (printed_of T.text bytes.now) ≤ 65536 }
+{
+    let mut page = Page { bytes: out, at: 0 };
+    put_printed::<T>(&mut page, bytes);
+    page.at
 }
