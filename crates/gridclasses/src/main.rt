@@ -2,8 +2,9 @@
 // of its refusal.
 #![tactic(auto)]
 
+use grid_program::ClassText;
 use std::io;
 
 fn main(rt: HostRuntime) -> io::Result<()> {
-    grid_program::print(&rt, true)
+    grid_program::print::<ClassText>(&rt)
 }

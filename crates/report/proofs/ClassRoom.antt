@@ -1,98 +1,24 @@
--- How long the text of the classes can be, and that 65,536 bytes hold either text. Assumes nothing.
-use Rattle.std.specs.Prelude.{◌≡◌, refl, Bool, true, false, cond, List, [], ℕ, ◌^◌, ◌≤◌, ◌<◌, ℤ, eqb, leb, length, get_or}
-use Rattle.std.proofs.Common.{sym, subst, mul-le-mul, arith, leb→le, eqb-true, le-leb}
+-- 65,536 bytes hold what is printed of any input, by a text for which they have room. Assumes nothing.
+use Rattle.std.specs.Prelude.{◌≡◌, refl, Bool, cond, List, ℕ, ◌≤◌, ◌<◌, length, get_or}
+use Rattle.std.proofs.Common.{sym, subst, arith, le-leb}
 use Rattle.refusals.specs.Results.{Result, ok, refused}
-use Rattle.refusals.specs.Faults.{◌then◌, unless}
-use Rattle.refusals.specs.FaultLaws.{then_zero, unless_zero}
-use Rattle.sparse_grid.specs.Tables.{Grid}
-use Rattle.sparse_grid.specs.Lookup.{read_in}
-use Rattle.sparse_grid.specs.Count.{sum}
 use Rattle.nanovdb.specs.Decode.{Accepted, decode_density}
 use Rattle.nanovdb.specs.Lent.{Answer, answer_of, decode_into}
-use Rattle.boxes.specs.Boxes.{Box, span}
-use Rattle.walk.specs.Classes.{class_count, box_size, side_fault, sides_fault}
-use Rattle.walk.proofs.ClassLaws.{class_size, total_size}
-use Rattle.report.specs.Report.{refused_line, long_line, lent, result_text, printed_of}
-use Rattle.report.specs.ClassReport.{class_word, total_word, limits, index_box, class_line, class_lines, total_line, count_lines, class_text}
-use Rattle.report.specs.Inner.{text_for}
-use Rattle.report.specs.Room.{Counted, Within, within, both, end, number_room, refused_room, grid_text_room}
+use Rattle.report.specs.Report.{long_line, lent, Says, result_text, printed_of}
+use Rattle.report.specs.Room.{Counted, Roomy, refused_room}
 
--- ---- a box whose sides pass has at most 2^60 coordinates
-
-side_most : (lo hi : ℤ) → side_fault lo hi ≡ 0 → span lo hi ≤ 1048576
-side_most lo hi e = leb→le (span lo hi) 1048576 (unless_zero (leb (span lo hi) 1048576) 24 e)
-
-pub size_most : (b : Box) → sides_fault b ≡ 0 → box_size b ≤ 1152921504606846976
-size_most b e =
-    let p = then_zero (side_fault b.lo.x b.hi.x) (side_fault b.lo.y b.hi.y then side_fault b.lo.z b.hi.z) e in
-    let q = then_zero (side_fault b.lo.y b.hi.y) (side_fault b.lo.z b.hi.z) p.1 in
-    mul-le-mul (mul-le-mul (side_most b.lo.x b.hi.x p.0) (side_most b.lo.y b.hi.y q.0))
-    (side_most b.lo.z b.hi.z q.1)
-
--- 25 is the only number of the sides
-then_most : (a b n : ℕ) → a ≤ n → b ≤ n → (a then b) ≤ n
-then_most a b n h k = go (eqb a 0)
-  where
-    go : (t : Bool) → cond t b a ≤ n
-    go true = k
-    go false = h
-
-unless_most : (t : Bool) → unless t 25 ≤ 25
-unless_most true = omega arith
-unless_most false = omega arith
-
-sides_most : (b : Box) → sides_fault b ≤ 25
-sides_most b =
-    let s : (lo hi : ℤ) → side_fault lo hi ≤ 25 = λ lo hi. unless_most (leb (span lo hi) 1048576) in
-    then_most (side_fault b.lo.x b.hi.x) (side_fault b.lo.y b.hi.y then side_fault b.lo.z b.hi.z) 25
-    (s b.lo.x b.hi.x)
-    (then_most (side_fault b.lo.y b.hi.y) (side_fault b.lo.z b.hi.z) 25 (s b.lo.y b.hi.y) (s b.lo.z b.hi.z))
-
--- ---- the lines
-
-class_room : (k n : ℕ) → k < 2 ^ 64 → n < 2 ^ 64 → Within (class_line k n) 48
-unfolding class_line class_word
-class_room k n h m = both (within class_word 5 (omega arith)) (both (number_room k h) (both (number_room n m) end))
-
-total_room : (n : ℕ) → n < 2 ^ 64 → Within (total_line n) 27
-unfolding total_line total_word
-total_room n h = both (within total_word 5 (omega arith)) (both (number_room n h) end)
-
-count_room : (count : ℕ → ℕ) → ((k : ℕ) → count k < 2 ^ 64) → sum 3 count < 2 ^ 64 → Within (count_lines count) 171
-unfolding count_lines class_lines
-count_room count h s =
-    both
-    (both (both (both (within [] 0 (omega arith)) (class_room 0 (count 0) (omega arith) (h 0))) (class_room 1 (count 1) (omega arith) (h 1)))
-    (class_room 2 (count 2) (omega arith) (h 2)))
-    (total_room (sum 3 count) s)
-
-by_sides_room : (g : Grid) (b : Box) (x : Bool) → eqb (sides_fault b) 0 ≡ x
-    → length (cond x (count_lines (class_count (read_in g) limits b)) (refused_line (sides_fault b))) ≤ 65536
-by_sides_room g b true e =
-    let m = size_most b (eqb-true (sides_fault b) 0 e) in
-    let each : (k : ℕ) → class_count (read_in g) limits b k < 2 ^ 64 = λ k. omega (arith, m, class_size (read_in g) limits b k) in
-    omega (arith, (count_room (class_count (read_in g) limits b) each (omega (arith, m, total_size (read_in g) limits b))).most)
-by_sides_room g b false e = omega (arith, (refused_room (sides_fault b) (omega (arith, sides_most b))).most)
-
-class_text_room : (n : ℕ) (t : Accepted) → length (class_text n t) ≤ 65536
-unfolding class_text
-class_text_room n t = let b = index_box t.medium in by_sides_room t.grid b (eqb (sides_fault b) 0) refl
-
--- ---- either text
-
-text_room : (classes : Bool) (b : List ℕ) → ((i : ℕ) → get_or b i 0 < 256) → length b ≤ 32768
+text_room : (text : Says) → Roomy text → (b : List ℕ) → ((i : ℕ) → get_or b i 0 < 256) → length b ≤ 32768
     → (r : Result Accepted) → decode_into decode_density b lent ≡ r → Counted (answer_of r) → (answer_of r).roots ≤ 999
-    → length (result_text (text_for classes) (length b) r) ≤ 65536
+    → length (result_text text (length b) r) ≤ 65536
 unfolding result_text
-text_room true b bytes size (ok t) e counted few = class_text_room (length b) t
-text_room false b bytes size (ok t) e counted few = grid_text_room b bytes size t e counted few
-text_room classes b bytes size (refused k) e counted few = omega (arith, (refused_room k counted.number).most)
+text_room text room b bytes size (ok t) e counted few = room b bytes size t e counted few
+text_room text room b bytes size (refused k) e counted few = omega (arith, (refused_room k counted.number).most)
 
 -- 65,536 bytes hold it, where the numbers of the decode's answer are u64
-pub printed_room : (classes : Bool) (b : List ℕ) {a : Answer} → ((i : ℕ) → get_or b i 0 < 256) → length b ≤ 32768
-    → a ≡ answer_of (decode_into decode_density b lent) → Counted a → a.roots ≤ 999 → length (printed_of (text_for classes) b) ≤ 65536
+pub printed_room : (text : Says) → Roomy text → (b : List ℕ) {a : Answer} → ((i : ℕ) → get_or b i 0 < 256) → length b ≤ 32768
+    → a ≡ answer_of (decode_into decode_density b lent) → Counted a → a.roots ≤ 999 → length (printed_of text b) ≤ 65536
 unfolding printed_of
-printed_room classes b bytes size d counted few =
+printed_room text room b bytes size d counted few =
     let read = decode_into decode_density b lent in
-    subst (λ (t : Bool). length (cond t (result_text (text_for classes) (length b) read) long_line) ≤ 65536) (sym (le-leb (length b) 32768 size))
-    (text_room classes b bytes size read refl (subst Counted d counted) (subst (λ (x : Answer). x.roots ≤ 999) d few))
+    subst (λ (t : Bool). length (cond t (result_text text (length b) read) long_line) ≤ 65536) (sym (le-leb (length b) 32768 size))
+    (text_room text room b bytes size read refl (subst Counted d counted) (subst (λ (x : Answer). x.roots ≤ 999) d few))

@@ -13,14 +13,13 @@ use mir.Facts.{to_z-of_z}
 use Rattle.refusals.proofs.ListLaws.{get_d_any}
 use Rattle.float.specs.Zero.{+0}
 use Rattle.layout.specs.Coordinates.{Coord}
-use Rattle.sparse_grid.specs.Tables.{block_at}
+use Rattle.sparse_grid.specs.Tables.{Grid, block_at}
 use Rattle.text.specs.Numerals.{signed_text, hex8}
 use Rattle.text.specs.declared.Page.{Page}
 use Rattle.text.specs.Written.{Writes}
 use Rattle.text.proofs.Writing.{◌then◌, as_text}
 use Rattle.report.specs.Report.{newline, number, coordinate, triple, bits, root_line, root_lines, refused_word, refused_line}
 use Rattle.report.specs.Lines.{numbers}
-use Rattle.report.specs.Inner.{coord_of, roots_in}
 
 -- an i32 as a local holds it
 abbrev pub held : ℤ → ℤ
@@ -44,18 +43,18 @@ put_triple fit d e f =
     (λ i. coordinate (to_z-of_z fit.x i) ++ (coordinate (to_z-of_z fit.y i) ++ coordinate (to_z-of_z fit.z i)))
 
 -- three i32 that a call is handed
-pub held_triple : {p q : Page} {k : Coord} → Fit k → Writes p (triple (coord_of (held k.x) (held k.y) (held k.z))) q → Writes p (triple k) q
-held_triple fit e = as_text e (λ i. triple (coord_of (to_z-of_z fit.x i) (to_z-of_z fit.y i) (to_z-of_z fit.z i)))
+pub held_triple : {p q : Page} {k : Coord} → Fit k → Writes p (triple (record { x = held k.x; y = held k.y; z = held k.z })) q → Writes p (triple k) q
+held_triple fit e = as_text e (λ i. triple (record { x = to_z-of_z fit.x i; y = to_z-of_z fit.y i; z = to_z-of_z fit.z i }))
 
 pub put_bits : {p q r : Page} {n : ℕ} (v : Float) → n ≡ to_bits binary32 v → Writes p (32 ∷ []) q → Writes q (hex8 n) r → Writes p (bits v) r
 unfolding bits
 put_bits v h d e = as_text (d then e) (ap (λ (k : ℕ). 32 ∷ hex8 k) h)
 
 -- one root more
-pub root_more : {p q r : Page} (blocks : List ℤ) (values : List Float) (i : ℕ) → Writes p (root_lines (roots_in blocks values) i) q
-    → Writes q (root_line (block_at (roots_in blocks []) i) (get_or values i +0)) r → Writes p (root_lines (roots_in blocks values) (i + 1)) r
+pub root_more : {p q r : Page} (g : Grid) (i : ℕ) → Writes p (root_lines g i) q → Writes q (root_line (block_at g i) (get_or g.root_values i +0)) r
+    → Writes p (root_lines g (i + 1)) r
 unfolding root_lines
-root_more blocks values i e f = as_text (e then f) (ap (root_lines (roots_in blocks values)) (sym (add-one i)))
+root_more g i e f = as_text (e then f) (ap (root_lines g) (sym (add-one i)))
 
 -- a value that was read from its slice
 pub read_bits : {p q : Page} (values : List Float) (i : ℕ) → i < length values → Writes p (bits (get_or values i nan)) q

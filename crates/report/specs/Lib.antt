@@ -3,3 +3,4 @@ pub mod ClassReport
 pub mod Inner
 pub mod Lines
 pub mod Room
+pub mod ClassRoom

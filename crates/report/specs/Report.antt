@@ -110,14 +110,18 @@ lent = record {
   work = 8;
 }
 
+-- what a text says of a grid of n bytes
+abbrev pub Says : Type 0
+Says = ℕ → Accepted → List ℕ
+
 -- a grid has its text; a refusal prints one line alone
-unfoldable pub result_text : (ℕ → Accepted → List ℕ) → ℕ → Result Accepted → List ℕ
+unfoldable pub result_text : Says → ℕ → Result Accepted → List ℕ
 unfolding refused_line
 result_text text n (ok t) = text n t
 result_text text n (refused k) = refused_line k
 
 -- the text of an input, where a grid of n bytes has the text that is given; more than 32,768 bytes are not read
-unfoldable pub printed_of : (ℕ → Accepted → List ℕ) → List ℕ → List ℕ
+unfoldable pub printed_of : Says → List ℕ → List ℕ
 unfolding result_text decode_into decode_density long_line
 printed_of text b = cond (leb (length b) 32768) (result_text text (length b) (decode_into decode_density b lent)) long_line
 

@@ -20,7 +20,7 @@ use Rattle.nanovdb.specs.Passed.{density_passed}
 use Rattle.nanovdb.specs.Lent.{lent_fault, places_of, Answer, answer_of, decode_into}
 use Rattle.text.specs.Lengths.{decimal_length, signed_length, sixteens_length}
 use Rattle.report.specs.Report.{grid_word, nodes_word, box_word, back_word, root_word, refused_word, newline, number, coordinate, triple, bits}
-use Rattle.report.specs.Report.{grid_line, nodes_line, box_line, back_line, root_line, root_lines, refused_line, long_line, lent, grid_text}
+use Rattle.report.specs.Report.{grid_line, nodes_line, box_line, back_line, root_line, root_lines, refused_line, long_line, lent, Says, grid_text}
 
 -- the counts and the number of an answer that the code holds are u64
 pub record Counted (a : Answer) : Type 0 where
@@ -28,6 +28,11 @@ pub record Counted (a : Answer) : Type 0 where
   pub upper : a.upper < 2 ^ 64
   pub lower : a.lower < 2 ^ 64
   pub leaf : a.leaf < 2 ^ 64
+
+-- 65,536 bytes hold what a text says of an accepted grid
+abbrev pub Roomy : Says → Type 0
+Roomy text = (b : List ℕ) → ((i : ℕ) → get_or b i 0 < 256) → length b ≤ 32768 → (t : Accepted) → decode_into decode_density b lent ≡ ok t
+    → Counted (answer_of (ok t)) → (answer_of (ok t)).roots ≤ 999 → length (text (length b) t) ≤ 65536
 
 -- l has at most n bytes
 pub record Within (l : List ℕ) (n : ℕ) : Type 0 where
@@ -140,8 +145,7 @@ high_corner b h =
 
 -- ---- the text of a grid
 
-pub grid_text_room : (b : List ℕ) → ((i : ℕ) → get_or b i 0 < 256) → length b ≤ 32768 → (t : Accepted) → decode_into decode_density b lent ≡ ok t
-    → Counted (answer_of (ok t)) → (answer_of (ok t)).roots ≤ 999 → length (grid_text (length b) t) ≤ 65536
+pub grid_text_room : Roomy grid_text
 unfolding grid_text decode_into
 grid_text_room b bytes size t e counted few =
     let g = t.grid in

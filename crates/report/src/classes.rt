@@ -1,14 +1,37 @@
 // The coordinates of a grid's index box by class of density, as text.
-ghost use Rattle.std.specs.Prelude.{◌≡◌, ◌+◌, ◌<◌, ◌≤◌, ◌^◌, get_or};
-ghost use Rattle.decode.specs.Answers.{answer};
+ghost use Rattle.std.specs.Prelude.{◌≡◌, ◌+◌, ◌<◌, ◌^◌, get_or};
+ghost use Rattle.layout.specs.Record.{as_coord};
+ghost use Rattle.sparse_grid.specs.Record.{as_grid};
+ghost use Rattle.medium.specs.Record.{coord_of, as_medium};
+ghost use Rattle.boxes.specs.Boxes.{as_box};
+ghost use Rattle.walk.specs.Classes.{public_counts};
 ghost use Rattle.text.specs.Written.{Writes};
-ghost use Rattle.report.specs.ClassReport.{count_lines};
-ghost use Rattle.report.specs.Inner.{classes_in};
+ghost use Rattle.report.specs.ClassReport.{limits, index_box, count_lines};
+ghost use Rattle.report.specs.Inner.{counts_in};
 
-use crate::lines::put_line;
-use decode::Decoded;
+use crate::lines::{put_line, put_refused};
+use boxes::CoordBox;
+use layout::Coordinate;
 use majorant::count_classes;
+use medium::Medium;
+use sparse_grid::Grid;
 use text::Page;
+
+fn corner(c: [i32; 3]) -> Coordinate
+    ensures { as_coord result ≡ coord_of c }
+{
+    let [x, y, z] = c;
+    Coordinate { x, y, z }
+}
+
+fn index_box(m: Medium) -> CoordBox
+    ensures { as_box result ≡ index_box (as_medium m) }
+{
+    CoordBox {
+        lo: corner(m.index_low),
+        hi: corner(m.index_high),
+    }
+}
 
 // The lines of the counts of three classes.
 fn put_counts(page: &mut Page<'_>, counts: [u64; 17])
@@ -21,41 +44,13 @@ fn put_counts(page: &mut Page<'_>, counts: [u64; 17])
     put_line(page, b"total", &[counts[0] + counts[1] + counts[2]]);
 }
 
-// The text of what was decoded: the limits are 0.25 and 0.75, and there are no nodes.
-pub(crate) fn put_classes(
-    page: &mut Page<'_>,
-    d: Decoded,
-    blocks: &[i32; 2997],
-    links: &[u32; 999],
-    values: &[f32; 999],
-)
-    requires { d.roots ≤ 999 }
-    ensures { Writes page.old (classes_in (answer d) blocks.now links.now values.now) page.new }
+// The counts of a grid, or why they are refused: the limits are 0.25 and 0.75.
+pub(crate) fn put_classes(page: &mut Page<'_>, grid: &Grid, m: Medium)
+    ensures { Writes page.old (counts_in (public_counts (as_grid grid.now) limits (index_box (as_medium m)))) page.new }
 {
     let limits = [0.25f32, 0.75f32];
-    let low = d.medium.index_low;
-    let high = d.medium.index_high;
-    let c = count_classes(
-        d.background,
-        &blocks[..3 * d.roots],
-        &links[..d.roots],
-        &values[..d.roots],
-        &[],
-        &[],
-        &[],
-        &[],
-        &[],
-        &limits,
-        low[0],
-        low[1],
-        low[2],
-        high[0],
-        high[1],
-        high[2],
-    );
-    if c.number != 0 {
-        put_line(page, b"refused", &[u64::from(c.number)]);
-    } else {
-        put_counts(page, c.counts);
+    match count_classes(grid, &limits, index_box(m)) {
+        Ok(counts) => put_counts(page, counts),
+        Err(refusal) => put_refused(page, refusal),
     }
 }

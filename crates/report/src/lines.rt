@@ -1,14 +1,19 @@
 // The lines of the report.
-ghost use Rattle.std.specs.Prelude.{◌≡◌, [], ◌++◌, ◌<◌, ◌≤◌, get_or};
+// By hand, as in text: write! promises its bytes only where it answers Ok.
+ghost use Rattle.std.specs.Prelude.{◌≡◌, ◌++◌, ◌<◌, ◌^◌, length, get_or};
+ghost use Rattle.refusals.specs.Numbers.{number as number_of};
 ghost use Rattle.float.specs.Zero.{+0};
 ghost use Rattle.medium.specs.Record.{coord_of, as_medium};
 ghost use Rattle.sparse_grid.specs.Tables.{block_at};
+ghost use Rattle.sparse_grid.specs.Record.{as_grid};
+ghost use Rattle.sparse_grid.specs.Sound.{Paired};
 ghost use Rattle.text.specs.Written.{Writes};
-ghost use Rattle.report.specs.Report.{number, coordinate, triple, bits, box_line, back_line, root_line, root_lines};
+ghost use Rattle.report.specs.Report.{number, coordinate, triple, bits, box_line, back_line, root_line, root_lines, refused_line};
 ghost use Rattle.report.specs.Lines.{numbers};
-ghost use Rattle.report.specs.Inner.{roots_in};
 
 use medium::Medium;
+use refusals::Refusal;
+use sparse_grid::Grid;
 use text::Page;
 
 // ---- a blank, and what stands behind it
@@ -72,24 +77,33 @@ pub(crate) fn put_back(page: &mut Page<'_>, v: f32)
     page.put_byte(b'\n');
 }
 
-// Root i: its block and its value.
-fn put_root(page: &mut Page<'_>, blocks: &[i32; 2997], values: &[f32; 999], i: usize)
-    requires { i < 999 }
-    ensures { let line = root_line (block_at (roots_in blocks.now []) i) (get_or values.now i +0) in
-        Writes page.old line page.new }
+// Why there is no grid, or no count, by the number of the refusal.
+pub(crate) fn put_refused(page: &mut Page<'_>, refusal: Refusal)
+    ensures text { Writes page.old (refused_line (number_of refusal)) page.new }
+    ensures counted { number_of refusal < 2 ^ 64 }
 {
+    put_line(page, b"refused", &[u64::from(refusal.number())]);
+}
+
+// Root i: its block and its value.
+fn put_root(page: &mut Page<'_>, grid: &Grid, i: usize)
+    requires paired { Paired (as_grid grid.now) }
+    requires within { i < length (as_grid grid.now).root_links }
+    ensures { let g = as_grid grid.now in Writes page.old (root_line (block_at g i) (get_or g.root_values i +0)) page.new }
+{
+    let b = grid.blocks;
     page.put_bytes(b"root");
-    put_triple(page, [blocks[3 * i], blocks[3 * i + 1], blocks[3 * i + 2]]);
-    put_bits(page, values[i]);
+    put_triple(page, [b[3 * i], b[3 * i + 1], b[3 * i + 2]]);
+    put_bits(page, grid.roots.values[i]);
     page.put_byte(b'\n');
 }
 
-// The first n roots.
-pub(crate) fn put_roots(page: &mut Page<'_>, blocks: &[i32; 2997], values: &[f32; 999], n: usize)
-    requires { n ≤ 999 }
-    ensures { Writes page.old (root_lines (roots_in blocks.now values.now) n) page.new }
+// All roots, in their order.
+pub(crate) fn put_roots(page: &mut Page<'_>, grid: &Grid)
+    requires { Paired (as_grid grid.now) }
+    ensures { let g = as_grid grid.now in Writes page.old (root_lines g (length g.root_links)) page.new }
 {
-    for i in 0..n {
-        put_root(page, blocks, values, i);
+    for i in 0..grid.roots.links.len() {
+        put_root(page, grid, i);
     }
 }

@@ -1,68 +1,56 @@
 -- The decode into these tables, and the text of its answer.
-use Rattle.std.proofs.Common.{List, ℕ, ◌≤◌, length, subst}
-use Rattle.nanovdb.specs.Lent.{tables}
-use Rattle.decode.specs.Answers.{answer}
+use Rattle.std.proofs.Common.{refl, arith}
+use Rattle.refusals.specs.Results.{refused}
+use Rattle.refusals.specs.Numbers.{number}
+use Rattle.nanovdb.specs.Lent.{answer_of}
+use Rattle.decode.specs.Answers.{counts}
+use Rattle.decode.specs.Record.{as_tables}
 use Rattle.text.proofs.Writing.{as_text}
 use Rattle.report.specs.Report.{long_word, long_line}
-use Rattle.report.specs.Room.{long_room}
-use Rattle.report.proofs.ClassRoom.{printed_room}
-use Rattle.report.proofs.Counting.{Nodeless}
-use Rattle.report.proofs.Whole.{Left, roots_most, printed_is, long_is}
+use Rattle.report.proofs.Whole.{Left, long_is, long_fits, fits, grid_valid, grid_printed, refusal_printed}
 use Rattle.report.proofs.put_printed.Goals as goal
 
 -- ---- too long an input
+
 pub returns-then-bytes-gt-MOST-clause-text : goal.returns-then-bytes-gt-MOST-clause-text
 unfolding long_word long_line
-returns-then-bytes-gt-MOST-clause-text c =
-    as_text c.put_line.ensures (long_is c.args.classes c.args.bytes.now c.if-bytes-gt-MOST.true)
+returns-then-bytes-gt-MOST-clause-text g c = as_text c.put_line.ensures (long_is g.T.Text.text c.args.bytes.now c.if-bytes-gt-MOST.true)
 
 pub returns-then-bytes-gt-MOST-clause-room : goal.returns-then-bytes-gt-MOST-clause-room
-returns-then-bytes-gt-MOST-clause-room c =
-    subst (λ (l : List ℕ). length l ≤ 65536) (long_is c.args.classes c.args.bytes.now c.if-bytes-gt-MOST.true) long_room
+returns-then-bytes-gt-MOST-clause-room g c = long_fits g.T.Text.text c.args.bytes.now c.if-bytes-gt-MOST.true
 
--- ---- the decode, whose tables keep their lengths
-pub put_text-requires : goal.put_text-requires
-put_text-requires c =
-    let d = c.decode_density_grid-d in
-    let u = d.new in
-    let t = tables u.blocks u.root_links u.root_values u.upper_links u.upper_values u.lower_links u.lower_values u.leaf_values u.work in
-    let none : Nodeless t = record {
-      upper_links = d.auto.upper_links;
-      upper_values = d.auto.upper_values;
-      lower_links = d.auto.lower_links;
-      lower_values = d.auto.lower_values;
-      leaf_values = d.auto.leaf_values;
-    } in
-    let left : Left c.args.bytes.now (answer d.result) t = record { answer = d.ensures.result_value; tables = d.ensures.after_after; no_nodes = none } in
-    roots_most left d.auto.root_links
+-- ---- a grid
 
-pub returns-clause-text : goal.returns-clause-text
-returns-clause-text c =
-    let d = c.decode_density_grid-d in
-    let u = d.new in
-    let t = tables u.blocks u.root_links u.root_values u.upper_links u.upper_values u.lower_links u.lower_values u.leaf_values u.work in
-    let none : Nodeless t = record {
-      upper_links = d.auto.upper_links;
-      upper_values = d.auto.upper_values;
-      lower_links = d.auto.lower_links;
-      lower_values = d.auto.lower_values;
-      leaf_values = d.auto.leaf_values;
-    } in
-    let left : Left c.args.bytes.now (answer d.result) t = record { answer = d.ensures.result_value; tables = d.ensures.after_after; no_nodes = none } in
-    as_text c.put_text.ensures.result_after (printed_is c.args.classes left c.if-bytes-gt-MOST.false)
+pub put-requires : goal.put-requires
+put-requires g c =
+    let e = c.in-Ok.ensures in
+    let left : Left c.args.bytes.now (counts c.in-Ok.d) (as_tables c.decode_density_grid.new.tables) =
+    record { answer = e.answer; tables = e.tables; lengths = e.lengths } in
+    grid_valid left refl c.used.ensures
 
-pub returns-clause-room : goal.returns-clause-room
-returns-clause-room c =
-    let d = c.decode_density_grid-d in
-    let u = d.new in
-    let t = tables u.blocks u.root_links u.root_values u.upper_links u.upper_values u.lower_links u.lower_values u.leaf_values u.work in
-    let none : Nodeless t = record {
-      upper_links = d.auto.upper_links;
-      upper_values = d.auto.upper_values;
-      lower_links = d.auto.lower_links;
-      lower_values = d.auto.lower_values;
-      leaf_values = d.auto.leaf_values;
-    } in
-    let left : Left c.args.bytes.now (answer d.result) t = record { answer = d.ensures.result_value; tables = d.ensures.after_after; no_nodes = none } in
-    let most = roots_most left d.auto.root_links in
-    printed_room c.args.classes c.args.bytes.now (λ i. (c.type_inv.bytes i).fits) c.if-bytes-gt-MOST.false left.answer c.put_text.ensures.counted most
+pub returns-in-Ok-clause-text : goal.returns-in-Ok-clause-text
+returns-in-Ok-clause-text g c =
+    let e = c.in-Ok.ensures in
+    let left : Left c.args.bytes.now (counts c.in-Ok.d) (as_tables c.decode_density_grid.new.tables) =
+    record { answer = e.answer; tables = e.tables; lengths = e.lengths } in
+    as_text c.put.ensures (grid_printed left g.T.Text.text refl c.used.ensures c.if-bytes-gt-MOST.false)
+
+pub returns-in-Ok-clause-room : goal.returns-in-Ok-clause-room
+returns-in-Ok-clause-room g c =
+    let e = c.in-Ok.ensures in
+    let left : Left c.args.bytes.now (counts c.in-Ok.d) (as_tables c.decode_density_grid.new.tables) =
+    record { answer = e.answer; tables = e.tables; lengths = e.lengths } in
+    fits left g.T.Text.text g.T.Text.room (λ i. (c.type_inv.bytes i).fits) c.if-bytes-gt-MOST.false (omega arith)
+
+-- ---- a refusal
+
+pub returns-in-Err-clause-text : goal.returns-in-Err-clause-text
+returns-in-Err-clause-text g c =
+    as_text c.put_refused.ensures.text (refusal_printed g.T.Text.text c.args.bytes.now c.in-Err.refusal c.in-Err.ensures.answer c.if-bytes-gt-MOST.false)
+
+pub returns-in-Err-clause-room : goal.returns-in-Err-clause-room
+returns-in-Err-clause-room g c =
+    let e = c.in-Err.ensures in
+    let left : Left c.args.bytes.now (answer_of (refused (number c.in-Err.refusal))) (as_tables c.decode_density_grid.new.tables) =
+    record { answer = e.answer; tables = e.tables; lengths = e.lengths } in
+    fits left g.T.Text.text g.T.Text.room (λ i. (c.type_inv.bytes i).fits) c.if-bytes-gt-MOST.false c.put_refused.ensures.counted
