@@ -3,7 +3,6 @@
 
 ghost use Rattle.std.specs.Prelude.{◌≡◌, ◌++◌, ◌≤◌, min, length, take, drop};
 ghost use Rattle.sparse_grid.specs.Record.{as_grid};
-ghost use Rattle.sparse_grid.specs.Sound.{Paired};
 ghost use Rattle.sparse_grid.specs.Validate.{validate};
 ghost use Rattle.medium.specs.Record.{as_medium};
 ghost use Rattle.text.specs.Written.{Writes};
@@ -43,31 +42,23 @@ pub struct GridText {}
 // The coordinates of its index box by class of density.
 pub struct ClassText {}
 
-// The lines of a grid of n bytes.
-fn put_lines(page: &mut Page<'_>, n: u64, grid: &Grid, m: Medium)
-    requires { Paired (as_grid grid.now) }
-    ensures { Writes page.old (grid_text n (accepted (as_grid grid.now) (as_medium m))) page.new }
-{
-    let nodes = [
-        grid.roots.links.len() as u64,
-        grid.upper.links.len() as u64 / 32768,
-        grid.lower.links.len() as u64 / 4096,
-        grid.leaf_values.len() as u64 / 512,
-    ];
-    put_line(page, b"grid", &[n]);
-    put_line(page, b"nodes", &nodes);
-    put_box(page, m);
-    put_back(page, grid.background);
-    put_roots(page, grid);
-}
-
 impl Text for GridText {
     ghost text = { grid_text };
 
     ghost room = { grid_text_room };
 
     fn put(page: &mut Page<'_>, n: u64, grid: &Grid, m: Medium) {
-        put_lines(page, n, grid, m);
+        let nodes = [
+            grid.roots.links.len() as u64,
+            grid.upper.links.len() as u64 / 32768,
+            grid.lower.links.len() as u64 / 4096,
+            grid.leaf_values.len() as u64 / 512,
+        ];
+        put_line(page, b"grid", &[n]);
+        put_line(page, b"nodes", &nodes);
+        put_box(page, m);
+        put_back(page, grid.background);
+        put_roots(page, grid);
     }
 }
 
