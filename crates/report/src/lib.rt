@@ -7,15 +7,12 @@ ghost use Rattle.sparse_grid.specs.Validate.{validate};
 ghost use Rattle.medium.specs.Record.{as_medium};
 ghost use Rattle.text.specs.Written.{Writes};
 ghost use Rattle.report.specs.Report.{Says, printed_of, grid_text};
-ghost use Rattle.report.specs.ClassReport.{class_text};
 ghost use Rattle.report.specs.Inner.{accepted};
 ghost use Rattle.report.specs.Room.{Roomy, grid_text_room};
-ghost use Rattle.report.specs.ClassRoom.{class_text_roomy};
 
 mod classes;
 mod lines;
 
-use classes::put_classes;
 use decode::{Tables, decode_density_grid};
 use lines::{put_back, put_box, put_line, put_refused, put_roots};
 use medium::Medium;
@@ -59,16 +56,6 @@ impl Text for GridText {
         put_box(page, m);
         put_back(page, grid.background);
         put_roots(page, grid);
-    }
-}
-
-impl Text for ClassText {
-    ghost text = { class_text };
-
-    ghost room = { class_text_roomy };
-
-    fn put(page: &mut Page<'_>, n: u64, grid: &Grid, m: Medium) {
-        put_classes(page, grid, m);
     }
 }
 
