@@ -1,15 +1,14 @@
 // The coordinates of a grid's index box by class of density, as text.
 ghost use Rattle.std.specs.Prelude.{◌≡◌, ◌+◌, ◌<◌, ◌^◌, get_or};
 ghost use Rattle.layout.specs.Record.{as_coord};
-ghost use Rattle.sparse_grid.specs.Record.{as_grid};
 ghost use Rattle.medium.specs.Record.{coord_of, as_medium};
 ghost use Rattle.boxes.specs.Boxes.{as_box};
-ghost use Rattle.walk.specs.Classes.{public_counts};
 ghost use Rattle.text.specs.Written.{Writes};
-ghost use Rattle.report.specs.ClassReport.{limits, index_box, count_lines};
-ghost use Rattle.report.specs.Inner.{counts_in};
+ghost use Rattle.report.specs.ClassReport.{index_box, count_lines, class_text};
+ghost use Rattle.report.specs.ClassRoom.{class_text_roomy};
 
 use crate::lines::{put_line, put_refused};
+use crate::{ClassText, Text};
 use boxes::CoordBox;
 use layout::Coordinate;
 use majorant::count_classes;
@@ -44,13 +43,17 @@ fn put_counts(page: &mut Page<'_>, counts: [u64; 17])
     put_line(page, b"total", &[counts[0] + counts[1] + counts[2]]);
 }
 
-// The counts of a grid, or why they are refused: the limits are 0.25 and 0.75.
-pub(crate) fn put_classes(page: &mut Page<'_>, grid: &Grid, m: Medium)
-    ensures { Writes page.old (counts_in (public_counts (as_grid grid.now) limits (index_box (as_medium m)))) page.new }
-{
-    let limits = [0.25f32, 0.75f32];
-    match count_classes(grid, &limits, index_box(m)) {
-        Ok(counts) => put_counts(page, counts),
-        Err(refusal) => put_refused(page, refusal),
+impl Text for ClassText {
+    ghost text = { class_text };
+
+    ghost room = { class_text_roomy };
+
+    // The counts, or why they are refused: the limits are 0.25 and 0.75.
+    fn put(page: &mut Page<'_>, n: u64, grid: &Grid, m: Medium) {
+        let limits = [0.25f32, 0.75f32];
+        match count_classes(grid, &limits, index_box(m)) {
+            Ok(counts) => put_counts(page, counts),
+            Err(refusal) => put_refused(page, refusal),
+        }
     }
 }

@@ -3,20 +3,16 @@
 
 ghost use Rattle.std.specs.Prelude.{◌≡◌, ◌++◌, ◌≤◌, min, length, take, drop};
 ghost use Rattle.sparse_grid.specs.Record.{as_grid};
-ghost use Rattle.sparse_grid.specs.Sound.{Paired};
 ghost use Rattle.sparse_grid.specs.Validate.{validate};
 ghost use Rattle.medium.specs.Record.{as_medium};
 ghost use Rattle.text.specs.Written.{Writes};
 ghost use Rattle.report.specs.Report.{Says, printed_of, grid_text};
-ghost use Rattle.report.specs.ClassReport.{class_text};
 ghost use Rattle.report.specs.Inner.{accepted};
 ghost use Rattle.report.specs.Room.{Roomy, grid_text_room};
-ghost use Rattle.report.specs.ClassRoom.{class_text_roomy};
 
 mod classes;
 mod lines;
 
-use classes::put_classes;
 use decode::{Tables, decode_density_grid};
 use lines::{put_back, put_box, put_line, put_refused, put_roots};
 use medium::Medium;
@@ -43,41 +39,23 @@ pub struct GridText {}
 // The coordinates of its index box by class of density.
 pub struct ClassText {}
 
-// The lines of a grid of n bytes.
-fn put_lines(page: &mut Page<'_>, n: u64, grid: &Grid, m: Medium)
-    requires { Paired (as_grid grid.now) }
-    ensures { Writes page.old (grid_text n (accepted (as_grid grid.now) (as_medium m))) page.new }
-{
-    let nodes = [
-        grid.roots.links.len() as u64,
-        grid.upper.links.len() as u64 / 32768,
-        grid.lower.links.len() as u64 / 4096,
-        grid.leaf_values.len() as u64 / 512,
-    ];
-    put_line(page, b"grid", &[n]);
-    put_line(page, b"nodes", &nodes);
-    put_box(page, m);
-    put_back(page, grid.background);
-    put_roots(page, grid);
-}
-
 impl Text for GridText {
     ghost text = { grid_text };
 
     ghost room = { grid_text_room };
 
     fn put(page: &mut Page<'_>, n: u64, grid: &Grid, m: Medium) {
-        put_lines(page, n, grid, m);
-    }
-}
-
-impl Text for ClassText {
-    ghost text = { class_text };
-
-    ghost room = { class_text_roomy };
-
-    fn put(page: &mut Page<'_>, n: u64, grid: &Grid, m: Medium) {
-        put_classes(page, grid, m);
+        let nodes = [
+            grid.roots.links.len() as u64,
+            grid.upper.links.len() as u64 / 32768,
+            grid.lower.links.len() as u64 / 4096,
+            grid.leaf_values.len() as u64 / 512,
+        ];
+        put_line(page, b"grid", &[n]);
+        put_line(page, b"nodes", &nodes);
+        put_box(page, m);
+        put_back(page, grid.background);
+        put_roots(page, grid);
     }
 }
 

@@ -16,7 +16,7 @@ use refusals::Refusal;
 use sparse_grid::Grid;
 use text::Page;
 
-// ---- a blank, and what stands behind it
+// ---- a blank, and what stands behind it: three of two lines each, which a function over a closure would not shorten
 
 fn put_number(page: &mut Page<'_>, n: u64)
     ensures { Writes page.old (number n) page.new }
