@@ -46,7 +46,7 @@ fn bound_at(bytes: &[u8], at: usize) -> f32
     float::narrow(f64::at(bytes, at))
 }
 
-// Three of them in a row.
+// Three of them in a row. This and the next two differ in the type and in how far apart the three stand; a line for each is no longer than a trait.
 fn bounds_at(bytes: &[u8], at: usize) -> [f32; 3]
     requires { at < 2 ^ 63 }
     ensures { let b = bytes.now in
