@@ -5,18 +5,14 @@ ghost use Rattle.float.specs.Fused.{narrow as narrow_s};
 ghost use Rattle.layout.specs.Bytes.{i32_at, f32_at, f64_at};
 ghost use Rattle.medium.specs.Record.{point_of, coord_of, nine_of, as_medium};
 ghost use Rattle.decode.specs.Inner.World.{SameWorld};
-ghost use Rattle.nanovdb.specs.Decode.{mark_passes, header_passes, bound_at, medium_at, bytes_fault};
+ghost use Rattle.nanovdb.specs.Decode.{header_passes, bound_at, medium_at, bytes_fault};
 
 use layout::Field;
 use medium::Medium;
 use refusals::Refusal;
 
-// "NanoVDB0" or "NanoVDB1". Not the test of `contents`: a segment of a file may begin with "NanoVDB2" and not with "NanoVDB1".
-fn mark_passes(mark: u64) -> bool
-    ensures { result ≡ mark_passes mark }
-{
-    mark == 0x304244566f6e614e || mark == 0x314244566f6e614e
-}
+// "NanoVDB1", the newer mark of a grid. A segment of a file has another.
+const NEWER: u64 = 0x314244566f6e614e;
 
 // Unknown or fog volume.
 fn class_passes(class: u32) -> bool
@@ -30,7 +26,7 @@ fn header_passes(bytes: &[u8]) -> bool
     ensures { result ≡ header_passes bytes.now }
 {
     let count = u32::at(bytes, 28);
-    mark_passes(u64::at(bytes, 0))
+    layout::mark_passes(u64::at(bytes, 0), NEWER)
         && u32::at(bytes, 16) / 2097152 == 32
         && u64::at(bytes, 32) == bytes.len() as u64
         && u32::at(bytes, 636) == 1
@@ -46,7 +42,7 @@ fn bound_at(bytes: &[u8], at: usize) -> f32
     float::narrow(f64::at(bytes, at))
 }
 
-// Three of them in a row.
+// Three of them in a row. This and the next two differ in the type and in how far apart the three stand; a line for each is no longer than a trait.
 fn bounds_at(bytes: &[u8], at: usize) -> [f32; 3]
     requires { at < 2 ^ 63 }
     ensures { let b = bytes.now in

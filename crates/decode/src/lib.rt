@@ -21,7 +21,7 @@ use medium::Medium;
 use refusals::Refusal;
 pub use tables::Tables;
 
-// How many roots and nodes are used, the background and the medium.
+// How many roots and nodes are used, the background and the medium. Counts of tables that the caller lends and keeps, as C asks for them.
 #[derive(Clone, Copy)]
 pub struct Decoded {
     pub roots: usize,
@@ -32,7 +32,8 @@ pub struct Decoded {
     pub medium: Medium,
 }
 
-// Everything but 15: a grid whose values may be negative.
+// Everything but 15: a grid whose values may be negative. It and the next differ in the call that reads: a function over that call would need the
+// promise of the read, and of what it leaves, as a parameter of the proof, which is no plainer than three lines twice.
 pub fn decode_scalar_grid(bytes: &[u8], tables: &mut Tables<'_>) -> Result<Decoded, Refusal>
     ensures answer { let l = lengths (as_tables tables.old) in answer result ≡ answer_of (decode_into decode_scalar bytes.now l) }
     ensures tables { let l = lengths (as_tables tables.old) in as_tables tables.new ≡ left_of l (decode_into decode_scalar bytes.now l) }

@@ -19,7 +19,8 @@ use crate::{Tables, spans, values};
 use layout::Field;
 use refusals::Refusal;
 
-// How far the reader has come: the spans that it has claimed, and how many nodes of each kind it has numbered.
+// How far the reader has come: the spans that it has claimed, and how many nodes of each kind it has numbered. Counts beside the tables: these are
+// lent and full of zeros, and nothing is allocated, so no list can grow.
 #[derive(Clone, Copy)]
 pub struct State {
     pub spans: Spans,

@@ -20,7 +20,7 @@ fn key_passes(key: u64) -> bool
     key < 4611686018427387904 && key / 1048576 % 2 == 0 && key / 2199023255552 % 2 == 0
 }
 
-// A field of 20 bits, with its sign.
+// A field of 20 bits, with its sign. By hand: std has no number of 20 bits, and a shift up and down again is no plainer.
 fn key_field(bits: u64) -> i32
     requires { bits < 1048576 }
     ensures { result ≡ signed 20 bits }

@@ -12,7 +12,7 @@ use crate::{Tables, spans, tiles};
 use layout::Field;
 use refusals::Refusal;
 
-// Where the root stands, how many tiles it has, and how many nodes were reached.
+// Where the root stands, how many tiles it has, and how many nodes were reached: counts of lent tables, as in `State`.
 #[derive(Clone, Copy)]
 pub struct Tree {
     pub root: usize,

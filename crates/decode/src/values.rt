@@ -12,7 +12,7 @@ fn value_at(bytes: &[u8], at: usize) -> f32
     float::float_of(u32::from_le_bytes(four))
 }
 
-// The values of the leaf at source, behind those of the leaves before it.
+// The values of the leaf at source, behind those of the leaves before it. Apart from `run`: a value stands every 4 bytes here, and every 8 there.
 pub(crate) fn leaf(bytes: &[u8], source: usize, leaves: &mut [f32], base: usize)
     requires { (source + 2144 ≤ length bytes.now) × (base + 512 ≤ length leaves.old) }
     ensures { Stored (leaf_value bytes.now source) base 0 leaves.old 512 leaves.new }

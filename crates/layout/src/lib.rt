@@ -24,7 +24,7 @@ pub fn inside(n: usize, at: usize, width: usize) -> bool
 fn rest(b: &[u8], at: usize) -> &[u8]
     ensures { (i : ℕ) → slice_index result.now i ≡ get_or b.now (at + i) 0 }
 {
-    if at < b.len() { &b[at..] } else { &[] }
+    b.get(at..).unwrap_or(&[])
 }
 
 // The first N bytes, and zeros where there are fewer. Out of line: a field that lies inside is then a test and a load.

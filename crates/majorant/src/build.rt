@@ -82,7 +82,7 @@ fn cell_figure(grid: &Grid, x: Sides, y: Sides, z: Sides) -> Result<f32, Refusal
     box_figure(grid, x?, y?, z?)
 }
 
-// The ends of the n cells of an axis; past them nothing that is read.
+// The ends of the n cells of an axis; past them nothing that is read. An array of 128, the most that n can be: nothing is allocated.
 fn axis_table(line: Line, n: u32) -> [Sides; 128]
     requires { n ≤ 128 }
     ensures long { length result ≡ 128 }

@@ -25,7 +25,7 @@ fn class_of(limits: &[f32], v: f32) -> usize
     limits.len()
 }
 
-// How many coordinates so far hold a value of each class.
+// How many coordinates so far hold a value of each class. An array of 17, though fewer may be used: nothing is allocated, and C takes 17.
 #[derive(Clone, Copy)]
 pub(crate) struct Classes<'a> {
     pub limits: &'a [f32],

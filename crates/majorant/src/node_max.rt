@@ -23,7 +23,7 @@ pub(crate) fn greater(a: f32, b: f32) -> f32
     if a < b { b } else { a }
 }
 
-// What counts the reads of a walk.
+// What counts the reads of a walk. Upper and lower nodes apart, as the two counts are: one function of both would ask each time which it is.
 pub(crate) trait Count {
     // From the one to the other so much was read.
     ghost More: { Reads → Self → Self → Type 0 };

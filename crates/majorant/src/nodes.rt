@@ -51,7 +51,8 @@ pub(crate) trait Cells: Table {
 }
 
 // The loops over the cells of a part, along z, y and x: with `for` over the cells' numbers a maximum of one voxel took 1.7 times as long. They and each
-// `row` are compiled into their callers: as calls they took six in a hundred more instructions.
+// `row` are compiled into their callers: as calls they took six in a hundred more instructions. Three, since along each axis something else stands
+// below, a cell, a row or a plane: to say that once takes a trait with three impls.
 #[inline(always)]
 fn row_cells<N: Cells, G: Gather>(node: &N, part: Part, gathered: &mut G)
     requires { N.Whole node.now × Within N.SIDE N.SIDE N.OWN part × G.Fit gathered.old (zone_of part) }

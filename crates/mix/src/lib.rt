@@ -40,7 +40,7 @@ pub fn density_at(grid: &Grid, m: &Medium, point: [f32; 3]) -> Result<f32, Refus
 }
 
 // A density for each point of a list, three numbers a point. The grid and the medium are tested once. After a refusal, that of the first
-// point that has one, the densities are zero. Numbers in a row, as C holds points: 18 is of their count, which a list of triples would leave out.
+// point that has one, the densities are zero. Numbers in a row: 18 is of their count, which a list of triples would leave out.
 #[tactic(auto, using(crate::proofs::Laws::number_said, crate::proofs::Laws::zeros_said, crate::proofs::Laws::values_said))]
 pub fn densities_into(
     grid: &Grid,

@@ -102,7 +102,7 @@ impl Ray {
 
 // The pieces of a whole ray, and how many there are: where each ends, and its figure. Each begins where the one before ended, and the
 // first at t_min. 9 where a table is too short. After a refusal both tables are zero, and past the last piece they are zero as well.
-// Two tables and a count: the specs' `Written` is of two lists, whose lengths need not agree.
+// Two tables and a count: the public name stands, and 9 is of either table, whose lengths need not agree.
 pub fn trace(
     m: Medium,
     beam: Beam,

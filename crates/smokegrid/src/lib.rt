@@ -1,4 +1,5 @@
-// The functions of the C interface (include/smokegrid.h), which `smokegrid_c` exports. Each may be called with anything.
+// The functions of the C interface (include/smokegrid.h), which `smokegrid_c` exports. Each may be called with anything. That interface is fixed, and
+// knows numbers and arrays alone: so a refusal is answered by its number, a record comes as a flat array, and the tables of a grid as eight slices.
 #![tactic(auto)]
 
 ghost use Rattle.std.specs.Prelude.{◌≡◌, length};

@@ -1,4 +1,5 @@
-// The tables that C lends, slice by slice: the three functions that write them, over the struct that the crates below take.
+// The tables that C lends, slice by slice: the three functions that write them, over the struct that the crates below take. Each makes the struct for
+// itself: its slices share one lifetime, while those of C's functions have one each, and a struct made in a function of its own is no shorter to take.
 ghost use Rattle.std.specs.Prelude.{◌≡◌};
 ghost use Rattle.nanovdb.specs.Decode.{decode_density};
 ghost use Rattle.nanovdb.specs.Lent.{tables, lengths, zeros, decode_into, answer_of, left_of};

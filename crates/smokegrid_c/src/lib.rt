@@ -1,5 +1,7 @@
 // The C interface (include/smokegrid.h): each function of the library `smokegrid`, with its promise, under the same name for C. A slice passes as a
 // pointer and a length, a `&mut f32` as a pointer; each function may be called with anything.
+// Numbers, flat arrays and slices, as in `smokegrid`, since the header is fixed. Each function stands a second time because a crate is a library or a
+// static library, and the claim is about the library.
 #![tactic(auto)]
 
 ghost use Rattle.std.specs.Prelude.{◌≡◌, length};

@@ -71,7 +71,7 @@ fn at_value(value: f32, level: Level) -> Result<Spot, Refusal>
 }
 
 impl PairedGrid<'_> {
-    // The first root that has this block.
+    // The first root that has this block. The list is lent as it stands and nothing is allocated, so it is searched and no map is made of it.
     #[tactic(auto, using(crate::proofs::Nodes::hit, crate::proofs::Nodes::miss, crate::proofs::Nodes::none))]
     fn root_of(&self, block: Coordinate) -> Option<usize>
         ensures { let g = as_grid self.now.grid in

@@ -41,7 +41,8 @@ fn check_heat(t: Temperature) -> Result<(), Refusal>
     }
 }
 
-// What an accepted load answers: the decode's counts and background. Its medium goes no further.
+// What an accepted load answers: the decode's counts and background. Field by field: the medium, which `Decoded`
+// holds too, goes no further.
 fn accepted(d: Decoded, temperature: Temperature) -> Loaded
     ensures { as_loaded result ≡ loaded_by (as_temperature temperature) (counts d) }
 {
