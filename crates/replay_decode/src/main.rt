@@ -22,8 +22,8 @@ use layout::Coordinate;
 use majorant::build_majorant;
 use medium::Medium;
 use refusals::{Refusal, fault};
-use sparse_grid::Grid;
 use replay::{Placed, Word, fill, first, read_cases, read_placed, read_word, report};
+use sparse_grid::Grid;
 use std::io;
 use std::io::Read;
 
