@@ -1,2 +1,3 @@
 -- Laws of the header.
 pub mod Faults
+pub mod Media

@@ -1,6 +1,6 @@
 // The roots of a grid in order: a part of a box is walked in the block of each that it meets.
 // Coordinates are biased: a coordinate plus 2^31, so that blocks and slots are plain quotients and remainders.
-ghost use Rattle.std.specs.Prelude.{◌≡◌, ◌+◌, ◌*◌, ◌<◌, ◌||◌, true, length, MatchOption};
+ghost use Rattle.std.specs.Prelude.{◌≡◌, ◌+◌, ◌*◌, ◌<◌, ◌||◌, false, not, length};
 ghost use Rattle.sparse_grid.specs.Record.{as_grid};
 ghost use Rattle.sparse_grid.specs.Biased.{raised};
 ghost use Rattle.sparse_grid.specs.Sound.{Sound};
@@ -64,37 +64,57 @@ fn clip(block: i32, span: Span) -> Span
     }
 }
 
-// The part in the block of root i, if it meets that.
+// Whether the block of root i has some place of the part.
 #[inline(always)]
-fn clipped(grid: &Grid, i: usize, of: Part) -> Option<Part>
+fn is_met(grid: &Grid, i: usize, of: Part) -> bool
     requires { Rooted (as_grid grid.now) i × Full of.x of.y of.z }
-    ensures { MatchOption result (misses (as_grid grid.now) i of ≡ true) (Clips (as_grid grid.now) i of) }
+    ensures { misses (as_grid grid.now) i of ≡ not result }
 {
     if is_apart(grid.blocks[3 * i], of.x)
         || is_apart(grid.blocks[3 * i + 1], of.y)
         || is_apart(grid.blocks[3 * i + 2], of.z)
     {
-        return None;
+        return false;
     }
-    Some(Part {
+    true
+}
+
+// The part in the block of root i, which meets it.
+#[inline(always)]
+fn clipped(grid: &Grid, i: usize, of: Part) -> Part
+    requires { Rooted (as_grid grid.now) i × Full of.x of.y of.z × (misses (as_grid grid.now) i of ≡ false) }
+    ensures { Clips (as_grid grid.now) i of result }
+{
+    Part {
         x: clip(grid.blocks[3 * i], of.x),
         y: clip(grid.blocks[3 * i + 1], of.y),
         z: clip(grid.blocks[3 * i + 2], of.z),
-    })
+    }
 }
 
-// A part in one block, below the entry of its root.
+// What is below the entry of root i in the part in its block, and that part. Each arm clips by itself: of a tile the maximum does not ask where it
+// stands, and a box over many tiles takes a third longer where that is worked out first.
 #[inline(always)]
-fn walk_below<G: Gather>(grid: &Grid, entry: Entry, part: Part, gathered: &mut G)
-    requires { let g = as_grid grid.now in
-        child_in entry (length g.upper_links) × Linked g.upper_links g.upper_values g.lower_links g.lower_values g.leaf_values
-        × Within 4096 4096 4096 part × G.Fit gathered.old (zone_of part) }
-    ensures { let g = as_grid grid.now in
-        G.Done (below g entry) (zone_of part) (reads_below g entry (zone_of part)) gathered.old gathered.new }
+fn walk_below<G: Gather>(grid: &Grid, entry: Entry, i: usize, of: Part, gathered: &mut G) -> Part
+    requires linked { let g = as_grid grid.now in
+        child_in entry (length g.upper_links) × Linked g.upper_links g.upper_values g.lower_links g.lower_values g.leaf_values }
+    requires met { Rooted (as_grid grid.now) i × Full of.x of.y of.z × (misses (as_grid grid.now) i of ≡ false) }
+    requires fit { (c : Part) → Clips (as_grid grid.now) i of c → Within 4096 4096 4096 c × G.Fit gathered.old (zone_of c) }
+    ensures part { Clips (as_grid grid.now) i of result }
+    ensures done { let g = as_grid grid.now in
+        G.Done (below g entry) (zone_of result) (reads_below g entry (zone_of result)) gathered.old gathered.new }
 {
     match entry {
-        Entry::Child(k) => all(&Upper { grid, k }, part, gathered),
-        Entry::Tile(value) => gathered.tile(part, value),
+        Entry::Child(k) => {
+            let part = clipped(grid, i, of);
+            all(&Upper { grid, k }, part, gathered);
+            part
+        }
+        Entry::Tile(value) => {
+            let part = clipped(grid, i, of);
+            gathered.tile(part, value);
+            part
+        }
     }
 }
 
@@ -106,10 +126,10 @@ fn walk_root<G: Gather>(grid: &Grid, i: usize, of: Part, covered: u64, gathered:
     ensures { (s : G) → G.After (as_grid grid.now) of i s gathered.old covered
         → G.After (as_grid grid.now) of (i + 1) s gathered.new result }
 {
-    let Some(part) = clipped(grid, i, of) else {
+    if !is_met(grid, i, of) {
         return covered;
-    };
-    walk_below(grid, entry(grid.roots, i), part, gathered);
+    }
+    let part = walk_below(grid, entry(grid.roots, i), i, of, gathered);
     covered + gathered.weigh(part)
 }
 

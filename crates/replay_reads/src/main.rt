@@ -1,12 +1,11 @@
 // Runs the fields, the reads and the mask bits at every boundary of their bytes and compares each answer with the value listed here:
 // no bytes, one byte short, just enough, one byte more, and places near 2^64, where place and width pass 2^64.
-// A field past the end counts its missing bytes as 0; a read of one is refused.
+// A field past the end counts its missing bytes as 0; a read of one is refused with 5.
 #![tactic(auto)]
 
 ghost use Rattle.std.specs.Prelude.{◌≡◌};
 
 use layout::Field;
-use refusals::Refusal;
 use replay::{first, report};
 use std::io;
 
@@ -43,7 +42,7 @@ fn try_fields<T: Field, V: Copy + PartialEq, F: Fn(T) -> V>(
         tally.count(value_of(T::at(b, *at)) == *value);
         match layout::read::<T>(b, *at) {
             Ok(v) => tally.count(*inside && value_of(v) == *value),
-            Err(e) => tally.count(!*inside && e == Refusal::PastEnd),
+            Err(e) => tally.count(!*inside && e.number() == 5),
         }
     }
 }

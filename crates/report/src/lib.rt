@@ -1,12 +1,14 @@
 // The text that says what a grid holds, or why it was refused (document 01, `gridreport`), and that of its classes (document 02, A9, `gridclasses`).
 #![tactic(auto)]
 
-ghost use Rattle.std.specs.Prelude.{◌≡◌, ◌++◌, ◌≤◌, min, length, take, drop};
+ghost use Rattle.std.specs.Prelude.{◌≡◌, ◌++◌, ◌≤◌, min, length, take, drop, true};
 ghost use Rattle.sparse_grid.specs.Record.{as_grid};
+ghost use Rattle.sparse_grid.specs.Sound.{Paired};
 ghost use Rattle.sparse_grid.specs.Validate.{validate};
 ghost use Rattle.medium.specs.Record.{as_medium};
 ghost use Rattle.text.specs.Written.{Writes};
-ghost use Rattle.report.specs.Report.{Says, printed_of, grid_text};
+ghost use Rattle.report.specs.Report.{Says, printed_of, grid_text, report_of};
+ghost use Rattle.report.specs.ClassReport.{class_report_of};
 ghost use Rattle.report.specs.Inner.{accepted};
 ghost use Rattle.report.specs.Room.{Roomy, grid_text_room};
 
@@ -28,9 +30,9 @@ pub trait Text {
 
     ghost room: { Roomy text };
 
+    // The text of a grid that is valid, as each is that was decoded.
     fn put(page: &mut Page<'_>, n: u64, grid: &Grid, m: Medium)
-        requires { validate (as_grid grid.now) ≡ 0 }
-        ensures { Writes page.old (text n (accepted (as_grid grid.now) (as_medium m))) page.new };
+        ensures { validate (as_grid grid.now) ≡ 0 → Writes page.old (text n (accepted (as_grid grid.now) (as_medium m))) page.new };
 }
 
 // What a grid holds.
@@ -38,6 +40,16 @@ pub struct GridText {}
 
 // The coordinates of its index box by class of density.
 pub struct ClassText {}
+
+fn are_paired(grid: &Grid) -> bool
+    ensures paired { result ≡ true → Paired (as_grid grid.now) }
+    ensures all { Paired (as_grid grid.now) → result ≡ true }
+{
+    grid.roots.links.len() == grid.roots.values.len()
+        && grid.blocks.len() == 3 * grid.roots.links.len()
+        && grid.upper.links.len() == grid.upper.values.len()
+        && grid.lower.links.len() == grid.lower.values.len()
+}
 
 impl Text for GridText {
     ghost text = { grid_text };
@@ -55,7 +67,9 @@ impl Text for GridText {
         put_line(page, b"nodes", &nodes);
         put_box(page, m);
         put_back(page, grid.background);
-        put_roots(page, grid);
+        if are_paired(grid) {
+            put_roots(page, grid);
+        }
     }
 }
 
@@ -100,4 +114,24 @@ pub fn printed<T: Text>(bytes: &[u8], out: &mut [u8]) -> usize
     let mut page = Page { bytes: out, at: 0 };
     put_printed::<T>(&mut page, bytes);
     page.at
+}
+
+// Document 01's text, as `gridreport` prints it.
+pub fn report(bytes: &[u8], out: &mut [u8]) -> usize
+    ensures value { result ≡ min (length (report_of bytes.now)) (length out.old) }
+    ensures out_after { let text = report_of bytes.now in
+        out.new ≡ take (length out.old) text ++ drop (length text) out.old }
+    ensures bytes_len_bound { length (report_of bytes.now) ≤ 65536 }
+{
+    printed::<GridText>(bytes, out)
+}
+
+// The text of the classes, as `gridclasses` prints it.
+pub fn class_report(bytes: &[u8], out: &mut [u8]) -> usize
+    ensures value { result ≡ min (length (class_report_of bytes.now)) (length out.old) }
+    ensures out_after { let text = class_report_of bytes.now in
+        out.new ≡ take (length out.old) text ++ drop (length text) out.old }
+    ensures bytes_len_bound { length (class_report_of bytes.now) ≤ 65536 }
+{
+    printed::<ClassText>(bytes, out)
 }

@@ -13,6 +13,7 @@ mod place;
 mod roots;
 
 pub use grid::{Entries, Grid};
+pub use lookup::{Reading, Spot};
 
 // What stands at a slot of a node or beside a root's block: the number of a child, or a value for every coordinate below it.
 #[derive(Clone, Copy, Debug, PartialEq)]

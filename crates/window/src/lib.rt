@@ -136,7 +136,10 @@ fn store(memory: &mut [f32], at: usize, table: &[f32])
     requires { at + length table.now ≤ length memory.old }
     ensures { memory.new ≡ paste memory.old at table.now (length table.now) }
 {
-    memory[at..at + table.len()].copy_from_slice(table);
+    // `copy_from_slice` would be a call of memmove, which the library for C needs for nothing else.
+    for i in 0..table.len() {
+        memory[at + i] = table[i];
+    }
 }
 
 // For each cell the greater of the two figures.

@@ -21,19 +21,12 @@ returns-then-bytes-gt-MOST-clause-room g c = long_fits g.T.Text.text c.args.byte
 
 -- ---- a grid
 
-pub put-requires : goal.put-requires
-put-requires g c =
-    let e = c.in-Ok.ensures in
-    let left : Left c.args.bytes.now (counts c.in-Ok.d) (as_tables c.decode_density_grid.new.tables) =
-    record { answer = e.answer; tables = e.tables; lengths = e.lengths } in
-    grid_valid left refl c.used.ensures
-
 pub returns-in-Ok-clause-text : goal.returns-in-Ok-clause-text
 returns-in-Ok-clause-text g c =
     let e = c.in-Ok.ensures in
     let left : Left c.args.bytes.now (counts c.in-Ok.d) (as_tables c.decode_density_grid.new.tables) =
     record { answer = e.answer; tables = e.tables; lengths = e.lengths } in
-    as_text c.put.ensures (grid_printed left g.T.Text.text refl c.used.ensures c.if-bytes-gt-MOST.false)
+    as_text (c.put.ensures (grid_valid left refl c.used.ensures)) (grid_printed left g.T.Text.text refl c.used.ensures c.if-bytes-gt-MOST.false)
 
 pub returns-in-Ok-clause-room : goal.returns-in-Ok-clause-room
 returns-in-Ok-clause-room g c =

@@ -16,14 +16,14 @@ put_counts-requires c =
 
 pub returns-in-Ok : goal.returns-in-Ok
 unfolding counts_in
-returns-in-Ok c =
+returns-in-Ok c valid =
     let a = c.args in
     let counted = c.in-Ok.ensures ∙ ap (public_counts (as_grid a.grid.now) limits) c.index_box.ensures in
-    as_text c.put_counts.ensures (ap counts_in counted ∙ classes_text a.n (as_grid a.grid.now) (as_medium a.m) c.requires)
+    as_text c.put_counts.ensures (ap counts_in counted ∙ classes_text a.n (as_grid a.grid.now) (as_medium a.m) valid)
 
 pub returns-in-Err : goal.returns-in-Err
 unfolding counts_in
-returns-in-Err c =
+returns-in-Err c valid =
     let a = c.args in
     let counted = c.in-Err.ensures ∙ ap (public_counts (as_grid a.grid.now) limits) c.index_box.ensures in
-    as_text c.put_refused.ensures.text (ap counts_in counted ∙ classes_text a.n (as_grid a.grid.now) (as_medium a.m) c.requires)
+    as_text c.put_refused.ensures.text (ap counts_in counted ∙ classes_text a.n (as_grid a.grid.now) (as_medium a.m) valid)
