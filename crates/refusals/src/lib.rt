@@ -56,3 +56,17 @@ pub fn fault(test: Result<(), Refusal>) -> u32
         Err(e) => e.number(),
     }
 }
+
+// The first of two faults, of which 0 is none: a public name, though `?` over results says it here.
+pub fn first_fault(a: u32, b: u32) -> u32
+    ensures { result ≡ (a then b) }
+{
+    if a == 0 { b } else { a }
+}
+
+// A public name too, for what `&&` says.
+pub fn both(a: bool, b: bool) -> bool
+    ensures { result ≡ (a && b) }
+{
+    if a { b } else { false }
+}
