@@ -1,3 +1,2 @@
-pub mod Told
 pub mod Alone
 pub mod Examples

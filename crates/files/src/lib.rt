@@ -13,6 +13,7 @@ use decode::{Decoded, Tables, decode_density_grid};
 use refusals::Refusal;
 
 // Grid n of a file, as `decode_density_grid` decodes the same bytes alone. Where the file is refused the tables are set to zeros.
+#[tactic(auto, unfolding(crate::specs::OfFile::decode_part))]
 pub fn decode_grid_of_file(
     file: &[u8],
     n: usize,

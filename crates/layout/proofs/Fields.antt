@@ -49,3 +49,9 @@ copied_eight = copied w64 8 array_eight
 -- a number's bits read with their sign
 pub signed_same : (w : Width) {z : ℤ} {n m : ℕ} → hbits w ≡ bits w - 1 → n < 2 ^ bits w → z ≡ to_z w n → n ≡ m → to_z w (of_z w z) ≡ signed (bits w) m
 signed_same w {n = n} e h f g = ap (λ z. to_z w (of_z w z)) f ∙ ap (to_z w) (of_z-to_z w n h) ∙ signed_to_z w n e ∙ ap (signed (bits w)) g
+
+pub signed_four : (n : ℕ) → n < 2 ^ 32 → to_z w32 (of_z w32 (to_z w32 n)) ≡ signed 32 n
+signed_four n h = signed_same w32 refl h refl refl
+
+pub signed_eight : (n : ℕ) → n < 2 ^ 64 → to_z w64 (of_z w64 (to_z w64 n)) ≡ signed 64 n
+signed_eight n h = signed_same w64 refl h refl refl

@@ -110,6 +110,7 @@ impl Field for i32 {
 
     const WIDTH: usize = 4;
 
+    #[tactic(auto, using(crate::proofs::Fields::signed_four))]
     fn at(b: &[u8], at: usize) -> i32 {
         u32::at(b, at).cast_signed()
     }
@@ -122,6 +123,7 @@ impl Field for i64 {
 
     const WIDTH: usize = 8;
 
+    #[tactic(auto, using(crate::proofs::Fields::signed_eight))]
     fn at(b: &[u8], at: usize) -> i64 {
         u64::at(b, at).cast_signed()
     }

@@ -1,7 +1,7 @@
 -- The text of the classes, from what a count answers. Assumes nothing.
 use mathlib.Core.Path.{◌≡◌, refl, sym, ap, ◌∙◌}
 use mathlib.Core.Bool.{Bool, cond}
-use mathlib.Core.List.{List}
+use mathlib.Core.List.{List, ◌++◌}
 use Prim.Native.Nat.{ℕ, zero, suc, ◌+◌, ◌^◌, ◌<◌}
 use native.Mathlib.Numerals.{add-one}
 use native.Mathlib.Omega.{arith}
@@ -34,10 +34,11 @@ unfolding sum
 three_sum f = omega arith
 
 -- one class more
-pub class_more : {p q r : Page} (count : ℕ → ℕ) (k : ℕ) → Writes p (class_lines count k) q → Writes q (class_line k (count k)) r
+pub class_more : {p q r : Page} (count : ℕ → ℕ) (k i : ℕ) → i ≡ k → Writes p (class_lines count k) q → Writes q (class_line k (count i)) r
     → Writes p (class_lines count (k + 1)) r
 unfolding class_lines
-class_more count k a b = as_text (a after b) (ap (class_lines count) (sym (add-one k)))
+class_more count k i e a b =
+    as_text (a after b) (ap (λ (n : ℕ). class_lines count k ++ class_line k (count n)) e ∙ ap (class_lines count) (sym (add-one k)))
 
 -- the lines of three counts, and their total
 pub three_lines : {p q r : Page} (count : ℕ → ℕ) (k : ℕ) → k ≡ 3 → Writes p (class_lines count k) q

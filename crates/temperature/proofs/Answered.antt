@@ -36,11 +36,6 @@ module _ (b : List ℕ) (t : Temperature) (l : Lent) {a : Lent.Answer} (is : a �
       zeroed (ok x) h = absurd (h refl)
       zeroed (refused k) h = refl
 
-  -- 27 after it
-  pub heat_refuses : {n : ℕ} {u : Tables} → a.number ≡ 0 → n ≡ heat_fault t → (n ≡ 0 → ⊥) → u ≡ zeros l → Refuses b t l n u
-  heat_refuses z e off =
-      refuses (e ∙ sym (then_next (answer_of read).number (heat_fault t) (sym (ap (λ (x : Lent.Answer). x.number) is) ∙ z))) off
-
   -- neither: what the decode answered and left
   pub load_accepts : {r : Loaded} {u : Tables} → a.number ≡ 0 → 0 ≡ heat_fault t → r ≡ loaded_by t a → u ≡ left_of l read
       → (r ≡ loaded_of t (load_into b t l)) × (u ≡ left_of l (load_into b t l))

@@ -9,7 +9,7 @@ use Rattle.std.specs.Float.Ieee.Scale.{finite}
 use Rattle.refusals.specs.Results.{Result, ok, refused, number_of, bind}
 use Rattle.refusals.specs.Faults.{◌then◌, unless, passing}
 use Rattle.refusals.specs.FaultLaws.{passing_ok}
-use Rattle.refusals.proofs.FaultSteps.{then_stop, passing_stop, passing_on}
+use Rattle.refusals.proofs.FaultSteps.{then_stop, then_next, passing_stop, passing_on}
 use Rattle.refusals.specs.ResultLaws.{bind_ok}
 use Rattle.layout.specs.Bytes.{Bytes}
 use Rattle.layout.specs.Coordinates.{Coord, Signed32}
@@ -41,6 +41,10 @@ module _ (b : List ℕ) (t : Temperature) (l : Lent) where
           → bind r (λ (a : Accepted). passing (heat_fault t) (ok a)) ≡ refused n
       go (ok a) h e = passing_stop (heat_fault t) (ok a) (λ z. off (e ∙ z)) ∙ ap (λ (k : ℕ). refused k) (sym e)
       go (refused k) h e = ap (λ (k : ℕ). refused k) (sym (e ∙ then_stop k (heat_fault t) (not_zero h)))
+
+  -- 27, where the decode passed
+  pub heat_stops : (answer_of decoded).number ≡ 0 → heat_fault t ≡ 27 → load_into b t l ≡ refused 27
+  heat_stops z e = load_stops 27 (sym (then_next (answer_of decoded).number (heat_fault t) z ∙ e)) (λ (h : 27 ≡ 0). omega arith)
 
   -- neither: what the decode gave
   pub load_goes : ((answer_of decoded).number then heat_fault t) ≡ 0 → (a : Accepted) × (decoded ≡ ok a) × (load_into b t l ≡ ok a)

@@ -57,6 +57,7 @@ fn accepted(d: Decoded, temperature: Temperature) -> Loaded
 }
 
 // A temperature grid into lent tables: `decode_scalar_grid`, and then 27, which leaves zeros in tables that were full.
+#[tactic(auto, using(crate::proofs::LoadLaws::heat_stops, refusals::proofs::Exits::number_some))]
 pub fn load_temperature(
     bytes: &[u8],
     offset: f32,

@@ -45,7 +45,8 @@ impl Page<'_> {
         }
     }
 
-    #[tactic(auto, using(crate::proofs::Printed::decimal_is))]
+    // The second law is of a digit put by itself, as an edit of this text has it.
+    #[tactic(auto, using(crate::proofs::Printed::decimal_is, crate::proofs::NumeralLaws::decimal_small))]
     pub fn put_decimal(&mut self, n: u64)
         ensures { Writes self.old (decimal n) self.new }
     {

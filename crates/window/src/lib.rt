@@ -221,6 +221,7 @@ fn raise_ring(answer: &mut [f32], memory: &[f32], w: usize, held: usize, next: u
 
 impl Window {
     // Takes the table into its place, and writes the answer of the tables that are held. A refused push changes nothing.
+    #[tactic(auto, using(crate::proofs::Whole::push_refused, refusals::proofs::Exits::number_some))]
     pub fn push(
         &mut self,
         n: Cells,

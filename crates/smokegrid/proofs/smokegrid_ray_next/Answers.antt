@@ -1,6 +1,6 @@
 -- 18 for another length, and otherwise the step: a piece, the ray's end, or a refusal.
 use Rattle.std.specs.Prelude.{Ok}
-use Rattle.std.proofs.Common.{refl, sym, ap, ◌∙◌}
+use Rattle.std.proofs.Common.{rules, refl, sym, ap, ◌∙◌}
 use lib.Ieee.{binary32}
 use Rattle.float.proofs.Literal.{zero_literal}
 use Rattle.rays.specs.Ray.{next}
@@ -52,7 +52,7 @@ returns-in-Err c =
     let a = c.args in
     let z = zero_literal binary32 in
     let after : After a.majorants.now a.ray_times.now a.ray_cells.now _ _ _ =
-    record { number = c.number-in-Err.ensures; times = c.zero-in-Err.ensures; numbers = c.zero-in-Err-2.ensures; more = refl; from = z; to = z; figure = z } in
+    record { number = c.number-in-Err.ensures; times = c.zero-in-Err.ensures; numbers = search rules; more = refl; from = z; to = z; figure = z } in
     next_out a.majorants.now a.ray_times.now a.ray_cells.now
     (c.in-Err.ensures ∙ ap (λ s. next s a.majorants.now) c.ray_from-ray.ensures
     ∙ next_goes a.majorants.now a.ray_times.now a.ray_cells.now (sym c.is_ray.ensures ∙ c.if-not-is_ray.false)) after

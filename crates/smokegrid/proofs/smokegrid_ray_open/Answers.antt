@@ -1,5 +1,5 @@
 -- 18 for another length, and otherwise the opened ray.
-use Rattle.std.proofs.Common.{refl, sym, ap, ◌∙◌, length}
+use Rattle.std.proofs.Common.{rules, refl, sym, ap, ◌∙◌, length}
 use Rattle.medium.specs.Record.{as_medium}
 use Rattle.rays.specs.Open.{open_ray}
 use Rattle.smokegrid.specs.FlatRay.{beam}
@@ -37,4 +37,4 @@ returns-in-Err c =
     open_out a.medium.now a.cells.now b places (length a.ray_times.now) (length a.ray_cells.now)
     (c.in-Err.ensures ∙ ap (λ m. open_ray m b places) c.medium_from-m.ensures
     ∙ open_goes a.medium.now a.cells.now b places _ _ (sym c.can_open-fits.ensures ∙ c.if-not-fits.false))
-    c.number-in-Err.ensures c.zero.ensures c.zero-2.ensures
+    c.number-in-Err.ensures c.zero.ensures (search rules)

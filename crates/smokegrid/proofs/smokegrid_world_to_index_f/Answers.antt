@@ -1,5 +1,5 @@
 -- 18 for another length, and otherwise the position of the medium that was read.
-use Rattle.std.proofs.Common.{refl, sym, ap, ◌∙◌, length}
+use Rattle.std.proofs.Common.{rules, refl, sym, ap, ◌∙◌, length}
 use Rattle.medium.specs.Medium.{Point}
 use Rattle.index.specs.Answers.{index_bits}
 use Rattle.smokegrid.proofs.Flats.{index_stops, index_goes, index_out}
@@ -17,7 +17,7 @@ returns-in-Ok c =
     let p : Point = record { x = a.x; y = a.y; z = a.z } in
     let read = ap (λ m. index_bits m p) c.medium_from.ensures in
     index_out a.medium.now p (length a.index_bits.now)
-    (c.in-Ok.ensures ∙ read ∙ index_goes a.medium.now p _ (sym c.are_long-fits.ensures ∙ c.if-not-fits.false)) refl c.copy_from_slice.ensures.after
+    (c.in-Ok.ensures ∙ read ∙ index_goes a.medium.now p _ (sym c.are_long-fits.ensures ∙ c.if-not-fits.false)) refl (search rules)
 
 pub returns-in-Err : goal.returns-in-Err
 returns-in-Err c =

@@ -1,5 +1,5 @@
 -- The loop of `tiles` over one tile more, and its ways out. Assumes nothing.
-use Rattle.std.proofs.Common.{rules, refl, sym, subst, ◌∙◌}
+use Rattle.std.proofs.Common.{rules, refl, sym, subst, ◌∙◌, arith}
 use Rattle.refusals.proofs.Exits.{exit_is}
 use Rattle.decode.specs.Record.{as_tables}
 use Rattle.decode.specs.Inner.Filled.{nodes_of}
@@ -17,14 +17,14 @@ returns-in_err-now-clause-tiles c =
     let u = as_tables c.tile.new.tables in
     subst (TilesOut a.bytes.now a.root a.count (nodes_of t) (roots_of t) a.st (nodes_of u) (roots_of u))
     (sym (exit_is c.from_residual.result _ c.from_residual.ensures.1))
-    (tiles_stop c.loop-i.invariant.row c.loop-i-test.true c.in_err-now.ensures.tile)
+    (tiles_stop c.loop-i.invariant.row (omega arith) c.in_err-now.ensures.tile)
 
 pub loop-i-preserved : goal.loop-i-preserved
 loop-i-preserved c = record {
-  row = row_more c.loop-i.invariant.row c.loop-i-test.true c.in_ok-now.ensures.tile c.in_ok-now.ensures.lengths;
+  row = row_more c.loop-i.invariant.row (omega arith) c.in_ok-now.ensures.tile c.in_ok-now.ensures.lengths;
   lengths = c.in_ok-now.ensures.lengths ∙ c.loop-i.invariant.lengths;
   same = search rules;
 }
 
 pub returns-clause-tiles : goal.returns-clause-tiles
-returns-clause-tiles c = tiles_end c.loop-i.invariant.row c.loop-i-test.false
+returns-clause-tiles c = tiles_end c.loop-i.invariant.row (omega arith)

@@ -11,7 +11,7 @@ loop-k-init c = nothing c.args.page.now
 
 pub loop-k-preserved : goal.loop-k-preserved
 unfolding class_word class_line
-loop-k-preserved c = class_more (λ j. get_or c.args.counts j 0) c.loop-k.k c.loop-k.invariant c.put_line.ensures
+loop-k-preserved c = class_more (λ j. get_or c.args.counts j 0) c.loop-k.k _ (omega arith) c.loop-k.invariant c.put_line.ensures
 
 pub returns : goal.returns
 unfolding total_word total_line

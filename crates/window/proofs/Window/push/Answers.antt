@@ -1,16 +1,9 @@
--- A fault changes nothing; without one each part does its share.
-use Rattle.std.proofs.Common.{sym, ◌∙◌, arith}
-use Rattle.refusals.proofs.Exits.{number_some}
+-- Without a fault each part of a push does its share.
+use Rattle.std.proofs.Common.{sym, arith}
 use Rattle.cells.specs.Record.{as_cells}
 use Rattle.window.specs.Window.{state_of, table_of}
-use Rattle.window.proofs.Whole.{Parts, push_refused, next_in, place_fits, ring_fits, push_taken}
+use Rattle.window.proofs.Whole.{Parts, next_in, place_fits, ring_fits, push_taken}
 use Rattle.window.proofs.Window.push.Goals as goal
-
-pub returns-in_err-check_push-clause-state : goal.returns-in_err-check_push-clause-state
-returns-in_err-check_push-clause-state c =
-    let a = c.args in
-    push_refused (state_of a.self.now a.memory.now a.answer.now) (table_of (as_cells a.n) a.table.now)
-    (λ z. number_some _ (c.in_err-check_push.ensures ∙ z))
 
 pub overflow_mul-start : goal.overflow_mul-start
 overflow_mul-start c =

@@ -19,4 +19,4 @@ returns c = λ leaves d s.
     let P : Code.Grid → Type 0 = λ q.
     let g = with_leaves (as_grid q) leaves in found_by g c.spot.result d ≡ roots_from g (length g.root_links) 0 d in
     paired (as_grid c.args.self.now) leaves d c.in_ok-paired.ensures.fault
-    (subst P c.in_ok-paired.ensures.same (c.spot.ensures leaves d s))
+    (subst P c.in_ok-paired.ensures.same (c.spot.ensures leaves d (search (rules, s))))
