@@ -1,5 +1,5 @@
 -- One root more in the loop that counts classes, and what is left for the background at its end. Assumes nothing.
-use Rattle.std.proofs.Common.{◌≡◌, ℕ, suc, ◌+◌, ◌-◌, ◌/◌, ◌<◌, ◌≤◌, Bool, true, false, cond, eqb, List, length, get_or, sym, ap, ◌∙◌, subst, ⊎_elim, mul_comm, mul-le-mul, add-one, arith}
+use Rattle.std.proofs.Common.{◌≡◌, ℕ, suc, ◌+◌, ◌*◌, ◌-◌, ◌/◌, ◌<◌, ◌≤◌, Bool, true, false, cond, eqb, List, length, get_or, sym, ap, ◌∙◌, subst, ⊎_elim, mul_comm, mul-le-mul, add-one, arith}
 use lib.Ieee.{Float}
 use Rattle.sparse_grid.specs.declared.Entry.{Entry}
 use Rattle.sparse_grid.specs.Tables.{Grid, block_at, entry_at}
@@ -109,10 +109,11 @@ module _ {g : Grid} (s : Sound g) {ls : List Float} {x y z : Span} (few : Sides 
   rest_room all e k l =
       omega (arith, e, v.all, v.each k l, class_met g ls (length g.root_links) (zone_in x y z) k, places_are (zone_in x y z), places_few few, rest_fits all e)
 
-  pub gone_all : (after : List ℕ) (all : ℕ) → all ≡ volume (zone_in x y z) → Counts ls g.background (all - covered) counts after
+  pub gone_all : (after : List ℕ) (all n : ℕ) → n ≡ all - covered → all ≡ volume (zone_in x y z) → Counts ls g.background n counts after
       → (k : ℕ) → k < 17 → get_or after k 0 ≡ tally (is_class ls (read_at g) k) (zone_in x y z)
-  gone_all after all e c k l =
+  gone_all after all n d e c k l =
       c k l
+      ∙ ap (λ (m : ℕ). get_or counts k 0 + one * m) d
       ∙ (λ i. v.each k l i + mul_comm one (rest i) i)
       ∙ sym (roots_all g (zone_in x y z) (length g.root_links) (is_class ls (read_at g) k) one
       (λ X Y Z t h. ap (λ (w : Float). bit (eqb (class ls w) k)) (missed g s X Y Z h)))

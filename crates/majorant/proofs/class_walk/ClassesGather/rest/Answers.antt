@@ -1,5 +1,5 @@
 -- The rest of a box is the background's.
-use Rattle.std.proofs.Common.{◌≡◌, List, get_or, ◌∙◌, subst}
+use Rattle.std.proofs.Common.{◌≡◌, List, get_or, ◌∙◌, subst, arith}
 use lib.Ieee.{Float}
 use Rattle.sparse_grid.specs.Record.{as_grid}
 use Rattle.walk.specs.Gather.{tally}
@@ -13,7 +13,10 @@ pub overflow_sub-all : goal.overflow_sub-all
 overflow_sub-all c = let r = c.requires in rest_fits r.0 r.2 r.3.1.gone _ c.size-all.ensures
 
 pub add-requires : goal.add-requires
-add-requires c = let r = c.requires in let a = r.3.1 in (a.few, a.long, rest_room r.0 r.2 a.gone _ c.size-all.ensures)
+add-requires c =
+    let r = c.requires in
+    let a = r.3.1 in
+    let room = rest_room r.0 r.2 a.gone _ c.size-all.ensures in (a.few, a.long, λ k K. omega (arith, room k K))
 
 pub returns : goal.returns
 returns c s a =
@@ -21,5 +24,5 @@ returns c s a =
     let g = as_grid c.args.grid.now in (
       c.add.ensures.1 ∙ a.long,
       λ k K. subst (λ (m : List Float). get_or c.add.new.self.counts k 0 ≡ tally (is_class m (read_at g) k) (zone_of c.args.of)) a.limits
-          (gone_all r.0 r.2 a.gone c.add.new.self.counts _ c.size-all.ensures c.add.ensures.2 k K),
+          (gone_all r.0 r.2 a.gone c.add.new.self.counts _ _ (omega arith) c.size-all.ensures c.add.ensures.2 k K),
     )
