@@ -1,5 +1,5 @@
 -- Zeros, and the pieces of an opened ray over them.
-use Rattle.std.proofs.Common.{ℕ, length, refl, sym, ap, subst}
+use Rattle.std.proofs.Common.{rules, ℕ, length, refl, sym, ap, subst}
 use Rattle.std.specs.Prelude.{Result as Answer}
 use Rattle.refusals.specs.Results.{value_or, number_of}
 use Rattle.refusals.specs.Numbers.{said_by, fault_of}
@@ -44,6 +44,6 @@ returns-in-Err c =
     let whole = traced_opened m (as_beam c.args.beam) c.args.majorants.now e f (as_state c.in_ok-ray.ray) (sym c.in_ok-ray.ensures) in
     let followed = followed_same (ap (λ (n : ℕ). pieces n (as_state c.in_ok-ray.ray) c.args.majorants.now) c.most_pieces.ensures)
     (zeros_length _ e c.zero.ensures) (zeros_length _ f c.zero-2.ensures) c.in-Err.ensures in
-    let ends = zeros_again _ _ _ _ c.zero-in-Err.ensures c.pieces_into.auto.ends c.zero.ensures in
-    let figures = zeros_again _ _ _ _ c.zero-in-Err-2.ensures c.pieces_into.auto.figures c.zero-2.ensures in
-    written_same whole (full_written e f ends figures _ followed (number_some _))
+    written_same whole
+    (full_written e f (zeros_again _ _ _ _ (search rules) c.pieces_into.auto.ends c.zero.ensures)
+    (zeros_again _ _ _ _ (search rules) c.pieces_into.auto.figures c.zero-2.ensures) _ followed (number_some _))

@@ -3,6 +3,7 @@ use Rattle.std.proofs.Common.{ap, ◌∙◌, arith}
 use Rattle.refusals.proofs.Exits.{number_some, exit_is}
 use Rattle.medium.specs.Medium.{x_axis, y_axis, z_axis}
 use Rattle.rays.specs.Ray.{goes_on}
+use Rattle.rays.specs.Held.{Held}
 use Rattle.rays.specs.Answers.{as_track, as_state, step_said}
 use Rattle.rays.proofs.Nexts.{sound_by, table_stops, table_small, ended, unsound, held, inside, went}
 use Rattle.rays.proofs.state.Ray.next_piece.Goals as goal
@@ -73,8 +74,9 @@ returns-in-X c =
 
 pub advanced-requires-in-Y : goal.advanced-requires-in-Y
 advanced-requires-in-Y c =
-    held (as_state c.args.self) c.args.majorants.now c.in_ok-check_table.ensures
-    (sound_by (as_state c.args.self) c.is_sound.ensures c.is_sound-2.ensures c.is_sound-3.ensures c.if-not-sound.false) y_axis
+    let h : Held (as_track c.args.self.y) = held (as_state c.args.self) c.args.majorants.now c.in_ok-check_table.ensures
+    (sound_by (as_state c.args.self) c.is_sound.ensures c.is_sound-2.ensures c.is_sound-3.ensures c.if-not-sound.false) y_axis in
+    record { fine = h.fine; few = h.few }
 
 pub stepped-stepped-requires-in-Y : goal.stepped-stepped-requires-in-Y
 stepped-stepped-requires-in-Y c =
